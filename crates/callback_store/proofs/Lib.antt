@@ -1,0 +1,4 @@
+pub mod Mapped
+pub mod Repeats
+pub mod Owners
+pub mod Choosing

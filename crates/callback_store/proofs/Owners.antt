@@ -1,0 +1,75 @@
+-- Which plugin has a callback or a name, by the plugins themselves.
+use Rattle.std.proofs.Common.{◌≡◌, ℕ, Bool, true, false, ◌||◌, ◌==◌, List, [], ◌∷◌, map, refl, ap, sym, ◌∙◌, Option, Some, None, bytes_eq}
+use Rattle.std.proofs.lemmas.Bool.{eqb-true}
+use Rattle.std.specs.Prelude.{find, is_some, option_map, if◌then◌else◌, IfSome}
+use Rattle.std.specs.Option.{option_copied}
+use Rattle.std.specs.Borrow.{Bor}
+use Rattle.std.specs.List.{list_any}
+use Rattle.hook_changes.specs.declared.reply.Change.{Change}
+use Rattle.callback_store.specs.declared.plugins.Plugin.{Plugin}
+use Rattle.callback_store.specs.Shape.{shape_of, has_callback, is_held, owner, load_of}
+use Rattle.callback_store.proofs.Mapped.{list_any-map, find-map, is_some-find}
+
+module _ {S : Type 0} (number : S → ℕ) where
+  -- whether one of the plugin's own callbacks has the number
+  abbrev pub has : ℕ → Plugin S → Bool
+  has id plugin = list_any (λ c. number c == id) plugin.callbacks
+
+  has-shape_of : (id : ℕ) (plugin : Plugin S) → has_callback id (shape_of number plugin) ≡ has id plugin
+  has-shape_of id plugin = list_any-map (λ c. c == id) number plugin.callbacks
+
+  find_same : {X : Type 0} (p q : X → Bool) → ((x : X) → p x ≡ q x) → (xs : List X) → find p xs ≡ find q xs
+  find_same p q e [] = refl
+  find_same p q e (x ∷ xs) = rw (e x, find_same p q e xs) refl
+
+  found : (id : ℕ) (list : List (Plugin S)) → find (has_callback id) (map (shape_of number) list) ≡ option_map (shape_of number) (find (has id) list)
+  found id list =
+      find-map (has_callback id) (shape_of number) list
+      ∙ ap (option_map (shape_of number)) (find_same (λ p. has_callback id (shape_of number p)) (has id) (has-shape_of id) list)
+
+  pub held_by : (id : ℕ) (list : List (Plugin S)) (o : Option (Plugin S)) → o ≡ find (has id) list → is_held (map (shape_of number) list) id ≡ is_some o
+  held_by id list o e =
+      sym (is_some-find (has_callback id) (map (shape_of number) list)) ∙ ap is_some (found id list) ∙ is_some-mapped (find (has id) list) ∙ ap is_some (sym e)
+    where
+      is_some-mapped : (p : Option (Plugin S)) → is_some (option_map (shape_of number) p) ≡ is_some p
+      is_some-mapped None = refl
+      is_some-mapped (Some p) = refl
+
+  pub owner_is : (id : ℕ) (list : List (Plugin S)) (o : Option (Plugin S)) → o ≡ find (has id) list → owner (map (shape_of number) list) id ≡ option_map (λ p. p.name) o
+  owner_is id list o e = ap (option_map (λ s. s.name)) (found id list ∙ ap (option_map (shape_of number)) (sym e)) ∙ name-mapped o
+    where
+      name-mapped : (p : Option (Plugin S)) → option_map (λ s. s.name) (option_map (shape_of number) p) ≡ option_map (λ p. p.name) p
+      name-mapped None = refl
+      name-mapped (Some p) = refl
+
+  pub load_is : (name : List ℕ) (list : List (Plugin S)) (o : Option (Plugin S)) → o ≡ find (λ p. bytes_eq p.name name) list → load_of (map (shape_of number) list) name ≡ option_map (λ p. p.load) o
+  load_is name list o e =
+      ap (option_map (λ s. s.load)) (find-map (λ s. bytes_eq s.name name) (shape_of number) list ∙ ap (option_map (shape_of number)) (sym e)) ∙ load-mapped o
+    where
+      load-mapped : (p : Option (Plugin S)) → option_map (λ s. s.load) (option_map (shape_of number) p) ≡ option_map (λ p. p.load) p
+      load-mapped None = refl
+      load-mapped (Some p) = refl
+
+module _ {X : Type 0} (p : X → Bool) where
+  -- what is found passes
+  passes : (x : X) (xs : List X) → Some x ≡ find p xs → p x ≡ true
+  passes x [] e = cc
+  passes x (y ∷ ys) e =
+      elim (p y) as (λ b. p y ≡ b → Some x ≡ (if b then Some y else find p ys) → p x ≡ true) [
+        | true ↦ λ t q. let same : x ≡ y = cc in ap p same ∙ t
+        | false ↦ λ t q. passes x ys q
+      ] refl e
+
+module _ {S : Type 0} (number : S → ℕ) where
+  pub found_passes : (id : ℕ) (callbacks : List S) (r : Option (Bor S)) → option_copied r ≡ find (λ c. number c == id) callbacks → IfSome r (λ c. number c.now ≡ id)
+  found_passes id callbacks None e = tt
+  found_passes id callbacks (Some c) e = eqb-true (number c.now) id (passes (λ c. number c == id) c.now callbacks e)
+
+  -- a plugin that has the callback has one of that number
+  pub finds_one : (id : ℕ) (list : List (Plugin S)) (plugin : Plugin S) (r : Option (Bor S)) → Some plugin ≡ find (has number id) list → option_copied r ≡ find (λ c. number c == id) plugin.callbacks → is_some r ≡ true
+  finds_one id list plugin r e h =
+      copied r ∙ ap is_some h ∙ is_some-find (λ c. number c == id) plugin.callbacks ∙ passes (has number id) plugin list e
+    where
+      copied : (o : Option (Bor S)) → is_some o ≡ is_some (option_copied o)
+      copied None = refl
+      copied (Some c) = refl

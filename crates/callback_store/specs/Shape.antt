@@ -1,0 +1,33 @@
+-- What is seen of plugins beside what their callbacks reply.
+use Rattle.std.specs.Prelude.{ℕ, Bool, ◌==◌, List, map, Option, find, option_map, bytes_eq}
+use Rattle.std.specs.List.{list_any}
+use Rattle.hook_changes.specs.declared.reply.Change.{Change}
+use Rattle.callback_store.specs.declared.plugins.Plugin.{Plugin}
+use Rattle.callback_store.specs.declared.plugins.Plugins.{Plugins}
+
+-- a plugin, by its name, its load list and the numbers of its callbacks
+pub record Shape : Type 0 where
+  pub name : List ℕ
+  pub load : List Change
+  pub callbacks : List ℕ
+
+abbrev pub shape_of : {S : Type 0} → (S → ℕ) → Plugin S → Shape
+shape_of number plugin = record { name = plugin.name; load = plugin.load; callbacks = map number plugin.callbacks }
+
+abbrev pub shapes_of : {S : Type 0} → (S → ℕ) → Plugins S → List Shape
+shapes_of number plugins = map (shape_of number) plugins.list
+
+abbrev pub has_callback : ℕ → Shape → Bool
+has_callback callback shape = list_any (λ c. c == callback) shape.callbacks
+
+-- whether some plugin has the callback
+abbrev pub is_held : List Shape → ℕ → Bool
+is_held shapes callback = list_any (has_callback callback) shapes
+
+-- the name of the plugin that has the callback
+abbrev pub owner : List Shape → ℕ → Option (List ℕ)
+owner shapes callback = option_map (λ s. s.name) (find (has_callback callback) shapes)
+
+-- the load list of the plugin of that name
+abbrev pub load_of : List Shape → List ℕ → Option (List Change)
+load_of shapes name = option_map (λ s. s.load) (find (λ s. bytes_eq s.name name) shapes)

@@ -1,0 +1,10 @@
+//! The callbacks that a program's plugins bring, and what each is stated to reply.
+#![tactic(auto)]
+
+mod fault;
+mod plugins;
+mod stated;
+
+pub use fault::PluginFault;
+pub use plugins::{Plugin, Plugins};
+pub use stated::Stated;

@@ -1,0 +1,213 @@
+// Plugins, with their load lists and callbacks.
+ghost use Rattle.std.specs.Prelude.{◌≡◌, ◌≢◌, ◌++◌, map, IfOk, IfErr, OnOk, IsTrue, IfSome, None, Some, option_map, is_some, find, bytes_eq, ◌==◌, ◌||◌, not, nat_lt, length};
+ghost use Rattle.std.specs.List.{list_any};
+ghost use Rattle.std.specs.Option.{option_copied};
+ghost use Rattle.hook_changes.specs.Names.{is_tag_name};
+ghost use Rattle.callback_store.specs.Shape.{shape_of, shapes_of, is_held, owner, load_of};
+ghost use Rattle.callback_store.specs.Faults.{has_repeat, is_large, has_same_callback, numbers, fault_of};
+
+use crate::fault::PluginFault;
+use crate::stated::Stated;
+use hook_changes::{Call, CallbackId, Change, Listed, Reply, Text, is_tag_name};
+use indexmap::IndexSet;
+use std::alloc::{AllocError, Global};
+
+const MOST_PLUGINS: usize = 64;
+
+const MOST_CALLBACKS: usize = 256;
+
+const MOST_CHANGES: usize = 256;
+
+/// A plugin: its name, what it does when a request loads it, and its callbacks.
+#[derive(Drop)]
+pub struct Plugin<S> {
+    /// 1 to 64 ASCII letters, digits, `_` and `-`.
+    pub name: Text,
+    /// Carried out, in order, at the start of each request in which the plugin is active.
+    pub load: Listed<Change>,
+    pub callbacks: Listed<S>,
+}
+
+impl<S: Stated> Plugin<S> {
+    fn is_large(&self) -> bool
+        ensures { result ≡ is_large (shape_of S.number self.now) }
+    {
+        let many_callbacks = self.callbacks.as_slice().len() > MOST_CALLBACKS;
+        many_callbacks || self.load.as_slice().len() > MOST_CHANGES
+    }
+
+    fn has_callback(&self, id: CallbackId) -> bool
+        ensures { result ≡ list_any (λ c. S.number c == id) self.now.callbacks }
+    {
+        let callbacks = self.callbacks.as_slice();
+        callbacks.iter().any(|callback| callback.id() == id)
+    }
+
+    fn callback(&self, id: CallbackId) -> Option<&S>
+        ensures { option_copied result ≡ find (λ c. S.number c == id) self.entry.now.callbacks }
+    {
+        let callbacks = self.callbacks.as_slice();
+        callbacks.iter().find(|callback| callback.id() == id)
+    }
+}
+
+/// The plugins that a program brings, each with a name and callbacks that no other has.
+#[derive(Drop)]
+pub struct Plugins<S> {
+    list: Listed<Plugin<S>>,
+}
+
+impl<S: Stated> Plugins<S> {
+    /// Takes a list of plugins, or refuses it by its first fault. What is refused is dropped.
+    pub fn new(alloc: Global, list: Listed<Plugin<S>>) -> Result<Self, PluginFault>
+        ensures ok { IfOk result (λ plugins. (shapes_of S.number plugins ≡ map (shape_of S.number) list) × (fault_of (map (shape_of S.number) list) ≡ None)) }
+        ensures fault { IfErr result (λ fault. fault ≢ PluginFault.OutOfMemory → fault_of (map (shape_of S.number) list) ≡ Some fault) }
+    {
+        if are_too_many(list.as_slice()) {
+            return Err(PluginFault::TooMany);
+        }
+        if has_bad_name(list.as_slice()) {
+            return Err(PluginFault::BadName);
+        }
+        if has_same_name(list.as_slice()) {
+            return Err(PluginFault::SameName);
+        }
+        match has_same_callback(alloc, list.as_slice()) {
+            Ok(false) => Ok(Plugins { list }),
+            Ok(true) => Err(PluginFault::SameCallback),
+            Err(AllocError) => Err(PluginFault::OutOfMemory),
+        }
+    }
+
+    fn with_callback(&self, id: CallbackId) -> Option<&Plugin<S>>
+        ensures { option_copied result ≡ find (λ p. list_any (λ c. S.number c == id) p.callbacks) self.entry.now.list }
+    {
+        let plugins = self.list.as_slice();
+        plugins.iter().find(|plugin| plugin.has_callback(id))
+    }
+
+    fn named(&self, name: &str) -> Option<&Plugin<S>>
+        ensures { option_copied result ≡ find (λ p. bytes_eq p.name name.now) self.entry.now.list }
+    {
+        let plugins = self.list.as_slice();
+        plugins.iter().find(|plugin| plugin.name.as_str() == name)
+    }
+
+    /// The name of the plugin that has the callback, where one has it. Core's callback 0 has none.
+    pub fn owner(&self, id: CallbackId) -> Option<&str>
+        ensures { option_map (λ name. name.now) result ≡ owner (shapes_of S.number self.entry.now) id }
+    {
+        match self.with_callback(id) {
+            Some(plugin) => Some(plugin.name.as_str()),
+            None => None,
+        }
+    }
+
+    /// The load list of the plugin of that name, or `None` where no plugin has the name.
+    pub fn load_of(&self, name: &str) -> Option<&[Change]>
+        ensures { option_map (λ changes. changes.now) result ≡ load_of (shapes_of S.number self.entry.now) name.now }
+    {
+        match self.named(name) {
+            Some(plugin) => Some(plugin.load.as_slice()),
+            None => None,
+        }
+    }
+
+    /// The callback with a number, where a plugin has it.
+    pub fn callback(&self, id: CallbackId) -> Option<&S>
+        ensures number { IfSome result (λ callback. S.number callback.now ≡ id) }
+        ensures held { is_some result ≡ is_held (shapes_of S.number self.entry.now) id }
+    {
+        match self.with_callback(id) {
+            Some(plugin) => plugin.callback(id),
+            None => None,
+        }
+    }
+
+    /// The reply of the callback with a number to a call, where there is memory for it.
+    pub fn call(&self, alloc: Global, id: CallbackId, call: &Call) -> Result<Reply, AllocError>
+        requires { IsTrue (is_held (shapes_of S.number self.now) id) }
+        ensures { IfOk result (λ reply. reply ≡ S.says id call.now) }
+    {
+        match self.callback(id) {
+            Some(callback) => callback.answer(alloc, call),
+            None => unreachable!(),
+        }
+    }
+}
+
+fn are_too_many<S: Stated>(list: &[Plugin<S>]) -> bool
+    ensures { result ≡ nat_lt 64 (length list.now) || list_any (λ p. is_large (shape_of S.number p)) list.now }
+{
+    let many = list.len() > MOST_PLUGINS;
+    many || has_large(list)
+}
+
+fn has_large<S: Stated>(list: &[Plugin<S>]) -> bool
+    ensures { result ≡ list_any (λ p. is_large (shape_of S.number p)) list.now }
+{
+    list.iter().any(|plugin| plugin.is_large())
+}
+
+fn has_bad_name<S>(list: &[Plugin<S>]) -> bool
+    ensures { result ≡ list_any (λ p. not (is_tag_name p.name)) list.now }
+{
+    list.iter().any(|plugin| !is_tag_name(plugin.name.as_str()))
+}
+
+fn is_named_before<S>(list: &[Plugin<S>], name: &str) -> bool
+    ensures { result ≡ list_any (λ p. bytes_eq name.now p.name) list.now }
+{
+    list.iter().any(|plugin| name == plugin.name.as_str())
+}
+
+fn has_same_name<S>(list: &[Plugin<S>]) -> bool
+    ensures { result ≡ has_repeat (λ p q. bytes_eq p.name q.name) list.now }
+{
+    for (at, plugin) in list.iter().enumerate() {
+        if is_named_before(&list[..at], plugin.name.as_str()) {
+            return true;
+        }
+    }
+    false
+}
+
+fn push_numbers<S: Stated>(numbers: &mut Vec<u32>, callbacks: &[S]) -> Result<(), AllocError>
+    ensures { OnOk result (numbers.new.items ≡ numbers.old.items ++ map S.number callbacks.now) }
+{
+    for callback in callbacks {
+        numbers.push(callback.id().number())?;
+    }
+    Ok(())
+}
+
+/// The numbers of all callbacks, behind core's.
+fn all_numbers<S: Stated>(alloc: Global, list: &[Plugin<S>]) -> Result<Vec<u32>, AllocError>
+    ensures { IfOk result (λ all. all.items ≡ numbers (map (shape_of S.number) list.now)) }
+{
+    let mut all = Vec::new(alloc);
+    all.push(0)?;
+    for plugin in list {
+        push_numbers(&mut all, plugin.callbacks.as_slice())?;
+    }
+    Ok(all)
+}
+
+fn has_repeat(alloc: Global, numbers: &[u32]) -> Result<bool, AllocError>
+    ensures { IfOk result (λ repeat. repeat ≡ has_repeat (λ m n. m == n) numbers.now) }
+{
+    let mut seen = IndexSet::new(alloc);
+    for number in numbers {
+        if !seen.insert(*number)? {
+            return Ok(true);
+        }
+    }
+    Ok(false)
+}
+
+fn has_same_callback<S: Stated>(alloc: Global, list: &[Plugin<S>]) -> Result<bool, AllocError>
+    ensures { IfOk result (λ same. same ≡ has_same_callback (map (shape_of S.number) list.now)) }
+{
+    let all = all_numbers(alloc, list)?;
+    has_repeat(alloc, &all)
+}

@@ -1,0 +1,36 @@
+// The numbers of callbacks.
+ghost use Rattle.std.specs.Prelude.{◌≡◌, ℕ};
+
+use std::marker::Model;
+
+/// The number by which a bundle of plugins names one of its callbacks, where WordPress has a PHP callable.
+///
+/// Number 0 is core's own callback, `do_shortcode`; no plugin has it.
+#[derive(Clone, Copy, Debug, PartialEq, Eq)]
+pub struct CallbackId {
+    number: u32,
+}
+
+impl Model for CallbackId {
+    ghost Value = { ℕ };
+
+    ghost view = { λ c. c.number };
+
+    ghost inverse = { λ n. record { number = n } };
+}
+
+impl CallbackId {
+    /// The callback with this number.
+    pub fn new(number: u32) -> Self
+        ensures { result ≡ number }
+    {
+        CallbackId { number }
+    }
+
+    /// The callback's number.
+    pub fn number(self) -> u32
+        ensures { result ≡ self }
+    {
+        self.number
+    }
+}

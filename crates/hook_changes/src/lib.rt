@@ -1,0 +1,13 @@
+//! What plugins and the engine say to each other, as plain data: names of hooks and shortcodes, the changes
+//! that a callback makes, what it asks of the engine, what it is called with, and what it replies.
+#![tactic(auto)]
+
+mod callback;
+mod kept;
+mod names;
+mod reply;
+
+pub use callback::CallbackId;
+pub use kept::{Listed, Text};
+pub use names::{HookName, NameFault, TagName, is_tag_name};
+pub use reply::{Answer, Ask, Call, Change, Reply, Then};

@@ -1,0 +1,6 @@
+pub mod NameByte
+pub mod Items
+pub mod Found
+pub mod Values
+pub mod Attributes
+pub mod Rows
