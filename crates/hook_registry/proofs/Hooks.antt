@@ -90,6 +90,12 @@ module _ {Y Z : Type 0} where
       set_value-shown hook es i w (is_first_at hook es i (sym p))
       ∙ ap (set_value (shown es) hook) (e ∙ ap (λ rs. with_added rs new) (registrations-found hook es v found))
 
+  pub found_at : (hook : List ℕ) (es : List (String Y × Vec Registration Z)) (i : ℕ) (v : Vec Registration Z) → Some i ≡ position (named hook) (keys_of es) → Some v ≡ slice_get (values_of es) i → Some v ≡ lookup (named hook) es
+  found_at hook es i v p g = g ∙ sym (Found-position (named hook) es i (sym p)).value
+
+  pub not_found : (hook : List ℕ) (es : List (String Y × Vec Registration Z)) → None ≡ position (named hook) (keys_of es) → None ≡ lookup (named hook) es
+  not_found hook es p = sym (Missing-position (named hook) es (sym p)).value
+
   -- a list written back as it was
   pub shown-unwritten : (es : List (String Y × Vec Registration Z)) (i : ℕ) (w v : Vec Registration Z) → Some v ≡ slice_get (values_of es) i → w.items ≡ v.items → shown (set_value_at es i w) ≡ shown es
   shown-unwritten [] i w v g e = refl

@@ -1,2 +1,4 @@
 pub mod Lists
 pub mod Hooks
+pub mod NamedValues
+pub mod TagNames

@@ -93,3 +93,7 @@ pub record Registered : Type 0 where
   pub table : Table
   pub tags : List (List ℕ × ℕ)
   pub counts : List (List ℕ × ℕ)
+
+-- how often an action was fired
+abbrev pub times_fired : List (List ℕ × ℕ) → List ℕ → ℕ
+times_fired counts hook = unwrap_or (value_of counts hook) 0

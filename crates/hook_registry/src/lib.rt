@@ -2,9 +2,11 @@
 //! tag, and how often each action was fired.
 #![tactic(auto)]
 
+mod hook_table;
 mod list;
+mod named;
 mod registration;
 mod registry;
 
-pub use registration::{Entry, Priority, Registration};
 pub use registry::Registry;
+pub use registration::{Entry, Priority, Registration};

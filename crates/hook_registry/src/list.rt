@@ -44,13 +44,19 @@ pub fn remove_from(list: &mut Vec<Registration>, priority: Priority, callback: C
 }
 
 /// Takes away those of a priority, or all.
-pub fn remove_all_from(list: &mut Vec<Registration>, priority: Option<Priority>)
+pub fn remove_all_from(list: &mut Vec<Registration>, priority: Option<i32>)
     ensures { list.new.items ≡ filter (is_other priority) list.old.items }
 {
     match priority {
         None => list.clear(),
-        Some(priority) => list.retain(|r| !r.is_at(priority)),
+        Some(priority) => remove_at(list, Priority::new(priority)),
     }
+}
+
+fn remove_at(list: &mut Vec<Registration>, priority: Priority)
+    ensures { list.new.items ≡ filter (λ r. not (is_at priority r)) list.old.items }
+{
+    list.retain(|r| !r.is_at(priority));
 }
 
 /// The callbacks at a priority.

@@ -1,55 +1,56 @@
 // The registry.
-ghost use Rattle.std.specs.Prelude.{◌≡◌, ◌≤◌, [], List, IfOk, IfErr, OnOk, OnErr, unwrap_or, map, min, ◌+◌, Option, None};
+ghost use Rattle.std.specs.Prelude.{◌≡◌, ◌≤◌, ◌+◌, [], IfOk, OnOk, OnErr, map, is_some, min, unwrap_or};
 ghost use Rattle.std.specs.List.{list_any};
 ghost use Rattle.hook_registry.specs.Named.{value_of, set_value, remove_value};
-ghost use Rattle.hook_registry.specs.Table.{Table, registrations, add, remove, remove_all, group, next_priority, has, is_of, priority_of};
+ghost use Rattle.hook_registry.specs.Table.{Table, registrations, add, remove, remove_all, group, next_priority, has, is_of, priority_of, times_fired};
 
-use crate::list;
-use crate::registration::{Entry, Priority, Registration};
-use hook_changes::{CallbackId, HookName};
-use indexmap::IndexMap;
+use crate::hook_table::HookTable;
+use crate::named::Named;
+use crate::registration::Entry;
+use hook_changes::{CallbackId, HookName, NameFault, TagName};
 use std::alloc::{AllocError, Global};
 use std::marker::Model;
 
 /// The registrations of every hook, the handlers of tags, and the firing counts of actions (Plugin Handbook, Hooks;
-/// Shortcode API).
+/// Shortcode API). Actions and filters share one table, as in WordPress.
 #[derive(Drop)]
 pub struct Registry {
     alloc: Global,
-    hooks: IndexMap<String, Vec<Registration>>,
+    hooks: HookTable,
+    tags: Named<CallbackId>,
+    counts: Named<u32>,
 }
 
 impl Model for Registry {
-    ghost use Rattle.std.specs.Prelude.{map, string_bytes};
-    ghost use Rattle.hook_registry.specs.Table.{Table};
+    ghost use Rattle.std.specs.Prelude.{IsTrue};
+    ghost use Rattle.std.specs.List.{list_all};
+    ghost use Rattle.hook_changes.specs.Names.{is_tag_name};
+    ghost use Rattle.hook_registry.specs.Table.{Registered};
 
-    ghost Value = { Table };
+    ghost Value = { Registered };
 
-    ghost view = { λ r. map (λ e. (string_bytes e.0, e.1.items)) r.hooks.entries };
+    ghost view = { λ r. record { table = r.hooks; tags = r.tags; counts = r.counts } };
+
+    ghost invariant = { λ r. IsTrue (list_all (λ p. is_tag_name p.0) r.tags) };
 }
 
 impl Registry {
-    /// Nothing registered. It takes no memory.
+    /// Nothing registered, no tags and nothing fired. It takes no memory.
     pub fn new(alloc: Global) -> Self
-        ensures { result ≡ [] }
+        ensures { result ≡ record { table = []; tags = []; counts = [] } }
     {
         Registry {
             alloc,
-            hooks: IndexMap::new(alloc),
+            hooks: HookTable::new(alloc),
+            tags: Named::new(alloc),
+            counts: Named::new(alloc),
         }
     }
 
-    fn list(&self, hook: &HookName) -> &[Registration]
-        ensures { result.now ≡ registrations self.entry.now hook.entry.now }
-    {
-        match self.hooks.get(hook.as_str()) {
-            Some(list) => list.as_slice(),
-            None => &[],
-        }
-    }
-
-    /// Registers a callback under a hook and a priority. One that is there keeps its place and takes the count; where
-    /// there is no memory, nothing is registered.
+    /// Registers a callback under a hook and a priority, to be given so many arguments (Code Reference, add_filter).
+    ///
+    /// Callbacks of one priority run in the order of adding. One that is there keeps its place and takes the count.
+    /// Where there is no memory, nothing is registered.
     pub fn add(
         &mut self,
         hook: &HookName,
@@ -58,58 +59,118 @@ impl Registry {
         accepted: u8,
     ) -> Result<(), AllocError>
         requires { accepted ≤ 16 }
-        ensures added { OnOk result (self.new ≡ add self.old hook.now (record { priority = priority; callback = callback; accepted = accepted })) }
+        ensures added { OnOk result (self.new ≡ record self.old { table = add self.old.table hook.now (record { priority = priority; callback = callback; accepted = accepted }) }) }
         ensures err { OnErr result (self.new ≡ self.old) }
     {
-        match self.hooks.get_index_of(hook.as_str()) {
-            Some(at) => match self.hooks.get_index_mut(at) {
-                Some(list) => list::add_to(list, Priority::new(priority), callback, accepted),
-                None => unreachable!(),
-            },
-            None => self.add_first(hook, Priority::new(priority), callback, accepted),
-        }
+        self.hooks.add(hook, priority, callback, accepted)
     }
 
-    /// Registers a callback under a hook that has no list yet.
-    fn add_first(
-        &mut self,
-        hook: &HookName,
-        priority: Priority,
-        callback: CallbackId,
-        accepted: u8,
-    ) -> Result<(), AllocError>
-        requires { value_of self.old hook.now ≡ None }
-        ensures added { OnOk result (self.new ≡ add self.old hook.now (record { priority = priority; callback = callback; accepted = accepted })) }
-        ensures err { OnErr result (self.new ≡ self.old) }
+    /// Takes one registration away, and says whether it was there (Code Reference, remove_filter). It takes no memory.
+    pub fn remove(&mut self, hook: &HookName, priority: i32, callback: CallbackId) -> bool
+        ensures removed { self.new ≡ record self.old { table = remove self.old.table hook.now priority callback } }
+        ensures there { result ≡ list_any (is_of priority callback) (registrations self.old.table hook.now) }
     {
-        let name = String::from_str(self.alloc, hook.as_str())?;
-        let mut list = Vec::new(self.alloc);
-        list::add_to(&mut list, priority, callback, accepted)?;
-        self.hooks.insert(name, list)?;
-        Ok(())
+        self.hooks.remove(hook, priority, callback)
     }
 
-    /// The callbacks of a hook at a priority, in the order of adding.
+    /// Takes all registrations of a hook away, or those of one priority (Code Reference, remove_all_filters). It takes
+    /// no memory.
+    pub fn remove_all(&mut self, hook: &HookName, priority: Option<i32>)
+        ensures { self.new ≡ record self.old { table = remove_all self.old.table hook.now priority } }
+    {
+        self.hooks.remove_all(hook, priority);
+    }
+
+    /// Whether a hook has any registration (Code Reference, has_filter without a callback). A text that is no hook's
+    /// name has none.
+    pub fn has(&self, hook: &str) -> bool
+        ensures { result ≡ has self.now.table hook.now }
+    {
+        self.hooks.has(hook)
+    }
+
+    /// The least priority of a callback under a hook (Code Reference, has_filter with a callback).
+    pub fn priority_of(&self, hook: &str, callback: CallbackId) -> Option<i32>
+        ensures { result ≡ priority_of self.now.table hook.now callback }
+    {
+        self.hooks.priority_of(hook, callback)
+    }
+
+    /// The callbacks of a hook at a priority, in the order of adding. Only the hook's own registrations are read.
     pub fn group(&self, hook: &HookName, priority: i32) -> Result<Vec<Entry>, AllocError>
-        ensures { IfOk result (λ entries. entries.items ≡ group self.now hook.now priority) }
+        ensures { IfOk result (λ entries. entries.items ≡ group self.now.table hook.now priority) }
     {
-        list::group_of(self.alloc, self.list(hook), Priority::new(priority))
+        self.hooks.group(hook, priority)
     }
 
     /// The least priority of a hook, above another where that is given.
     pub fn next_priority(&self, hook: &HookName, after: Option<i32>) -> Option<i32>
-        ensures { result ≡ next_priority self.now hook.now after }
+        ensures { result ≡ next_priority self.now.table hook.now after }
     {
-        number_of(list::least_above(self.list(hook), after))
+        self.hooks.next_priority(hook, after)
     }
-}
 
-/// The number of a priority, where there is one.
-fn number_of(priority: Option<Priority>) -> Option<i32>
-    ensures { result ≡ priority }
-{
-    match priority {
-        None => None,
-        Some(priority) => Some(priority.number()),
+    /// Makes a callback the handler of a tag (Code Reference, add_shortcode). A tag that is there keeps its place and
+    /// takes the new handler; where there is no memory, nothing changes.
+    pub fn add_tag(&mut self, tag: &TagName, callback: CallbackId) -> Result<(), AllocError>
+        ensures added { OnOk result (self.new ≡ record self.old { tags = set_value self.old.tags tag.now callback }) }
+        ensures err { OnErr result (self.new ≡ self.old) }
+    {
+        self.tags.set(tag.as_str(), callback)
+    }
+
+    /// Takes a tag away, and says whether it was there (Code Reference, remove_shortcode). It takes no memory.
+    pub fn remove_tag(&mut self, tag: &str) -> bool
+        ensures removed { self.new ≡ record self.old { tags = remove_value self.old.tags tag.now } }
+        ensures there { result ≡ is_some (value_of self.old.tags tag.now) }
+    {
+        self.tags.remove(tag)
+    }
+
+    /// Takes all tags away (Code Reference, remove_all_shortcodes). It takes no memory.
+    pub fn remove_all_tags(&mut self)
+        ensures { self.new ≡ record self.old { tags = [] } }
+    {
+        self.tags.clear();
+    }
+
+    /// The handler of a tag. A text that is no tag has none.
+    pub fn tag(&self, tag: &str) -> Option<CallbackId>
+        ensures { result ≡ value_of self.now.tags tag.now }
+    {
+        self.tags.get(tag)
+    }
+
+    /// The tags, in the order in which they were first added.
+    pub fn tag_names(&self) -> Result<Vec<TagName>, AllocError>
+        ensures { IfOk result (λ names. names.items ≡ map (λ p. p.0) self.now.tags) }
+    {
+        let mut names = Vec::new(self.alloc);
+        for at in 0..self.tags.len() {
+            match TagName::read(self.alloc, self.tags.name_at(at)) {
+                Ok(name) => names.push(name)?,
+                Err(NameFault::OutOfMemory) => return Err(AllocError),
+                Err(NameFault::BadName) => unreachable!(),
+            }
+        }
+        Ok(names)
+    }
+
+    /// Counts one firing of an action, and gives the new count, which stays at 4,294,967,295 once there (Code
+    /// Reference, did_action). Where there is no memory, nothing is counted.
+    pub fn fire(&mut self, hook: &HookName) -> Result<u32, AllocError>
+        ensures fired { IfOk result (λ count. (count ≡ min (times_fired self.old.counts hook.now + 1) 4294967295) × (self.new ≡ record self.old { counts = set_value self.old.counts hook.now count })) }
+        ensures err { OnErr result (self.new ≡ self.old) }
+    {
+        let count = self.did(hook.as_str()).saturating_add(1);
+        self.counts.set(hook.as_str(), count)?;
+        Ok(count)
+    }
+
+    /// How often an action was fired (Code Reference, did_action). A text that is no hook's name was never fired.
+    pub fn did(&self, hook: &str) -> u32
+        ensures { result ≡ times_fired self.now.counts hook.now }
+    {
+        self.counts.get(hook).unwrap_or(0)
     }
 }

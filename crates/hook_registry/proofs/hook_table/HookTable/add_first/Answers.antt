@@ -1,7 +1,7 @@
 use Rattle.std.proofs.Common.{◌∙◌, ap, sym}
 use Rattle.hook_registry.specs.declared.registration.Registration.{Registration}
 use Rattle.hook_registry.proofs.Hooks.{shown, add-first}
-use Rattle.hook_registry.proofs.registry.Registry.add_first.Goals as goal
+use Rattle.hook_registry.proofs.hook_table.HookTable.add_first.Goals as goal
 
 pub returns-clause-added : goal.returns-clause-added
 returns-clause-added c =

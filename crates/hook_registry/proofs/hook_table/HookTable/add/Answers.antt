@@ -2,7 +2,7 @@ use Rattle.std.proofs.Common.{◌∙◌, ap, sym}
 use Rattle.std.proofs.lemmas.Int.{to_z-of_z}
 use Rattle.hook_registry.specs.declared.registration.Registration.{Registration}
 use Rattle.hook_registry.proofs.Hooks.{shown, add-written, shown-unwritten, missing, on_ok, on_err}
-use Rattle.hook_registry.proofs.registry.Registry.add.Goals as goal
+use Rattle.hook_registry.proofs.hook_table.HookTable.add.Goals as goal
 
 pub add_first-requires : goal.add_first-requires
 add_first-requires c = rw (← c.self.view_is, ← c.as_str.ensures.text) (missing c.as_str.result.now c.self.inside.hooks.entries c.in-None.ensures.index)

@@ -1,0 +1,155 @@
+// The registrations of every hook.
+ghost use Rattle.std.specs.Prelude.{◌≡◌, ◌≤◌, [], List, IfOk, IfErr, OnOk, OnErr, unwrap_or, map, min, ◌+◌, Option, None};
+ghost use Rattle.std.specs.List.{list_any};
+ghost use Rattle.hook_registry.specs.Named.{value_of, set_value, remove_value};
+ghost use Rattle.hook_registry.specs.Table.{Table, registrations, add, remove, remove_all, group, next_priority, has, is_of, priority_of};
+
+use crate::list;
+use crate::registration::{Entry, Priority, Registration};
+use hook_changes::{CallbackId, HookName};
+use indexmap::IndexMap;
+use std::alloc::{AllocError, Global};
+use std::marker::Model;
+
+/// The registrations of every hook, each hook's in the order of adding.
+#[derive(Drop)]
+pub struct HookTable {
+    alloc: Global,
+    hooks: IndexMap<String, Vec<Registration>>,
+}
+
+impl Model for HookTable {
+    ghost use Rattle.std.specs.Prelude.{map, string_bytes};
+    ghost use Rattle.hook_registry.specs.Table.{Table};
+
+    ghost Value = { Table };
+
+    ghost view = { λ r. map (λ e. (string_bytes e.0, e.1.items)) r.hooks.entries };
+}
+
+impl HookTable {
+    /// Nothing registered. It takes no memory.
+    pub fn new(alloc: Global) -> Self
+        ensures { result ≡ [] }
+    {
+        HookTable {
+            alloc,
+            hooks: IndexMap::new(alloc),
+        }
+    }
+
+    fn list(&self, hook: &str) -> &[Registration]
+        ensures { result.now ≡ registrations self.entry.now hook.entry.now }
+    {
+        match self.hooks.get(hook) {
+            Some(list) => list.as_slice(),
+            None => &[],
+        }
+    }
+
+    /// Registers a callback under a hook and a priority. One that is there keeps its place and takes the count; where
+    /// there is no memory, nothing is registered.
+    pub fn add(
+        &mut self,
+        hook: &HookName,
+        priority: i32,
+        callback: CallbackId,
+        accepted: u8,
+    ) -> Result<(), AllocError>
+        requires { accepted ≤ 16 }
+        ensures added { OnOk result (self.new ≡ add self.old hook.now (record { priority = priority; callback = callback; accepted = accepted })) }
+        ensures err { OnErr result (self.new ≡ self.old) }
+    {
+        match self.hooks.get_index_of(hook.as_str()) {
+            Some(at) => match self.hooks.get_index_mut(at) {
+                Some(list) => list::add_to(list, Priority::new(priority), callback, accepted),
+                None => unreachable!(),
+            },
+            None => self.add_first(hook, Priority::new(priority), callback, accepted),
+        }
+    }
+
+    /// Registers a callback under a hook that has no list yet.
+    fn add_first(
+        &mut self,
+        hook: &HookName,
+        priority: Priority,
+        callback: CallbackId,
+        accepted: u8,
+    ) -> Result<(), AllocError>
+        requires { value_of self.old hook.now ≡ None }
+        ensures added { OnOk result (self.new ≡ add self.old hook.now (record { priority = priority; callback = callback; accepted = accepted })) }
+        ensures err { OnErr result (self.new ≡ self.old) }
+    {
+        let name = String::from_str(self.alloc, hook.as_str())?;
+        let mut list = Vec::new(self.alloc);
+        list::add_to(&mut list, priority, callback, accepted)?;
+        self.hooks.insert(name, list)?;
+        Ok(())
+    }
+
+    /// Takes one registration away, and says whether it was there. It takes no memory.
+    pub fn remove(&mut self, hook: &HookName, priority: i32, callback: CallbackId) -> bool
+        ensures removed { self.new ≡ remove self.old hook.now priority callback }
+        ensures there { result ≡ list_any (is_of priority callback) (registrations self.old hook.now) }
+    {
+        match self.hooks.get_index_of(hook.as_str()) {
+            Some(at) => match self.hooks.get_index_mut(at) {
+                Some(list) => list::remove_from(list, Priority::new(priority), callback),
+                None => unreachable!(),
+            },
+            None => false,
+        }
+    }
+
+    /// Takes all registrations of a hook away, or those of one priority. It takes no memory.
+    pub fn remove_all(&mut self, hook: &HookName, priority: Option<i32>)
+        ensures { self.new ≡ remove_all self.old hook.now priority }
+    {
+        match self.hooks.get_index_of(hook.as_str()) {
+            Some(at) => match self.hooks.get_index_mut(at) {
+                Some(list) => list::remove_all_from(list, priority),
+                None => unreachable!(),
+            },
+            None => {}
+        }
+    }
+
+    /// Whether the hook has any registration.
+    pub fn has(&self, hook: &str) -> bool
+        ensures { result ≡ has self.now hook.now }
+    {
+        !self.list(hook).is_empty()
+    }
+
+    /// The least priority of a callback under a hook.
+    pub fn priority_of(&self, hook: &str, callback: CallbackId) -> Option<i32>
+        ensures { result ≡ priority_of self.now hook.now callback }
+    {
+        number_of(list::least_of(self.list(hook), callback))
+    }
+
+    /// The callbacks of a hook at a priority, in the order of adding.
+    pub fn group(&self, hook: &HookName, priority: i32) -> Result<Vec<Entry>, AllocError>
+        ensures { IfOk result (λ entries. entries.items ≡ group self.now hook.now priority) }
+    {
+        list::group_of(self.alloc, self.list(hook.as_str()), Priority::new(priority))
+    }
+
+    /// The least priority of a hook, above another where that is given.
+    pub fn next_priority(&self, hook: &HookName, after: Option<i32>) -> Option<i32>
+        ensures { result ≡ next_priority self.now hook.now after }
+    {
+        number_of(list::least_above(self.list(hook.as_str()), after))
+    }
+}
+
+/// The number of a priority, where there is one.
+fn number_of(priority: Option<Priority>) -> Option<i32>
+    ensures { result ≡ priority }
+{
+    match priority {
+        None => None,
+        Some(priority) => Some(priority.number()),
+    }
+}

@@ -1,0 +1,84 @@
+// Values under names.
+ghost use Rattle.std.specs.Prelude.{◌≡◌, ◌<◌, [], length, map, slice_get, Some, is_some, OnOk, OnErr};
+ghost use Rattle.hook_registry.specs.Named.{value_of, set_value, remove_value};
+
+use indexmap::IndexMap;
+use std::alloc::{AllocError, Global};
+use std::marker::Model;
+
+/// Values under names, in the order in which the names were first set.
+#[derive(Drop)]
+pub struct Named<V> {
+    alloc: Global,
+    values: IndexMap<String, V>,
+}
+
+impl<V> Model for Named<V> {
+    ghost use Rattle.std.specs.Prelude.{List, ℕ, map, string_bytes};
+
+    ghost Value = { List (List ℕ × V) };
+
+    ghost view = { λ n. map (λ e. (string_bytes e.0, e.1)) n.values.entries };
+}
+
+impl<V: Copy + Drop> Named<V> {
+    /// No names. It takes no memory.
+    pub fn new(alloc: Global) -> Self
+        ensures { result ≡ [] }
+    {
+        Named {
+            alloc,
+            values: IndexMap::new(alloc),
+        }
+    }
+
+    /// The value under a name.
+    pub fn get(&self, name: &str) -> Option<V>
+        ensures { result ≡ value_of self.now name.now }
+    {
+        self.values.get(name).copied()
+    }
+
+    /// Sets the value of a name, which keeps its place where it is there. Where there is no memory, nothing is set.
+    pub fn set(&mut self, name: &str, value: V) -> Result<(), AllocError>
+        ensures ok { OnOk result (self.new ≡ set_value self.old name.now value) }
+        ensures err { OnErr result (self.new ≡ self.old) }
+    {
+        let name = String::from_str(self.alloc, name)?;
+        self.values.insert(name, value)?;
+        Ok(())
+    }
+
+    /// Takes a name away, and says whether it was there. It takes no memory.
+    pub fn remove(&mut self, name: &str) -> bool
+        ensures removed { self.new ≡ remove_value self.old name.now }
+        ensures there { result ≡ is_some (value_of self.old name.now) }
+    {
+        self.values.shift_remove(name).is_some()
+    }
+
+    /// How many names there are.
+    pub fn len(&self) -> usize
+        ensures { result ≡ length self.now }
+    {
+        self.values.len()
+    }
+
+    /// The name at a place, counted from 0.
+    pub fn name_at(&self, at: usize) -> &str
+        requires { at < length self.now }
+        ensures { slice_get (map (λ p. p.0) self.entry.now) at ≡ Some result.now }
+    {
+        match self.values.get_index(at) {
+            Some((name, _)) => name.as_str(),
+            None => unreachable!(),
+        }
+    }
+
+    /// Takes all names away. It takes no memory.
+    pub fn clear(&mut self)
+        ensures { self.new ≡ [] }
+    {
+        self.values.clear();
+    }
+}
