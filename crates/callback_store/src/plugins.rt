@@ -79,6 +79,13 @@ impl<S: Stated> Plugins<S> {
         }
     }
 
+    /// The plugins, in the order of their names.
+    pub fn as_slice(&self) -> &[Plugin<S>]
+        ensures { map (shape_of S.number) result.now ≡ shapes_of S.number self.entry.now }
+    {
+        self.list.as_slice()
+    }
+
     fn with_callback(&self, id: CallbackId) -> Option<&Plugin<S>>
         ensures { option_copied result ≡ find (λ p. list_any (λ c. S.number c == id) p.callbacks) self.entry.now.list }
     {

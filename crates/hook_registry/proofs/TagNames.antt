@@ -24,8 +24,7 @@ module _ {X : Type 0} where
   pub are_tags-set : (pairs : List (List ℕ × X)) (name : List ℕ) (value : X) → is_tag_name name ≡ true → are_tags pairs ≡ true → are_tags (set_value pairs name value) ≡ true
   are_tags-set [] name value n h = and_both (is_tag_name name) true n refl
   are_tags-set (p ∷ ps) name value n h =
-      elim (bytes_eq name p.0) as (λ b. are_tags (if b then (p.0, value) ∷ ps else p ∷ set_value ps name value) ≡ true)
-      [
+      elim (bytes_eq name p.0) as (λ b. are_tags (if b then (p.0, value) ∷ ps else p ∷ set_value ps name value) ≡ true) [
         | true ↦ h
         | false ↦ and_both (is_tag_name p.0) (are_tags (set_value ps name value)) (and_left (is_tag_name p.0) (are_tags ps) h) (are_tags-set ps name value n (and_right (is_tag_name p.0) (are_tags ps) h))
       ]
@@ -33,8 +32,7 @@ module _ {X : Type 0} where
   pub are_tags-remove : (pairs : List (List ℕ × X)) (name : List ℕ) → are_tags pairs ≡ true → are_tags (remove_value pairs name) ≡ true
   are_tags-remove [] name h = h
   are_tags-remove (p ∷ ps) name h =
-      elim (bytes_eq name p.0) as (λ b. are_tags (cond b ps (p ∷ remove_value ps name)) ≡ true)
-      [
+      elim (bytes_eq name p.0) as (λ b. are_tags (cond b ps (p ∷ remove_value ps name)) ≡ true) [
         | true ↦ and_right (is_tag_name p.0) (are_tags ps) h
         | false ↦ and_both (is_tag_name p.0) (are_tags (remove_value ps name)) (and_left (is_tag_name p.0) (are_tags ps) h) (are_tags-remove ps name (and_right (is_tag_name p.0) (are_tags ps) h))
       ]

@@ -133,7 +133,11 @@ impl HookTable {
     pub fn group(&self, hook: &HookName, priority: i32) -> Result<Vec<Entry>, AllocError>
         ensures { IfOk result (λ entries. entries.items ≡ group self.now hook.now priority) }
     {
-        list::group_of(self.alloc, self.list(hook.as_str()), Priority::new(priority))
+        list::group_of(
+            self.alloc,
+            self.list(hook.as_str()),
+            Priority::new(priority),
+        )
     }
 
     /// The least priority of a hook, above another where that is given.

@@ -8,5 +8,5 @@ mod named;
 mod registration;
 mod registry;
 
-pub use registry::Registry;
 pub use registration::{Entry, Priority, Registration};
+pub use registry::Registry;

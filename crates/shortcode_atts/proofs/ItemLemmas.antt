@@ -8,17 +8,10 @@ use Rattle.std.proofs.Math.Numerals.{one-add}
 use Rattle.std.proofs.lemmas.Option.{none-some, same_Some}
 use Rattle.shortcode_atts.specs.declared.items.Form.{Form}
 use Rattle.shortcode_atts.specs.declared.items.Form.TheVariants.{Quoted, Bare, Word}
+use Rattle.shortcode_atts.specs.Steps.{◌>>=◌, only_if}
+use Rattle.shortcode_atts.proofs.StepLemmas.{bind_some, only_if-some}
 use Rattle.shortcode_atts.specs.NameByte.{is_name_byte}
-use Rattle.shortcode_atts.specs.Items.{◌>>=◌, only_if, is_white, is_word_char, is_bare_char, after_run, skip_white, after_char, is_ended, run_at, quoted_at, spelled_at, value_at, Item, named_at, single_at, item_at, AreItems, items_within, items_of}
-
--- the answer of several steps, step by step
-bind_some : {A B : Type 0} (o : Option A) (f : A → Option B) (y : B) → (o >>= f) ≡ Some y → (x : A) × (o ≡ Some x) × (f x ≡ Some y)
-bind_some None f y e = absurd (none-some y e)
-bind_some (Some x) f y e = (x, refl, e)
-
-only_if-some : {X : Type 0} (b : Bool) (x y : X) → only_if b x ≡ Some y → (b ≡ true) × (x ≡ y)
-only_if-some true x y e = (refl, same_Some x y e)
-only_if-some false x y e = absurd (none-some y e)
+use Rattle.shortcode_atts.specs.Items.{is_white, is_word_char, is_bare_char, after_run, skip_white, after_char, is_ended, run_at, quoted_at, spelled_at, value_at, Item, named_at, single_at, item_at, IsItems, items_within, items_of}
 
 -- the rest is shorter than cs, or no longer
 abbrev IsShorter : List ℕ → List ℕ × List ℕ → Type 0
@@ -183,24 +176,24 @@ word_or_end (c ∷ cs) h e =
     (either_none (named_at Bare (c ∷ cs)) _ (either_none (named_at (Quoted 39) (c ∷ cs)) _ (either_none (named_at (Quoted 34) (c ∷ cs)) _ e))))))
 
 -- the items of the text are items of it, and no other list is
-are_items_next : (n : ℕ) (cs : List ℕ) (o : Option Item) → ((it : Item) → length it.rest ≤ n → AreItems it.rest (items_within n it.rest)) → length cs ≤ suc n
-    → item_at (skip_white cs) ≡ o → AreItems cs (option_map_or (λ it. it ∷ items_within n it.rest) o [])
-are_items_next n cs None h a e = word_or_end (skip_white cs) (after_run-stops is_white cs) e
-are_items_next n cs (Some it) h a e = (e, h it (omega (arith, item_at-shorter (skip_white cs) it e, length-after_run is_white cs)))
+is_items_next : (n : ℕ) (cs : List ℕ) (o : Option Item) → ((it : Item) → length it.rest ≤ n → IsItems it.rest (items_within n it.rest)) → length cs ≤ suc n
+    → item_at (skip_white cs) ≡ o → IsItems cs (option_map_or (λ it. it ∷ items_within n it.rest) o [])
+is_items_next n cs None h a e = word_or_end (skip_white cs) (after_run-stops is_white cs) e
+is_items_next n cs (Some it) h a e = (e, h it (omega (arith, item_at-shorter (skip_white cs) it e, length-after_run is_white cs)))
 
-are_items_within : (n : ℕ) (cs : List ℕ) → length cs ≤ n → AreItems cs (items_within n cs)
+is_items_within : (n : ℕ) (cs : List ℕ) → length cs ≤ n → IsItems cs (items_within n cs)
 unfolding items_within
-are_items_within zero [] a = refl
-are_items_within zero (c ∷ cs) a = absurd (omega arith)
-are_items_within (suc n) cs a = are_items_next n cs (item_at (skip_white cs)) (λ it le. are_items_within n it.rest le) a refl
+is_items_within zero [] a = refl
+is_items_within zero (c ∷ cs) a = absurd (omega arith)
+is_items_within (suc n) cs a = is_items_next n cs (item_at (skip_white cs)) (λ it le. is_items_within n it.rest le) a refl
 
-pub are_items : (cs : List ℕ) → AreItems cs (items_of cs)
-are_items cs = are_items_within (length cs) cs (omega arith)
+pub is_items : (cs : List ℕ) → IsItems cs (items_of cs)
+is_items cs = is_items_within (length cs) cs (omega arith)
 
 item_at-nil : item_at [] ≡ None
 unfolding item_at named_at single_at value_at run_at quoted_at
 item_at-nil = refl
 
-pub one_list_of_items : (cs : List ℕ) (its : List Item) → AreItems cs its → its ≡ items_of cs
+pub one_list_of_items : (cs : List ℕ) (its : List Item) → IsItems cs its → its ≡ items_of cs
 one_list_of_items cs [] h = sym (items_of-none cs (ap item_at h ∙ item_at-nil))
 one_list_of_items cs (it ∷ its) h = ap (λ rest. it ∷ rest) (one_list_of_items it.rest its h.1) ∙ sym (items_of-some cs it h.0)

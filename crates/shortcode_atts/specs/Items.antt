@@ -1,39 +1,37 @@
--- The items of an attribute text. A text is here the list of its characters.
+-- The items of an attribute text (Shortcode API, shortcode_parse_atts and get_shortcode_atts_regex).
+-- A text is here the list of its characters.
 -- Characters: `"` is 34, `'` 39, `=` 61.
 use Rattle.std.specs.Prelude.{◌≡◌, ℕ, zero, suc, Bool, true, false, not, ◌&&◌, ◌||◌, ◌==◌, if◌then◌else◌, nat_lt, nat_le, List, [], ◌∷◌, length, drop, take_while, Option, Some, None}
 use Rattle.std.specs.List.{prefix_len}
 use Rattle.std.specs.Option.{option_or, option_map_or}
+use Rattle.shortcode_atts.specs.Steps.{◌>>=◌, only_if}
 use Rattle.shortcode_atts.specs.NameByte.{is_name_byte}
 use Rattle.shortcode_atts.specs.declared.items.Form.{Form}
 use Rattle.shortcode_atts.specs.declared.items.Form.TheVariants.{Quoted, Bare, Word}
 
--- one step after another, each of which may find nothing
-infixl 10 ◌>>=◌
-abbrev pub ◌>>=◌ : {A B : Type 0} → Option A → (A → Option B) → Option B
-None >>= f = None
-(Some x) >>= f = f x
-
--- x, where the test passes
-abbrev pub only_if : {X : Type 0} → Bool → X → Option X
-only_if true x = Some x
-only_if false x = None
-
--- white space: 9 to 13, and the space
+-- white space: 9 to 13, and the space (get_shortcode_atts_regex)
 abbrev pub is_white : ℕ → Bool
 is_white c = nat_le 9 c && nat_le c 13 || c == 32
 
--- U+00A0 and U+200B
+-- a no-break space or a zero-width space, U+00A0 and U+200B (shortcode_parse_atts)
 abbrev pub is_blank : ℕ → Bool
 is_blank c = c == 160 || c == 8203
 
--- each run of blanks as one space; `run` says whether one is under way
-abbrev pub spaced : Bool → List ℕ → List ℕ
-spaced run [] = []
-spaced run (c ∷ cs) = if is_blank c then (if run then spaced true cs else 32 ∷ spaced true cs) else c ∷ spaced false cs
+-- whether a blank comes next
+abbrev pub begins_blank : List ℕ → Bool
+begins_blank [] = false
+begins_blank (c ∷ cs) = is_blank c
 
+-- each run of blanks as one space, which its last blank gives (shortcode_parse_atts)
+abbrev pub spaced : List ℕ → List ℕ
+spaced [] = []
+spaced (c ∷ cs) = if is_blank c then (if begins_blank cs then spaced cs else 32 ∷ spaced cs) else c ∷ spaced cs
+
+-- no white space (get_shortcode_atts_regex)
 abbrev pub is_word_char : ℕ → Bool
 is_word_char c = not (is_white c)
 
+-- no white space and no quote (get_shortcode_atts_regex)
 abbrev pub is_bare_char : ℕ → Bool
 is_bare_char c = not (is_white c || c == 34 || c == 39)
 
@@ -41,6 +39,7 @@ is_bare_char c = not (is_white c || c == 34 || c == 39)
 abbrev pub after_run : (ℕ → Bool) → List ℕ → List ℕ
 after_run p cs = drop (prefix_len p cs) cs
 
+-- what follows the white space at the front
 abbrev pub skip_white : List ℕ → List ℕ
 skip_white cs = after_run is_white cs
 
@@ -49,7 +48,7 @@ abbrev pub after_char : ℕ → List ℕ → Option (List ℕ)
 after_char q [] = None
 after_char q (c ∷ cs) = only_if (c == q) cs
 
--- whether the end or white space comes next
+-- whether the end or white space comes next, as behind each item (get_shortcode_atts_regex)
 abbrev pub is_ended : List ℕ → Bool
 is_ended [] = true
 is_ended (c ∷ cs) = is_white c
@@ -58,14 +57,14 @@ is_ended (c ∷ cs) = is_white c
 unfoldable pub run_at : (ℕ → Bool) → List ℕ → Option (List ℕ × List ℕ)
 run_at p cs = only_if (nat_lt 0 (prefix_len p cs)) (take_while p cs, after_run p cs)
 
--- what stands between q and the next q, and what follows
+-- what stands between the quote q and the next q, and what follows (get_shortcode_atts_regex)
 unfoldable pub quoted_at : ℕ → List ℕ → Option (List ℕ × List ℕ)
 quoted_at q cs = do
   body ← after_char q cs
   rest ← after_char q (after_run (λ c. not (c == q)) body)
   Some (take_while (λ c. not (c == q)) body, rest)
 
--- a value of a form at the front, and what follows
+-- a value of a form at the front, and what follows (get_shortcode_atts_regex)
 abbrev pub spelled_at : Form → List ℕ → Option (List ℕ × List ℕ)
 spelled_at (Quoted q) cs = quoted_at q cs
 spelled_at Bare cs = run_at is_bare_char cs
@@ -83,7 +82,7 @@ pub record Item : Type 0 where
   pub value : List ℕ
   pub rest : List ℕ
 
--- `name = value`, with white space allowed round the `=`
+-- `name = value`, with white space allowed round the `=` (get_shortcode_atts_regex)
 unfoldable pub named_at : Form → List ℕ → Option Item
 named_at form cs = do
   name ← run_at is_name_byte cs
@@ -91,12 +90,13 @@ named_at form cs = do
   v ← value_at form (skip_white rest)
   Some (record { name = Some name.0; value = v.0; rest = v.1 })
 
+-- a value alone (get_shortcode_atts_regex)
 unfoldable pub single_at : Form → List ℕ → Option Item
 single_at form cs = do
   v ← value_at form cs
   Some (record { name = None; value = v.0; rest = v.1 })
 
--- the first of the six forms that fits at the front
+-- the first of the six forms that fits at the front (get_shortcode_atts_regex)
 unfoldable pub item_at : List ℕ → Option Item
 item_at cs =
     option_or (named_at (Quoted 34) cs)
@@ -104,10 +104,10 @@ item_at cs =
     (option_or (named_at Bare cs)
     (option_or (single_at (Quoted 34) cs) (option_or (single_at (Quoted 39) cs) (single_at Word cs)))))
 
--- The items stand in the text in order, with nothing but white space outside them.
-abbrev pub AreItems : List ℕ → List Item → Type 0
-AreItems cs [] = skip_white cs ≡ []
-AreItems cs (it ∷ its) = (item_at (skip_white cs) ≡ Some it) × AreItems it.rest its
+-- The items stand in the text in order, with nothing but white space outside them (shortcode_parse_atts).
+abbrev pub IsItems : List ℕ → List Item → Type 0
+IsItems cs [] = skip_white cs ≡ []
+IsItems cs (it ∷ its) = (item_at (skip_white cs) ≡ Some it) × IsItems it.rest its
 
 -- the items of the text, of which there are at most n
 unfoldable pub items_within : ℕ → List ℕ → List Item

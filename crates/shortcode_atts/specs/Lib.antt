@@ -1,3 +1,4 @@
+pub mod Steps
 pub mod NameByte
 pub mod Items
 pub mod Found

@@ -2,12 +2,13 @@
 ghost use Rattle.std.specs.Prelude.{◌≡◌, ℕ, ◌<◌, ◌≤◌, ◌==◌, not, List, length, take, drop, nat_lt, Option, option_map, IfSome};
 ghost use Rattle.std.specs.List.{prefix_len};
 ghost use Rattle.shortcode_atts.specs.Found.{pair_now, item_now};
+ghost use Rattle.shortcode_atts.specs.Steps.{only_if};
 ghost use Rattle.shortcode_atts.specs.NameByte.{is_name_byte};
-ghost use Rattle.shortcode_atts.specs.Items.{is_white, is_bare_char, is_word_char, skip_white, after_char, is_ended, run_at, quoted_at, only_if, spelled_at, value_at, named_at, single_at, item_at};
+ghost use Rattle.shortcode_atts.specs.Items.{is_white, is_bare_char, is_word_char, skip_white, after_char, is_ended, run_at, quoted_at, spelled_at, value_at, named_at, single_at, item_at};
 
 /// How a value is written.
 #[derive(Clone, Copy)]
-pub enum Form {
+pub(crate) enum Form {
     /// Between two of this character.
     Quoted(char),
     /// With no white space and no quote.
@@ -18,132 +19,147 @@ pub enum Form {
 
 /// An item that was found at the front of a text, and what follows it.
 #[derive(Clone, Copy)]
-pub struct Found<'t> {
-    pub name: Option<&'t [char]>,
-    pub value: &'t [char],
-    pub rest: &'t [char],
+pub(crate) struct Found<'t> {
+    pub(crate) name: Option<&'t [char]>,
+    pub(crate) value: &'t [char],
+    pub(crate) rest: &'t [char],
 }
 
+/// White space: a tab, a line break of any kind, or a space.
 fn is_white(c: char) -> bool
     ensures { result ≡ is_white c }
 {
     matches!(c, '\t'..='\r' | ' ')
 }
 
+/// A character of a name.
 fn is_name_char(c: char) -> bool
     ensures { result ≡ is_name_byte c }
 {
-    matches!(c, 'a'..='z' | 'A'..='Z' | '0'..='9' | '_' | '-')
+    c.is_ascii_alphanumeric() || c == '_' || c == '-'
 }
 
+/// A character of a value without quotes.
 fn is_bare_char(c: char) -> bool
     ensures { result ≡ is_bare_char c }
 {
     !(is_white(c) || c == '"' || c == '\'')
 }
 
-fn white_len(cs: &[char]) -> usize
-    ensures value { result ≡ prefix_len is_white cs.now }
-    ensures within { result ≤ length cs.now }
+/// How much white space stands at the front.
+fn white_len(text: &[char]) -> usize
+    ensures value { result ≡ prefix_len is_white text.now }
+    ensures within { result ≤ length text.now }
 {
-    cs.iter().take_while(|c| is_white(**c)).count()
+    text.iter().take_while(|c| is_white(**c)).count()
 }
 
-fn name_len(cs: &[char]) -> usize
-    ensures value { result ≡ prefix_len is_name_byte cs.now }
-    ensures within { result ≤ length cs.now }
+/// How many characters of a name stand at the front.
+fn name_len(text: &[char]) -> usize
+    ensures value { result ≡ prefix_len is_name_byte text.now }
+    ensures within { result ≤ length text.now }
 {
-    cs.iter().take_while(|c| is_name_char(**c)).count()
+    text.iter().take_while(|c| is_name_char(**c)).count()
 }
 
-fn bare_len(cs: &[char]) -> usize
-    ensures value { result ≡ prefix_len is_bare_char cs.now }
-    ensures within { result ≤ length cs.now }
+/// How many characters of a value without quotes stand at the front.
+fn bare_len(text: &[char]) -> usize
+    ensures value { result ≡ prefix_len is_bare_char text.now }
+    ensures within { result ≤ length text.now }
 {
-    cs.iter().take_while(|c| is_bare_char(**c)).count()
+    text.iter().take_while(|c| is_bare_char(**c)).count()
 }
 
-fn word_len(cs: &[char]) -> usize
-    ensures value { result ≡ prefix_len is_word_char cs.now }
-    ensures within { result ≤ length cs.now }
+/// How many characters stand before the first white space.
+fn word_len(text: &[char]) -> usize
+    ensures value { result ≡ prefix_len is_word_char text.now }
+    ensures within { result ≤ length text.now }
 {
-    cs.iter().take_while(|c| !is_white(**c)).count()
+    text.iter().take_while(|c| !is_white(**c)).count()
 }
 
-fn quoted_len(quote: char, cs: &[char]) -> usize
-    ensures value { result ≡ prefix_len (λ c. not (c == quote)) cs.now }
-    ensures within { result ≤ length cs.now }
+/// How many characters stand before the next quote.
+fn quoted_len(quote: char, text: &[char]) -> usize
+    ensures value { result ≡ prefix_len (λ c. not (c == quote)) text.now }
+    ensures within { result ≤ length text.now }
 {
-    cs.iter().take_while(|c| **c != quote).count()
+    text.iter().take_while(|c| **c != quote).count()
 }
 
-pub fn skip_white(cs: &[char]) -> &[char]
-    ensures value { result.now ≡ skip_white cs.now }
-    ensures within { length result.now ≤ length cs.now }
+/// What follows the white space at the front.
+pub(crate) fn skip_white(text: &[char]) -> &[char]
+    ensures value { result.now ≡ skip_white text.now }
+    ensures within { length result.now ≤ length text.now }
 {
-    &cs[white_len(cs)..]
+    &text[white_len(text)..]
 }
 
-fn after_char(c: char, cs: &[char]) -> Option<&[char]>
-    ensures value { option_map (λ x. x.now) result ≡ after_char c cs.now }
-    ensures shorter { IfSome result (λ rest. length rest.now < length cs.now) }
+/// What follows this character at the front.
+fn after_char(c: char, text: &[char]) -> Option<&[char]>
+    ensures value { option_map (λ x. x.now) result ≡ after_char c text.now }
+    ensures shorter { IfSome result (λ rest. length rest.now < length text.now) }
 {
-    match cs {
+    match text {
         [first, rest @ ..] if *first == c => Some(rest),
         _ => None,
     }
 }
 
-fn is_ended(cs: &[char]) -> bool
-    ensures { result ≡ is_ended cs.now }
+/// Whether the end or white space comes next.
+fn is_ended(text: &[char]) -> bool
+    ensures { result ≡ is_ended text.now }
 {
-    match cs {
+    match text {
         [] => true,
         [first, ..] => is_white(*first),
     }
 }
 
 /// The front of this length and what follows, unless the length is 0.
-fn split(cs: &[char], len: usize) -> Option<(&[char], &[char])>
-    requires { len ≤ length cs.now }
-    ensures value { option_map pair_now result ≡ only_if (nat_lt 0 len) (take len cs.now, drop len cs.now) }
-    ensures shorter { IfSome result (λ x. length x.1.now < length cs.now) }
+fn split(text: &[char], len: usize) -> Option<(&[char], &[char])>
+    requires { len ≤ length text.now }
+    ensures value { option_map pair_now result
+        ≡ only_if (nat_lt 0 len) (take len text.now, drop len text.now) }
+    ensures shorter { IfSome result (λ x. length x.1.now < length text.now) }
 {
     if len == 0 {
         return None;
     }
-    Some((&cs[..len], &cs[len..]))
+    Some((&text[..len], &text[len..]))
 }
 
+/// What stands between two quotes at the front, and what follows.
 #[tactic(auto, unfolding(crate::specs::Items::quoted_at))]
-fn quoted_at(quote: char, cs: &[char]) -> Option<(&[char], &[char])>
-    ensures value { option_map pair_now result ≡ quoted_at quote cs.now }
-    ensures shorter { IfSome result (λ x. length x.1.now < length cs.now) }
+fn quoted_at(quote: char, text: &[char]) -> Option<(&[char], &[char])>
+    ensures value { option_map pair_now result ≡ quoted_at quote text.now }
+    ensures shorter { IfSome result (λ x. length x.1.now < length text.now) }
 {
-    let body = after_char(quote, cs)?;
+    let body = after_char(quote, text)?;
     let len = quoted_len(quote, body);
     let rest = after_char(quote, &body[len..])?;
     Some((&body[..len], rest))
 }
 
+/// A value of the form at the front, and what follows.
 #[tactic(auto, unfolding(crate::specs::Items::run_at))]
-fn spelled_at(form: Form, cs: &[char]) -> Option<(&[char], &[char])>
-    ensures value { option_map pair_now result ≡ spelled_at form cs.now }
-    ensures shorter { IfSome result (λ x. length x.1.now < length cs.now) }
+fn spelled_at(form: Form, text: &[char]) -> Option<(&[char], &[char])>
+    ensures value { option_map pair_now result ≡ spelled_at form text.now }
+    ensures shorter { IfSome result (λ x. length x.1.now < length text.now) }
 {
     match form {
-        Form::Quoted(quote) => quoted_at(quote, cs),
-        Form::Bare => split(cs, bare_len(cs)),
-        Form::Word => split(cs, word_len(cs)),
+        Form::Quoted(quote) => quoted_at(quote, text),
+        Form::Bare => split(text, bare_len(text)),
+        Form::Word => split(text, word_len(text)),
     }
 }
 
+/// The same, with the end or white space after it.
 #[tactic(auto, unfolding(crate::specs::Items::value_at))]
-fn value_at(form: Form, cs: &[char]) -> Option<(&[char], &[char])>
-    ensures value { option_map pair_now result ≡ value_at form cs.now }
-    ensures shorter { IfSome result (λ x. length x.1.now < length cs.now) }
+fn value_at(form: Form, text: &[char]) -> Option<(&[char], &[char])>
+    ensures value { option_map pair_now result ≡ value_at form text.now }
+    ensures shorter { IfSome result (λ x. length x.1.now < length text.now) }
 {
-    let (value, rest) = spelled_at(form, cs)?;
+    let (value, rest) = spelled_at(form, text)?;
     if is_ended(rest) {
         Some((value, rest))
     } else {
@@ -151,12 +167,13 @@ fn value_at(form: Form, cs: &[char]) -> Option<(&[char], &[char])>
     }
 }
 
+/// `name = value` at the front.
 #[tactic(auto, unfolding(crate::specs::Items::named_at, crate::specs::Items::run_at))]
-fn named_at(form: Form, cs: &[char]) -> Option<Found<'_>>
-    ensures value { option_map item_now result ≡ named_at form cs.now }
-    ensures shorter { IfSome result (λ it. length it.rest.now < length cs.now) }
+fn named_at(form: Form, text: &[char]) -> Option<Found<'_>>
+    ensures value { option_map item_now result ≡ named_at form text.now }
+    ensures shorter { IfSome result (λ it. length it.rest.now < length text.now) }
 {
-    let (name, rest) = split(cs, name_len(cs))?;
+    let (name, rest) = split(text, name_len(text))?;
     let rest = after_char('=', skip_white(rest))?;
     let (value, rest) = value_at(form, skip_white(rest))?;
     Some(Found {
@@ -166,12 +183,13 @@ fn named_at(form: Form, cs: &[char]) -> Option<Found<'_>>
     })
 }
 
+/// A value alone at the front.
 #[tactic(auto, unfolding(crate::specs::Items::single_at))]
-fn single_at(form: Form, cs: &[char]) -> Option<Found<'_>>
-    ensures value { option_map item_now result ≡ single_at form cs.now }
-    ensures shorter { IfSome result (λ it. length it.rest.now < length cs.now) }
+fn single_at(form: Form, text: &[char]) -> Option<Found<'_>>
+    ensures value { option_map item_now result ≡ single_at form text.now }
+    ensures shorter { IfSome result (λ it. length it.rest.now < length text.now) }
 {
-    let (value, rest) = value_at(form, cs)?;
+    let (value, rest) = value_at(form, text)?;
     Some(Found {
         name: None,
         value,
@@ -179,26 +197,16 @@ fn single_at(form: Form, cs: &[char]) -> Option<Found<'_>>
     })
 }
 
-/// The item at the front of a text.
+/// The item at the front of a text: the first of the six forms that fits.
 #[tactic(auto, unfolding(crate::specs::Items::item_at))]
-pub fn item_at(cs: &[char]) -> Option<Found<'_>>
-    ensures value { option_map item_now result ≡ item_at cs.now }
-    ensures shorter { IfSome result (λ it. length it.rest.now < length cs.now) }
+pub(crate) fn item_at(text: &[char]) -> Option<Found<'_>>
+    ensures value { option_map item_now result ≡ item_at text.now }
+    ensures shorter { IfSome result (λ it. length it.rest.now < length text.now) }
 {
-    if let Some(found) = named_at(Form::Quoted('"'), cs) {
-        return Some(found);
-    }
-    if let Some(found) = named_at(Form::Quoted('\''), cs) {
-        return Some(found);
-    }
-    if let Some(found) = named_at(Form::Bare, cs) {
-        return Some(found);
-    }
-    if let Some(found) = single_at(Form::Quoted('"'), cs) {
-        return Some(found);
-    }
-    if let Some(found) = single_at(Form::Quoted('\''), cs) {
-        return Some(found);
-    }
-    single_at(Form::Word, cs)
+    named_at(Form::Quoted('"'), text)
+        .or_else(|| named_at(Form::Quoted('\''), text))
+        .or_else(|| named_at(Form::Bare, text))
+        .or_else(|| single_at(Form::Quoted('"'), text))
+        .or_else(|| single_at(Form::Quoted('\''), text))
+        .or_else(|| single_at(Form::Word, text))
 }

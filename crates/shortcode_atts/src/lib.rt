@@ -1,10 +1,11 @@
-//! The attributes of a shortcode.
+//! The attributes of a shortcode, as its attribute text spells them (Shortcode API, shortcode_parse_atts), and the
+//! defaults of a handler (shortcode_atts).
 #![tactic(auto)]
 
 ghost use Rattle.std.specs.Prelude.{◌≡◌, ℕ, List, map, option_map, slice_get, string_bytes, unwrap_or, Some, None, IfOk, OnOk};
 ghost use Rattle.shortcode_atts.specs.Attributes.{Attributes, attributes, add, add_under, value_of, pair_or, with_defaults, no_attributes, pair_bytes};
 ghost use Rattle.shortcode_atts.specs.Found.{item_now, pair_now};
-ghost use Rattle.shortcode_atts.specs.Items.{Item, AreItems, items_of};
+ghost use Rattle.shortcode_atts.specs.Items.{Item, IsItems, items_of};
 
 use indexmap::IndexMap;
 use std::alloc::{AllocError, Global};
@@ -12,13 +13,16 @@ use std::marker::Model;
 
 mod items;
 mod name_byte;
+#[cfg(test)]
+mod tests;
 mod values;
 
 use items::{Found, item_at, skip_white};
 pub use name_byte::is_name_byte;
 use values::{lowered, meaning, plain_chars};
 
-/// The attributes of a shortcode: values under names, each name once, and values without a name, in order.
+/// The attributes of a shortcode: values under names, each name once, and values without a name, each in the order of
+/// the text (Shortcode API, Handlers). Names are in lower case.
 #[derive(Debug, Drop)]
 pub struct Atts {
     pairs: IndexMap<String, String>,
@@ -45,7 +49,7 @@ impl Clone for Atts {
 }
 
 impl Atts {
-    /// No attributes; takes no memory.
+    /// No attributes, as a hook's callback has them. Takes no memory.
     pub fn new(alloc: Global) -> Atts
         ensures { result ≡ no_attributes }
     {
@@ -55,6 +59,7 @@ impl Atts {
         }
     }
 
+    /// Puts a value under a name: a name that is there keeps its place and takes the value.
     fn put(&mut self, alloc: Global, name: &[char], value: &[char]) -> Result<(), AllocError>
         ensures { OnOk result (self.new ≡ add_under (Some name.now) value.now self.old) }
     {
@@ -64,6 +69,7 @@ impl Atts {
         Ok(())
     }
 
+    /// Adds a value without a name, unless nothing is written.
     fn push(&mut self, alloc: Global, value: &[char]) -> Result<(), AllocError>
         ensures { OnOk result (self.new ≡ add_under None value.now self.old) }
     {
@@ -73,6 +79,7 @@ impl Atts {
         Ok(())
     }
 
+    /// Adds an item.
     fn add(&mut self, alloc: Global, found: &Found) -> Result<(), AllocError>
         ensures { OnOk result (self.new ≡ add self.old (item_now found.now)) }
     {
@@ -82,7 +89,7 @@ impl Atts {
         }
     }
 
-    /// The value under a name.
+    /// The value under a name, which is compared byte by byte; the names of attributes are in lower case.
     pub fn named(&self, name: &str) -> Option<&str>
         ensures { option_map (λ value. value.now) result ≡ value_of self.now name.now }
     {
@@ -92,7 +99,7 @@ impl Atts {
         }
     }
 
-    /// The name and the value at a place among those with a name.
+    /// The name and the value at a place among those with a name, counted from 0.
     pub fn pair(&self, at: usize) -> Option<(&str, &str)>
         ensures { option_map pair_now result ≡ slice_get self.now.named at }
     {
@@ -102,13 +109,14 @@ impl Atts {
         }
     }
 
-    /// The values without a name.
+    /// The values without a name, in the order of the text.
     pub fn positional(&self) -> &[String]
         ensures { map string_bytes result.now ≡ self.now.positional }
     {
         self.values.as_slice()
     }
 
+    /// The value under a name, or else the default.
     fn value_or<'a>(&'a self, name: &str, default: &'a str) -> &'a str
         ensures { result.now ≡ unwrap_or (value_of self.entry.now name.now) default.entry.now }
     {
@@ -118,6 +126,7 @@ impl Atts {
         }
     }
 
+    /// A default's name, with the value here or else the default's.
     fn pair_or(
         &self,
         alloc: Global,
@@ -131,13 +140,17 @@ impl Atts {
         Ok((name, value))
     }
 
-    /// Each default name, in order, with its value here, or else the default.
+    /// Each default name, in order, with its value here, or else the default (Shortcode API, shortcode_atts). Attributes
+    /// under other names, and those without a name, are left out.
+    ///
+    /// Refused for want of memory alone.
     pub fn with_defaults(
         &self,
         alloc: Global,
         defaults: &[(String, String)],
     ) -> Result<Vec<(String, String)>, AllocError>
-        ensures { IfOk result (λ pairs. map pair_bytes pairs.items ≡ with_defaults self.now (map pair_bytes defaults.now)) }
+        ensures { IfOk result (λ pairs.
+            map pair_bytes pairs.items ≡ with_defaults self.now (map pair_bytes defaults.now)) }
     {
         let mut pairs = Vec::new(alloc);
         for default in defaults {
@@ -147,12 +160,15 @@ impl Atts {
     }
 }
 
-/// The attributes that a text spells.
+/// The attributes that a text spells, the part of a shortcode between its name and its end (Shortcode API,
+/// shortcode_parse_atts): `name="value"`, `name='value'`, `name=value`, `"value"`, `'value'` and `value`.
+///
+/// Every text has attributes; it is refused for want of memory alone.
 pub fn parse(alloc: Global, text: &str) -> Result<Atts, AllocError>
     ensures { IfOk result (λ atts. atts ≡ attributes text.now) }
 {
-    let cs = plain_chars(alloc, text)?;
-    let mut rest: &[char] = &cs;
+    let characters = plain_chars(alloc, text)?;
+    let mut rest: &[char] = &characters;
     let mut atts = Atts::new(alloc);
     'items: while let Some(found) = item_at(skip_white(rest)) {
         atts.add(alloc, &found)?;
@@ -161,45 +177,8 @@ pub fn parse(alloc: Global, text: &str) -> Result<Atts, AllocError>
     Ok(atts)
 }
 
-/// One list of items alone stands in a text.
+/// A law: a text has one list of items, and one alone (Shortcode API, get_shortcode_atts_regex).
 pub fn one_list_of_items()
-    ensures items { (cs : List ℕ) → AreItems cs (items_of cs) }
-    ensures only { (cs : List ℕ) (its : List Item) → AreItems cs its → its ≡ items_of cs }
+    ensures items { (text : List ℕ) → IsItems text (items_of text) }
+    ensures only { (text : List ℕ) (items : List Item) → IsItems text items → items ≡ items_of text }
 {}
-
-#[cfg(test)]
-mod tests {
-    use super::*;
-    use std::test::Fail;
-
-    #[test]
-    fn all_forms(rt: HostRuntime) -> Result<(), Fail> {
-        let atts = parse(rt.alloc(), " a=\"1\" b='2' C=3 \"four\" 'five' six a=7")?;
-        assert_eq!(rt; atts.named("a"), Some("7"));
-        assert_eq!(rt; atts.named("C"), None);
-        assert_eq!(rt; atts.pair(2), Some(("c", "3")));
-        assert_eq!(rt; atts.pair(3), None);
-        assert_eq!(rt; atts.positional().len(), 3);
-        assert_eq!(rt; atts.positional()[1].as_str(), "five");
-        Ok(())
-    }
-
-    #[test]
-    fn defaults(rt: HostRuntime) -> Result<(), Fail> {
-        let atts = parse(rt.alloc(), " label=Home x=1")?;
-        let mut defaults = Vec::new(rt.alloc());
-        defaults.push((
-            String::from_str(rt.alloc(), "href")?,
-            String::from_str(rt.alloc(), "#")?,
-        ))?;
-        defaults.push((
-            String::from_str(rt.alloc(), "label")?,
-            String::new(rt.alloc()),
-        ))?;
-        let found = atts.with_defaults(rt.alloc(), &defaults)?;
-        assert_eq!(rt; found.len(), 2);
-        assert_eq!(rt; found[0].1.as_str(), "#");
-        assert_eq!(rt; found[1].1.as_str(), "Home");
-        Ok(())
-    }
-}

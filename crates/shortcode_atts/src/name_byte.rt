@@ -2,9 +2,10 @@
 ghost use Rattle.std.specs.Prelude.{◌≡◌};
 ghost use Rattle.shortcode_atts.specs.NameByte.{is_name_byte};
 
-/// Whether a byte may stand in the name of an attribute or of a tag: an ASCII letter, a digit, `_` or `-`.
+/// Whether a byte may stand in the name of an attribute or of a tag: an ASCII letter, a digit, `_` or `-` (Shortcode
+/// API, get_shortcode_atts_regex).
 pub fn is_name_byte(byte: u8) -> bool
     ensures { result ≡ is_name_byte byte }
 {
-    matches!(byte, b'a'..=b'z' | b'A'..=b'Z' | b'0'..=b'9' | b'_' | b'-')
+    byte.is_ascii_alphanumeric() || byte == b'_' || byte == b'-'
 }

@@ -8,7 +8,7 @@ invariant_of-self c =
     by c.set.result
     (λ e. rw e (are_tags-set c.self.inside.tags c.as_str.result.now c.args.callback (rw (← c.as_str.ensures.text) at c.as_str.ensures.name) c.self.invariant))
     (λ e. rw e c.self.invariant) c.set.ensures.ok c.set.ensures.err
-    where
-      by : {X E A B C : Type 0} (r : Result X E) → (A → C) → (B → C) → OnOk r A → OnErr r B → C
-      by (Ok x) f g a b = f a
-      by (Err e) f g a b = g b
+  where
+    by : {X E A B C : Type 0} (r : Result X E) → (A → C) → (B → C) → OnOk r A → OnErr r B → C
+    by (Ok x) f g a b = f a
+    by (Err e) f g a b = g b

@@ -1,0 +1,3 @@
+pub mod Agree
+pub mod Ending
+pub mod Loading

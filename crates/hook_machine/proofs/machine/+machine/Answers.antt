@@ -1,0 +1,217 @@
+use Rattle.std.proofs.Common.{◌≡◌, [], ◌++◌, ◌-◌, None, Ok, Err, refl, sym, ap, ◌∙◌, arith, eq-eqb}
+use Rattle.std.proofs.lemmas.Bool.{ne_eqb}
+use Rattle.std.proofs.lemmas.Result.{err_from_is_err_and}
+use Rattle.callback_store.specs.Shape.{shapes_of}
+use Rattle.hook_registry.specs.Table.{next_priority}
+use Rattle.hook_machine.specs.declared.fault.RunFault.TheVariants.{TooDeep}
+use Rattle.hook_machine.specs.World.{World}
+use Rattle.hook_machine.specs.Trace.{end_of}
+use Rattle.hook_machine.specs.Meaning.{first_or_empty, group_pass, priorities_pass, pieces_pass, invoke}
+use Rattle.hook_machine.specs.Ends.{engine_with}
+use Rattle.hook_machine.proofs.Ending.{apply_beyond, apply_on, apply_err, act_beyond, act_on, act_err, shortcodes_beyond, shortcodes_on, shortcodes_err, did_on, current_on, doing_on, has_on, tag_on, option_on, follow_err, follow_answer, follow_on, invoke_none, core_ends, core_beyond, core_err, core_on, invoke_on, not_false, ok_not_err, none_of, action_on, action_unnamed, filter_on, filter_unnamed, group_err, group_on, group_done, pass_err, pass_on, priorities_out, priorities_fault, priorities_step, priorities_done, piece_plain, piece_escaped, piece_unhandled, match_err, match_on, pieces_err, pieces_on, pieces_done, scan_on}
+use Rattle.hook_machine.proofs.machine.+machine.Goals as goal
+
+pub answer_ask-returns-then-depth-ge-DEEPEST-clause-ends : goal.answer_ask-returns-then-depth-ge-DEEPEST-clause-ends
+answer_ask-returns-then-depth-ge-DEEPEST-clause-ends g t c =
+    rw c.in-Apply.is (apply_beyond (invoke (engine_with g.S.Stated.says (shapes_of g.S.Stated.number c.args.plugins.now))) c.args.state.now c.in-Apply.hook c.in-Apply.hook c.in-Apply.value c.in-Apply.args refl (omega arith))
+
+pub answer_ask-returns-in_err-text-in-Apply-clause-ends : goal.answer_ask-returns-in_err-text-in-Apply-clause-ends
+answer_ask-returns-in_err-text-in-Apply-clause-ends g t c =
+    let p = err_from_is_err_and c.from_residual.result c.from_residual.ensures.1 in
+    rw (c.in-Apply.is, p.1, p.2) (apply_err (invoke (engine_with g.S.Stated.says (shapes_of g.S.Stated.number c.args.plugins.now))) c.args.state.now c.in-Apply.hook c.as_str.result.now c.in-Apply.value c.in-Apply.args c.as_str.ensures c.deepen.new.self (omega arith) c.deepen.ensures _ _ c.in_err-text-in-Apply.ensures.ends)
+
+pub answer_ask-returns-then-depth-ge-DEEPEST-2-clause-ends : goal.answer_ask-returns-then-depth-ge-DEEPEST-2-clause-ends
+answer_ask-returns-then-depth-ge-DEEPEST-2-clause-ends g t c =
+    rw c.in-Act.is (act_beyond (invoke (engine_with g.S.Stated.says (shapes_of g.S.Stated.number c.args.plugins.now))) c.args.state.now c.in-Act.hook c.in-Act.hook [] c.in-Act.args refl (omega arith))
+
+pub answer_ask-returns-in_err-_nothing-in-Act-clause-ends : goal.answer_ask-returns-in_err-_nothing-in-Act-clause-ends
+answer_ask-returns-in_err-_nothing-in-Act-clause-ends g t c =
+    let p = err_from_is_err_and c.from_residual-in_err-_nothing-in-Act.result c.from_residual-in_err-_nothing-in-Act.ensures.1 in
+    rw (c.in-Act.is, p.1, p.2) (act_err (invoke (engine_with g.S.Stated.says (shapes_of g.S.Stated.number c.args.plugins.now))) c.args.state.now c.in-Act.hook c.as_str-in-Act.result.now [] c.in-Act.args c.as_str-in-Act.ensures c.deepen-in-Act.new.self (omega arith) c.deepen-in-Act.ensures _ _ c.in_err-_nothing-in-Act.ensures.ends)
+
+pub answer_ask-returns-then-depth-ge-DEEPEST-3-clause-ends : goal.answer_ask-returns-then-depth-ge-DEEPEST-3-clause-ends
+answer_ask-returns-then-depth-ge-DEEPEST-3-clause-ends g t c =
+    rw c.in-Shortcodes.is (shortcodes_beyond (invoke (engine_with g.S.Stated.says (shapes_of g.S.Stated.number c.args.plugins.now))) c.args.state.now c.in-Shortcodes.text c.in-Shortcodes.text [] [] refl (omega arith))
+
+pub answer_ask-returns-in_err-text-in-Shortcodes-clause-ends : goal.answer_ask-returns-in_err-text-in-Shortcodes-clause-ends
+answer_ask-returns-in_err-text-in-Shortcodes-clause-ends g t c =
+    let p = err_from_is_err_and c.from_residual-in_err-text-in-Shortcodes.result c.from_residual-in_err-text-in-Shortcodes.ensures.1 in
+    rw (c.in-Shortcodes.is, p.1, p.2) (shortcodes_err (invoke (engine_with g.S.Stated.says (shapes_of g.S.Stated.number c.args.plugins.now))) c.args.state.now c.in-Shortcodes.text c.as_str-in-Shortcodes.result.now [] [] c.as_str-in-Shortcodes.ensures c.deepen-in-Shortcodes.new.self (omega arith) c.deepen-in-Shortcodes.ensures _ _ c.in_err-text-in-Shortcodes.ensures.ends)
+
+pub answer_ask-returns-in_ok-text-in-Apply-clause-ends : goal.answer_ask-returns-in_ok-text-in-Apply-clause-ends
+answer_ask-returns-in_ok-text-in-Apply-clause-ends g t c =
+    rw (c.in-Apply.is, c.rise.ensures) (apply_on (invoke (engine_with g.S.Stated.says (shapes_of g.S.Stated.number c.args.plugins.now))) c.args.state.now c.in-Apply.hook c.as_str.result.now c.in-Apply.value c.in-Apply.args c.as_str.ensures c.deepen.new.self (omega arith) c.deepen.ensures _ _ c.in_ok-text-in-Apply.ensures.ends)
+
+pub answer_ask-returns-in_ok-_nothing-in-Act-clause-ends : goal.answer_ask-returns-in_ok-_nothing-in-Act-clause-ends
+answer_ask-returns-in_ok-_nothing-in-Act-clause-ends g t c =
+    rw (c.in-Act.is, c.rise-in-Act.ensures) (act_on (invoke (engine_with g.S.Stated.says (shapes_of g.S.Stated.number c.args.plugins.now))) c.args.state.now c.in-Act.hook c.as_str-in-Act.result.now [] c.in-Act.args c.as_str-in-Act.ensures c.deepen-in-Act.new.self (omega arith) c.deepen-in-Act.ensures _ _ c.in_ok-_nothing-in-Act.ensures.ends)
+
+pub answer_ask-returns-in_ok-text-in-Shortcodes-clause-ends : goal.answer_ask-returns-in_ok-text-in-Shortcodes-clause-ends
+answer_ask-returns-in_ok-text-in-Shortcodes-clause-ends g t c =
+    rw (c.in-Shortcodes.is, c.rise-in-Shortcodes.ensures) (shortcodes_on (invoke (engine_with g.S.Stated.says (shapes_of g.S.Stated.number c.args.plugins.now))) c.args.state.now c.in-Shortcodes.text c.as_str-in-Shortcodes.result.now [] [] c.as_str-in-Shortcodes.ensures c.deepen-in-Shortcodes.new.self (omega arith) c.deepen-in-Shortcodes.ensures _ _ c.in_ok-text-in-Shortcodes.ensures.ends)
+
+pub answer_ask-returns-in-Did-clause-ends : goal.answer_ask-returns-in-Did-clause-ends
+answer_ask-returns-in-Did-clause-ends g t c =
+    rw (c.in-Did.is, c.did.ensures, c.as_str-in-Did.ensures) (did_on (invoke (engine_with g.S.Stated.says (shapes_of g.S.Stated.number c.args.plugins.now))) c.args.state.now c.in-Did.hook)
+
+pub answer_ask-returns-in_ok-current-in-Current-clause-ends : goal.answer_ask-returns-in_ok-current-in-Current-clause-ends
+answer_ask-returns-in_ok-current-in-Current-clause-ends g t c =
+    rw (c.in-Current.is, c.in_ok-current-in-Current.ensures) (current_on (invoke (engine_with g.S.Stated.says (shapes_of g.S.Stated.number c.args.plugins.now))) c.args.state.now)
+
+pub answer_ask-returns-in-Doing-clause-ends : goal.answer_ask-returns-in-Doing-clause-ends
+answer_ask-returns-in-Doing-clause-ends g t c =
+    rw (c.in-Doing.is, c.doing.ensures, c.as_str-in-Doing.ensures) (doing_on (invoke (engine_with g.S.Stated.says (shapes_of g.S.Stated.number c.args.plugins.now))) c.args.state.now c.in-Doing.hook)
+
+pub answer_ask-returns-in-Has-clause-ends : goal.answer_ask-returns-in-Has-clause-ends
+answer_ask-returns-in-Has-clause-ends g t c =
+    rw (c.in-Has.is, c.has.ensures, c.as_str-in-Has.ensures) (has_on (invoke (engine_with g.S.Stated.says (shapes_of g.S.Stated.number c.args.plugins.now))) c.args.state.now c.in-Has.hook c.in-Has.callback)
+
+pub answer_ask-returns-in-TagExists-clause-ends : goal.answer_ask-returns-in-TagExists-clause-ends
+answer_ask-returns-in-TagExists-clause-ends g t c =
+    rw (c.in-TagExists.is, c.tag_exists.ensures, c.as_str-in-TagExists.ensures) (tag_on (invoke (engine_with g.S.Stated.says (shapes_of g.S.Stated.number c.args.plugins.now))) c.args.state.now c.in-TagExists.tag)
+
+pub answer_ask-returns-in_ok-option-in-GetOption-clause-ends : goal.answer_ask-returns-in_ok-option-in-GetOption-clause-ends
+answer_ask-returns-in_ok-option-in-GetOption-clause-ends g t c =
+    rw (c.in-GetOption.is, c.in_ok-option-in-GetOption.ensures, c.as_str-in-GetOption.ensures) (option_on (invoke (engine_with g.S.Stated.says (shapes_of g.S.Stated.number c.args.plugins.now))) c.args.state.now c.in-GetOption.name)
+
+pub go_on-returns-in_err-answer-in-Ask-clause-ends : goal.go_on-returns-in_err-answer-in-Ask-clause-ends
+go_on-returns-in_err-answer-in-Ask-clause-ends g t c =
+    let p = err_from_is_err_and c.from_residual.result c.from_residual.ensures.1 in
+    rw (c.in-Ask.is, p.1, p.2) (follow_err (invoke (engine_with g.S.Stated.says (shapes_of g.S.Stated.number c.args.plugins.now))) c.args.state.now c.args.callback c.args.call c.in-Ask.ask _ _ c.in_err-answer-in-Ask.ensures.ends)
+
+pub go_on-returns-in-Answer-clause-ends : goal.go_on-returns-in-Answer-clause-ends
+go_on-returns-in-Answer-clause-ends g t c =
+    rw c.in-Answer.is (follow_answer (invoke (engine_with g.S.Stated.says (shapes_of g.S.Stated.number c.args.plugins.now))) c.args.state.now c.args.callback c.args.call c.in-Answer.text)
+
+pub go_on-returns-in_ok-call-in-Ask-clause-ends : goal.go_on-returns-in_ok-call-in-Ask-clause-ends
+go_on-returns-in_ok-call-in-Ask-clause-ends g t c =
+    rw c.in-Ask.is (follow_on (invoke (engine_with g.S.Stated.says (shapes_of g.S.Stated.number c.args.plugins.now))) c.args.state.now c.args.callback c.args.call c.in-Ask.ask _ c.in_ok-answer-in-Ask.answer c.in_ok-call-in-Ask.call c.in_ok-answer-in-Ask.ensures.ends c.in_ok-call-in-Ask.ensures _ _ c.invoke.ensures.ends)
+
+pub invoke-returns-then-calls-eq0-clause-ends : goal.invoke-returns-then-calls-eq0-clause-ends
+invoke-returns-then-calls-eq0-clause-ends g t c =
+    ap end_of (invoke_none (engine_with g.S.Stated.says (shapes_of g.S.Stated.number c.args.plugins.now)) c.args.state.now c.args.callback c.args.call (omega arith))
+
+pub invoke-returns-then-depth-ge-DEEPEST-clause-ends : goal.invoke-returns-then-depth-ge-DEEPEST-clause-ends
+invoke-returns-then-depth-ge-DEEPEST-clause-ends g t c =
+    core_ends (engine_with g.S.Stated.says (shapes_of g.S.Stated.number c.args.plugins.now)) c.args.state.now c.take_call.new.self c.args.callback c.args.call (omega arith) (eq-eqb c.args.callback 0 (omega arith)) c.take_call.ensures (Err TooDeep) c.take_call.new.self
+    (core_beyond (invoke (engine_with g.S.Stated.says (shapes_of g.S.Stated.number c.args.plugins.now))) c.take_call.new.self (first_or_empty c.args.call.args) (first_or_empty c.args.call.args) [] [] refl (omega arith))
+
+pub invoke-returns-in_err-replaced-clause-ends : goal.invoke-returns-in_err-replaced-clause-ends
+invoke-returns-in_err-replaced-clause-ends g t c =
+    let p = err_from_is_err_and c.from_residual-in_err-replaced.result c.from_residual-in_err-replaced.ensures.1 in
+    rw (p.1, p.2) (core_ends (engine_with g.S.Stated.says (shapes_of g.S.Stated.number c.args.plugins.now)) c.args.state.now c.take_call.new.self c.args.callback c.args.call (omega arith) (eq-eqb c.args.callback 0 (omega arith)) c.take_call.ensures (Err c.in_err-replaced.field-0.0) c.run_shortcodes.new.state
+    (core_err (invoke (engine_with g.S.Stated.says (shapes_of g.S.Stated.number c.args.plugins.now))) c.take_call.new.self (first_or_empty c.args.call.args) c.as_str.result.now [] [] (c.as_str.ensures ∙ c.in_ok-text.ensures) c.deepen.new.self (omega arith) c.deepen.ensures _ _ c.in_err-replaced.ensures.ends))
+
+pub invoke-returns-then-number-eq0-clause-ends : goal.invoke-returns-then-number-eq0-clause-ends
+invoke-returns-then-number-eq0-clause-ends g t c =
+    let risen : World = record c.run_shortcodes.new.state { depth = c.run_shortcodes.new.state.depth - 1 } in
+    rw c.rise.ensures (core_ends (engine_with g.S.Stated.says (shapes_of g.S.Stated.number c.args.plugins.now)) c.args.state.now c.take_call.new.self c.args.callback c.args.call (omega arith) (eq-eqb c.args.callback 0 (omega arith)) c.take_call.ensures (Ok c.in_ok-replaced.replaced) risen
+    (core_on (invoke (engine_with g.S.Stated.says (shapes_of g.S.Stated.number c.args.plugins.now))) c.take_call.new.self (first_or_empty c.args.call.args) c.as_str.result.now [] [] (c.as_str.ensures ∙ c.in_ok-text.ensures) c.deepen.new.self (omega arith) c.deepen.ensures _ _ c.in_ok-replaced.ensures.ends))
+
+pub invoke-returns-clause-ends : goal.invoke-returns-clause-ends
+invoke-returns-clause-ends g t c =
+    invoke_on (engine_with g.S.Stated.says (shapes_of g.S.Stated.number c.args.plugins.now)) c.args.state.now c.take_call.new.self c.args.callback c.args.call c.in_ok-reply.reply c.carry_out.new.self (omega arith) (ne_eqb c.args.callback 0 (λ e. c.if-number-eq0.false (c.number.ensures ∙ e))) c.take_call.ensures c.in_ok-reply.ensures c.in_ok-carry_out.ensures.ok _ _ c.go_on.ensures.ends
+
+pub run_action-returns-in_ok-fire-in-Ok-clause-ends : goal.run_action-returns-in_ok-fire-in-Ok-clause-ends
+run_action-returns-in_ok-fire-in-Ok-clause-ends g t c =
+    action_on (invoke (engine_with g.S.Stated.says (shapes_of g.S.Stated.number c.args.plugins.now))) c.args.state.now c.fire.new.self c.args.hook.now c.in-Ok.hook c.empty-nothing.result c.args.args.now c.in-Ok.ensures.ok (not_false _ (λ h. ok_not_err _ _ (c.in-Ok.ensures.bad_name.1 h))) c.in_ok-fire-in-Ok.ensures.ok c.empty-nothing.ensures _ _ c.run_pass.ensures.ends
+
+pub run_action-returns-in-Err-BadName-clause-ends : goal.run_action-returns-in-Err-BadName-clause-ends
+run_action-returns-in-Err-BadName-clause-ends g t c =
+    rw c.empty-nothing.ensures (ap end_of (action_unnamed (invoke (engine_with g.S.Stated.says (shapes_of g.S.Stated.number c.args.plugins.now))) c.args.state.now c.args.hook.now c.args.args.now (c.in-Err-BadName.ensures.bad_name.0 (ap Err c.in-Err-BadName.field-0-is))))
+
+pub run_filter-returns-in-Ok-clause-ends : goal.run_filter-returns-in-Ok-clause-ends
+run_filter-returns-in-Ok-clause-ends g t c =
+    filter_on (invoke (engine_with g.S.Stated.says (shapes_of g.S.Stated.number c.args.plugins.now))) c.args.state.now c.args.hook.now c.args.hook.now c.in-Ok.hook c.args.value c.args.args.now refl c.in-Ok.ensures.ok (not_false _ (λ h. ok_not_err _ _ (c.in-Ok.ensures.bad_name.1 h))) _ _ c.run_pass.ensures.ends
+
+pub run_filter-returns-in-Err-BadName-clause-ends : goal.run_filter-returns-in-Err-BadName-clause-ends
+run_filter-returns-in-Err-BadName-clause-ends g t c =
+    ap end_of (filter_unnamed (invoke (engine_with g.S.Stated.says (shapes_of g.S.Stated.number c.args.plugins.now))) c.args.state.now c.args.hook.now c.args.value c.args.args.now (c.in-Err-BadName.ensures.bad_name.0 (ap Err c.in-Err-BadName.field-0-is)))
+
+pub run_group-returns-in_err-answer-clause-ends : goal.run_group-returns-in_err-answer-clause-ends
+run_group-returns-in_err-answer-clause-ends g t c =
+    let p = err_from_is_err_and c.from_residual-in_err-answer.result c.from_residual-in_err-answer.ensures.1 in
+    rw (p.1, p.2) (group_err (invoke (engine_with g.S.Stated.says (shapes_of g.S.Stated.number c.args.plugins.now))) c.args.kind c.args.hook.now c.args.args.now c.loop-entry.state c.loop-entry.value c.args.entries.now c.loop-entry.entry-index c.entry-item.result c.in_ok-call.call c.loop-entry-test.true c.entry-item.is c.in_ok-call.ensures _ _ c.in_err-answer.ensures.ends
+    (group_pass (invoke (engine_with g.S.Stated.says (shapes_of g.S.Stated.number c.args.plugins.now))) c.args.kind c.args.hook.now c.args.args.now c.args.state.now c.args.value c.args.entries.now) c.loop-entry.invariant.ends)
+
+pub run_group-loop-entry-preserved : goal.run_group-loop-entry-preserved
+run_group-loop-entry-preserved g t c =
+    record {
+      ends = rw c.kept-value.ensures (sym (group_on (invoke (engine_with g.S.Stated.says (shapes_of g.S.Stated.number c.args.plugins.now))) c.args.kind c.args.hook.now c.args.args.now c.loop-entry.state c.loop-entry.value c.args.entries.now c.loop-entry.entry-index c.entry-item.result c.in_ok-call.call c.loop-entry-test.true c.entry-item.is c.in_ok-call.ensures _ _ c.in_ok-answer.ensures.ends) ∙ c.loop-entry.invariant.ends);
+      fewer = omega (arith, c.loop-entry.invariant.fewer, c.in_ok-answer.ensures.fewer);
+    }
+
+pub run_group-returns-clause-ends : goal.run_group-returns-clause-ends
+run_group-returns-clause-ends g t c =
+    sym c.loop-entry.invariant.ends ∙ group_done (invoke (engine_with g.S.Stated.says (shapes_of g.S.Stated.number c.args.plugins.now))) c.args.kind c.args.hook.now c.args.args.now c.loop-entry.state c.loop-entry.value c.args.entries.now c.loop-entry.entry-index c.loop-entry-test.false
+
+pub run_pass-returns-in_err-result-clause-ends : goal.run_pass-returns-in_err-result-clause-ends
+run_pass-returns-in_err-result-clause-ends g t c =
+    let p = err_from_is_err_and c.from_residual-in_err-result.result c.from_residual-in_err-result.ensures.1 in
+    rw (p.1, p.2) (pass_err (invoke (engine_with g.S.Stated.says (shapes_of g.S.Stated.number c.args.plugins.now))) c.args.kind c.args.hook.now c.args.args.now c.args.state.now c.enter.new.self c.args.value c.in_ok-enter.ensures.ok _ _ c.in_err-result.ensures.ends)
+
+pub run_pass-returns-clause-ends : goal.run_pass-returns-clause-ends
+run_pass-returns-clause-ends g t c =
+    rw c.leave.ensures (pass_on (invoke (engine_with g.S.Stated.says (shapes_of g.S.Stated.number c.args.plugins.now))) c.args.kind c.args.hook.now c.args.args.now c.args.state.now c.enter.new.self c.args.value c.in_ok-enter.ensures.ok _ _ c.in_ok-result.ensures.ends)
+
+pub run_piece-returns-then-is_escaped-clause-ends : goal.run_piece-returns-then-is_escaped-clause-ends
+run_piece-returns-then-is_escaped-clause-ends g t c =
+    rw (c.in-Match.is, c.in_ok-copied-in-Match.ensures, c.part-shown.ensures, c.without_brackets.ensures) (piece_escaped (invoke (engine_with g.S.Stated.says (shapes_of g.S.Stated.number c.args.plugins.now))) c.args.text.now c.args.state.now c.in-Match.whole c.in-Match.name c.in-Match.atts c.in-Match.content c.in-Match.opening_extra c.in-Match.closing_extra (sym c.is_escaped.ensures ∙ c.if-is_escaped.true))
+
+pub run_piece-returns-in_default-clause-ends : goal.run_piece-returns-in_default-clause-ends
+run_piece-returns-in_default-clause-ends g t c =
+    rw (c.in-Match.is, c.in_ok-copied-in-Match-2.ensures, c.part-in_default.ensures) (piece_unhandled (invoke (engine_with g.S.Stated.says (shapes_of g.S.Stated.number c.args.plugins.now))) c.args.text.now c.args.state.now c.in-Match.whole c.in-Match.name c.in-Match.atts c.in-Match.content c.in-Match.opening_extra c.in-Match.closing_extra (sym c.is_escaped.ensures ∙ c.if-is_escaped.false) (rw c.part-in-Match.ensures at (sym (none_of _ c.in_default.not-Some) ∙ c.handler.ensures)))
+
+pub run_piece-returns-in_err-answer-in-Match-clause-ends : goal.run_piece-returns-in_err-answer-in-Match-clause-ends
+run_piece-returns-in_err-answer-in-Match-clause-ends g t c =
+    let p = err_from_is_err_and c.from_residual-in_err-answer-in-Match.result c.from_residual-in_err-answer-in-Match.ensures.1 in
+    rw (c.in-Match.is, p.1, p.2) (match_err (invoke (engine_with g.S.Stated.says (shapes_of g.S.Stated.number c.args.plugins.now))) c.args.text.now c.args.state.now c.in-Match.whole c.in-Match.name c.in-Match.atts c.in-Match.content c.in-Match.opening_extra c.in-Match.closing_extra (sym c.is_escaped.ensures ∙ c.if-is_escaped.false) c.in-Some.handler (rw c.part-in-Match.ensures at (sym c.in-Some.is ∙ c.handler.ensures)) c.in_ok-call-in-Match.call c.in_ok-call-in-Match.ensures _ _ c.in_err-answer-in-Match.ensures.ends)
+
+pub run_piece-returns-in_ok-copied-in-Plain-clause-ends : goal.run_piece-returns-in_ok-copied-in-Plain-clause-ends
+run_piece-returns-in_ok-copied-in-Plain-clause-ends g t c =
+    rw (c.in-Plain.is, c.in_ok-copied-in-Plain.ensures, c.part.ensures) (piece_plain (invoke (engine_with g.S.Stated.says (shapes_of g.S.Stated.number c.args.plugins.now))) c.args.text.now c.args.state.now c.in-Plain.span)
+
+pub run_piece-returns-in_ok-with_extras-in-Match-clause-ends : goal.run_piece-returns-in_ok-with_extras-in-Match-clause-ends
+run_piece-returns-in_ok-with_extras-in-Match-clause-ends g t c =
+    rw (c.in-Match.is, c.in_ok-with_extras-in-Match.ensures) (match_on (invoke (engine_with g.S.Stated.says (shapes_of g.S.Stated.number c.args.plugins.now))) c.args.text.now c.args.state.now c.in-Match.whole c.in-Match.name c.in-Match.atts c.in-Match.content c.in-Match.opening_extra c.in-Match.closing_extra (sym c.is_escaped.ensures ∙ c.if-is_escaped.false) c.in-Some.handler (rw c.part-in-Match.ensures at (sym c.in-Some.is ∙ c.handler.ensures)) c.in_ok-call-in-Match.call c.in_ok-call-in-Match.ensures _ _ c.in_ok-answer-in-Match.ensures.ends)
+
+pub run_pieces-returns-in_err-shown-clause-ends : goal.run_pieces-returns-in_err-shown-clause-ends
+run_pieces-returns-in_err-shown-clause-ends g t c =
+    let p = err_from_is_err_and c.from_residual.result c.from_residual.ensures.1 in
+    rw (p.1, p.2) (pieces_err (invoke (engine_with g.S.Stated.says (shapes_of g.S.Stated.number c.args.plugins.now))) c.args.text.now c.loop-piece.state c.loop-piece.so_far c.args.pieces.now c.loop-piece.piece-index _ _ c.loop-piece-test.true refl _ _ c.in_err-shown.ensures.ends (pieces_pass (invoke (engine_with g.S.Stated.says (shapes_of g.S.Stated.number c.args.plugins.now))) c.args.text.now c.args.state.now [] c.args.pieces.now) c.loop-piece.invariant.ends)
+
+pub run_pieces-loop-piece-preserved : goal.run_pieces-loop-piece-preserved
+run_pieces-loop-piece-preserved g t c =
+    record {
+      ends = pieces_on (invoke (engine_with g.S.Stated.says (shapes_of g.S.Stated.number c.args.plugins.now))) c.args.text.now c.loop-piece.state c.loop-piece.so_far c.args.pieces.now c.loop-piece.piece-index _ _ c.loop-piece-test.true refl _ _ _ c.in_ok-shown.ensures.ends (c.in_ok-push_str.ensures.ok ∙ ap (λ r. c.loop-piece.so_far ++ r) c.as_str.ensures) ∙ c.loop-piece.invariant.ends;
+      fewer = omega (arith, c.loop-piece.invariant.fewer, c.in_ok-shown.ensures.fewer);
+    }
+
+pub run_pieces-returns-clause-ends : goal.run_pieces-returns-clause-ends
+run_pieces-returns-clause-ends g t c =
+    sym c.loop-piece.invariant.ends ∙ pieces_done (invoke (engine_with g.S.Stated.says (shapes_of g.S.Stated.number c.args.plugins.now))) c.args.text.now c.loop-piece.state c.loop-piece.so_far c.args.pieces.now c.loop-piece.piece-index c.loop-piece-test.false
+
+pub run_priorities-returns-then-left-eq0-clause-ends : goal.run_priorities-returns-then-left-eq0-clause-ends
+run_priorities-returns-then-left-eq0-clause-ends g t c =
+    sym c.loop-next.invariant.ends ∙ priorities_out (invoke (engine_with g.S.Stated.says (shapes_of g.S.Stated.number c.args.plugins.now))) c.args.kind c.args.hook.now c.args.args.now c.loop-next.left c.loop-next.state c.loop-next.value c.loop-next.next c.in-Some.priority c.if-left-eq0.true c.in-Some.is
+
+pub run_priorities-returns-in_err-value-clause-ends : goal.run_priorities-returns-in_err-value-clause-ends
+run_priorities-returns-in_err-value-clause-ends g t c =
+    let p = err_from_is_err_and c.from_residual-in_err-value.result c.from_residual-in_err-value.ensures.1 in
+    rw (p.1, p.2) (priorities_fault (invoke (engine_with g.S.Stated.says (shapes_of g.S.Stated.number c.args.plugins.now))) c.args.kind c.args.hook.now c.args.args.now c.loop-next.left c.loop-next.state c.loop-next.value c.loop-next.next c.in-Some.priority c.as_slice.result.now c.if-left-eq0.false c.in-Some.is (c.as_slice.ensures.value ∙ c.in_ok-entries.ensures) _ _ c.in_err-value.ensures.ends
+    (priorities_pass (invoke (engine_with g.S.Stated.says (shapes_of g.S.Stated.number c.args.plugins.now))) c.args.kind c.args.hook.now c.args.args.now c.args.state.now.calls c.args.state.now c.args.value (next_priority c.args.state.now.table c.args.hook.now None)) c.loop-next.invariant.ends)
+
+pub run_priorities-loop-next-preserved : goal.run_priorities-loop-next-preserved
+run_priorities-loop-next-preserved g t c =
+    record {
+      ends = priorities_step (invoke (engine_with g.S.Stated.says (shapes_of g.S.Stated.number c.args.plugins.now))) c.args.kind c.args.hook.now c.args.args.now c.loop-next.left c.loop-next.state c.loop-next.value c.loop-next.next c.in-Some.priority c.as_slice.result.now c.next_priority-next-in-Some.result c.if-left-eq0.false c.in-Some.is (c.as_slice.ensures.value ∙ c.in_ok-entries.ensures) c.run_group.new.state c.in_ok-value.value c.in_ok-value.ensures.ends c.next_priority-next-in-Some.ensures ∙ c.loop-next.invariant.ends;
+      fewer = omega (arith, c.loop-next.invariant.fewer, c.in_ok-value.ensures.fewer);
+    }
+
+pub run_priorities-returns-clause-ends : goal.run_priorities-returns-clause-ends
+run_priorities-returns-clause-ends g t c =
+    sym c.loop-next.invariant.ends ∙ priorities_done (invoke (engine_with g.S.Stated.says (shapes_of g.S.Stated.number c.args.plugins.now))) c.args.kind c.args.hook.now c.args.args.now c.loop-next.left c.loop-next.state c.loop-next.value c.loop-next.next (none_of _ c.in_default.not-Some)
+
+pub run_shortcodes-returns-clause-ends : goal.run_shortcodes-returns-clause-ends
+run_shortcodes-returns-clause-ends g t c =
+    scan_on (invoke (engine_with g.S.Stated.says (shapes_of g.S.Stated.number c.args.plugins.now))) c.args.state.now c.args.text.now c.as_slice.result.now (c.as_slice.ensures.value ∙ c.in_ok-pieces.ensures.pieces) _ _ c.run_pieces.ensures.ends

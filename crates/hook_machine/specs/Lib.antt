@@ -1,0 +1,5 @@
+pub mod World
+pub mod Trace
+pub mod Meaning
+pub mod Ends
+pub mod Runs

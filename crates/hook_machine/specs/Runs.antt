@@ -1,0 +1,28 @@
+-- What contracts see of a run.
+use Rattle.std.specs.Prelude.{ℕ, Option, None, Some, Result, Ok, Err}
+use Rattle.hook_changes.specs.declared.reply.Call.{Call}
+use Rattle.hook_changes.specs.declared.reply.Reply.{Reply}
+use Rattle.callback_store.specs.Shape.{shapes_of}
+use Rattle.hook_machine.specs.declared.fault.RunFault.{RunFault}
+use Rattle.hook_machine.specs.declared.run.Run.{Run}
+use Rattle.hook_machine.specs.World.{World}
+use Rattle.hook_machine.specs.Meaning.{Engine}
+use Rattle.hook_machine.specs.Ends.{engine_with}
+
+module _ {S : Type 0} where
+  -- what the request has
+  abbrev pub world_of : Run S → World
+  world_of run = run.state
+
+  -- the fault that the run has answered, if it has
+  abbrev pub fault_of : Run S → Option RunFault
+  fault_of run = run.fault
+
+  -- the stated replies, and the plugins of the run
+  abbrev pub engine_of : (ℕ → Call → Reply) → (S → ℕ) → Run S → Engine
+  engine_of says number run = engine_with says (shapes_of number run.plugins.now)
+
+-- the fault of a result
+abbrev pub fault_in : {A : Type 0} → Result A RunFault → Option RunFault
+fault_in (Ok x) = None
+fault_in (Err fault) = Some fault

@@ -1,0 +1,13 @@
+//! What a request's callbacks do: passes over hooks, what callbacks ask of the engine, and shortcodes.
+#![tactic(auto)]
+
+mod asks;
+mod changes;
+mod fault;
+mod machine;
+mod pass;
+mod run;
+mod state;
+
+pub use fault::RunFault;
+pub use run::Run;

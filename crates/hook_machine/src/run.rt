@@ -1,0 +1,201 @@
+// A request's run, as its page sees it.
+ghost use Rattle.std.specs.Prelude.{◌≡◌, IfOk};
+ghost use Rattle.hook_machine.specs.Runs.{fault_in};
+
+use crate::fault::RunFault;
+use crate::machine::{run_action, run_filter, run_shortcodes};
+use crate::state::State;
+use callback_store::{Plugins, Stated};
+use hook_changes::{Listed, Text};
+use std::alloc::{AllocError, Global};
+
+/// A run of a request's callbacks. It borrows the plugins and copies the rest, so that no later edit reaches it.
+///
+/// Once a call has answered a fault, each later call answers that same fault.
+#[derive(Drop)]
+pub struct Run<'a, S> {
+    plugins: &'a Plugins<S>,
+    state: State,
+    fault: Option<RunFault>,
+}
+
+/// Copies texts.
+fn copied(alloc: Global, texts: &[Text]) -> Result<Listed<Text>, AllocError>
+    ensures { IfOk result (λ copies. copies ≡ texts.now) }
+{
+    let mut copies = Listed::empty(alloc);
+    for text in texts {
+        copies.push(text.clone()?)?;
+    }
+    Ok(copies)
+}
+
+/// Copies pairs of texts.
+fn copied_pairs(alloc: Global, pairs: &[(Text, Text)]) -> Result<Listed<(Text, Text)>, AllocError>
+    ensures { IfOk result (λ copies. copies ≡ pairs.now) }
+{
+    let mut copies = Listed::empty(alloc);
+    for pair in pairs {
+        let name = pair.0.clone()?;
+        let value = pair.1.clone()?;
+        copies.push((name, value))?;
+    }
+    Ok(copies)
+}
+
+fn fault_in<T>(outcome: &Result<T, RunFault>) -> Option<RunFault>
+    ensures { result ≡ fault_in outcome.now }
+{
+    match outcome {
+        Ok(_) => None,
+        Err(fault) => Some(*fault),
+    }
+}
+
+impl<'a, S: Stated> Run<'a, S> {
+    ghost use Rattle.std.specs.Prelude.{◌≡◌, ◌++◌, [], None, Some, IfOk, IfErr, IfSome, OnOk, IsOk};
+    ghost use Rattle.callback_store.specs.Shape.{shapes_of};
+    ghost use Rattle.hook_machine.specs.World.{fresh, loaded};
+    ghost use Rattle.hook_machine.specs.Meaning.{filtered, acted, replaced};
+    ghost use Rattle.hook_machine.specs.Ends.{Ends, engine_with};
+    ghost use Rattle.hook_machine.specs.Runs.{world_of, fault_of, engine_of};
+
+    /// A run with nothing registered and nothing printed, of a site with these active plugins and options, that may
+    /// make so many invocations. Where an option has two values, the first counts.
+    pub fn new(
+        alloc: Global,
+        plugins: &'a Plugins<S>,
+        active: &[Text],
+        options: &[(Text, Text)],
+        calls: u32,
+    ) -> Result<Self, RunFault>
+        ensures world { IfOk result (λ run. world_of run ≡ fresh calls options.now active.now) }
+        ensures sound { IfOk result (λ run. fault_of run ≡ None) }
+        ensures engine { IfOk result (λ run. engine_of S.says S.number run ≡ engine_with S.says (shapes_of S.number plugins.entry.now)) }
+        ensures err { IfErr result (λ fault. fault ≡ RunFault.OutOfMemory) }
+    {
+        let active = copied(alloc, active)?;
+        let options = copied_pairs(alloc, options)?;
+        Ok(Run {
+            plugins,
+            state: State::new(alloc, active, options, calls),
+            fault: None,
+        })
+    }
+
+    /// Carries out core's own registration, and then the load lists of the active plugins in the order of their names.
+    /// It invokes no callback.
+    pub fn load(&mut self) -> Result<(), RunFault>
+        ensures loaded { fault_of self.old ≡ None → OnOk result (world_of self.new ≡ loaded (engine_of S.says S.number self.old).plugins (world_of self.old)) }
+        ensures memory { fault_of self.old ≡ None → IfErr result (λ fault. fault ≡ RunFault.OutOfMemory) }
+        ensures sound { OnOk result (fault_of self.new ≡ None) }
+        ensures fault { IfErr result (λ fault. fault_of self.new ≡ Some fault) }
+        ensures again { IfSome (fault_of self.old) (λ fault. result ≡ Err fault) }
+        ensures engine { engine_of S.says S.number self.new ≡ engine_of S.says S.number self.old }
+    {
+        if let Some(fault) = self.fault {
+            return Err(fault);
+        }
+        match self.state.load(self.plugins) {
+            Ok(()) => Ok(()),
+            Err(AllocError) => {
+                self.fault = Some(RunFault::OutOfMemory);
+                Err(RunFault::OutOfMemory)
+            }
+        }
+    }
+
+    /// The value behind the callbacks of a filter (Code Reference, apply_filters). A text that is no hook's name gives
+    /// the value back.
+    pub fn apply_filters(
+        &mut self,
+        hook: &str,
+        value: Text,
+        args: &Listed<Text>,
+    ) -> Result<Text, RunFault>
+        ensures filtered { fault_of self.old ≡ None → Ends (filtered (engine_of S.says S.number self.old) (world_of self.old) hook.now value args.now) result (world_of self.new) }
+        ensures sound { OnOk result (fault_of self.new ≡ None) }
+        ensures fault { IfErr result (λ fault. fault_of self.new ≡ Some fault) }
+        ensures again { IfSome (fault_of self.old) (λ fault. result ≡ Err fault) }
+        ensures engine { engine_of S.says S.number self.new ≡ engine_of S.says S.number self.old }
+    {
+        if let Some(fault) = self.fault {
+            return Err(fault);
+        }
+        let result = run_filter(self.plugins, &mut self.state, hook, value, args);
+        self.fault = fault_in(&result);
+        result
+    }
+
+    /// Runs the callbacks of an action (Code Reference, do_action). A text that is no hook's name does nothing.
+    pub fn do_action(&mut self, hook: &str, args: &Listed<Text>) -> Result<(), RunFault>
+        ensures acted { fault_of self.old ≡ None → Ends (acted (engine_of S.says S.number self.old) (world_of self.old) hook.now args.now) result (world_of self.new) }
+        ensures sound { OnOk result (fault_of self.new ≡ None) }
+        ensures fault { IfErr result (λ fault. fault_of self.new ≡ Some fault) }
+        ensures again { IfSome (fault_of self.old) (λ fault. result ≡ Err fault) }
+        ensures engine { engine_of S.says S.number self.new ≡ engine_of S.says S.number self.old }
+    {
+        if let Some(fault) = self.fault {
+            return Err(fault);
+        }
+        match run_action(self.plugins, &mut self.state, hook, args) {
+            Ok(_nothing) => Ok(()),
+            Err(fault) => {
+                self.fault = Some(fault);
+                Err(fault)
+            }
+        }
+    }
+
+    /// A text with its shortcodes replaced (Code Reference, do_shortcode).
+    pub fn do_shortcode(&mut self, text: &str) -> Result<Text, RunFault>
+        ensures replaced { fault_of self.old ≡ None → Ends (replaced (engine_of S.says S.number self.old) (world_of self.old) text.now) result (world_of self.new) }
+        ensures sound { OnOk result (fault_of self.new ≡ None) }
+        ensures fault { IfErr result (λ fault. fault_of self.new ≡ Some fault) }
+        ensures again { IfSome (fault_of self.old) (λ fault. result ≡ Err fault) }
+        ensures engine { engine_of S.says S.number self.new ≡ engine_of S.says S.number self.old }
+    {
+        if let Some(fault) = self.fault {
+            return Err(fault);
+        }
+        let result = run_shortcodes(self.plugins, &mut self.state, text);
+        self.fault = fault_in(&result);
+        result
+    }
+
+    /// Prints a text of the page's own, behind what was printed so far.
+    pub fn print(&mut self, text: &str) -> Result<(), RunFault>
+        ensures printed { fault_of self.old ≡ None → OnOk result (world_of self.new ≡ record (world_of self.old) { output = (world_of self.old).output ++ text.now }) }
+        ensures memory { fault_of self.old ≡ None → IfErr result (λ fault. fault ≡ RunFault.OutOfMemory) }
+        ensures sound { OnOk result (fault_of self.new ≡ None) }
+        ensures fault { IfErr result (λ fault. fault_of self.new ≡ Some fault) }
+        ensures again { IfSome (fault_of self.old) (λ fault. result ≡ Err fault) }
+        ensures engine { engine_of S.says S.number self.new ≡ engine_of S.says S.number self.old }
+    {
+        if let Some(fault) = self.fault {
+            return Err(fault);
+        }
+        match self.state.echo(text) {
+            Ok(()) => Ok(()),
+            Err(AllocError) => {
+                self.fault = Some(RunFault::OutOfMemory);
+                Err(RunFault::OutOfMemory)
+            }
+        }
+    }
+
+    /// Takes what was printed so far, which leaves nothing printed. It takes no memory.
+    pub fn take_output(&mut self) -> Result<Text, RunFault>
+        ensures text { fault_of self.old ≡ None → IfOk result (λ text. (text ≡ (world_of self.old).output) × (world_of self.new ≡ record (world_of self.old) { output = [] })) }
+        ensures succeeds { fault_of self.old ≡ None → IsOk result }
+        ensures sound { OnOk result (fault_of self.new ≡ None) }
+        ensures fault { IfErr result (λ fault. fault_of self.new ≡ Some fault) }
+        ensures again { IfSome (fault_of self.old) (λ fault. result ≡ Err fault) }
+        ensures engine { engine_of S.says S.number self.new ≡ engine_of S.says S.number self.old }
+    {
+        if let Some(fault) = self.fault {
+            return Err(fault);
+        }
+        Ok(self.state.take_output())
+    }
+}

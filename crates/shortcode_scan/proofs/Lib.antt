@@ -1,0 +1,6 @@
+pub mod PlaceLemmas
+pub mod LiveLemmas
+pub mod MatchLemmas
+pub mod PieceLemmas
+pub mod MemoryLemmas
+pub mod SpanLemmas

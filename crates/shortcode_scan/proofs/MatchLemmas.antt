@@ -1,0 +1,109 @@
+-- Where a match stands: from its place on, within the text.
+use Rattle.std.proofs.Common.{◌≡◌, ℕ, ◌+◌, ◌<◌, ◌≤◌, false, List, length, Option, Some, None, refl, sym, ◌∙◌, subst, arith, inl, inr}
+use Rattle.std.specs.Prelude.{◌==◌, slice_index, nat_lt, ◌&&◌, ◌-◌}
+use Rattle.std.proofs.lemmas.List.{get_or_past}
+use Rattle.std.proofs.lemmas.Bool.{cases_lt, cond_both, false≢true}
+use Rattle.std.proofs.lemmas.Option.{none-some, same_Some}
+use Rattle.memchr.specs.Find.{occurs_at}
+use Rattle.memchr.proofs.lemmas.MatchLemmas.{OccursAt-true}
+use Rattle.shortcode_scan.specs.declared.Span.{Span}
+use Rattle.shortcode_scan.specs.declared.matches.Core.{Core}
+use Rattle.shortcode_scan.specs.declared.Piece.{Piece}
+use Rattle.shortcode_scan.specs.declared.Piece.TheVariants.{Plain, Match}
+use Rattle.shortcode_atts.specs.Steps.{◌>>=◌}
+use Rattle.shortcode_atts.proofs.StepLemmas.{bind_some, only_if-some}
+use Rattle.shortcode_scan.specs.Matches.{closing_tag, closing_from, is_doubled, core_of, without_content, with_closing, name_start, name_at, bracket_from, with_extras, match_at, span}
+use Rattle.shortcode_scan.specs.Pieces.{start_of, end_of}
+use Rattle.shortcode_scan.proofs.PlaceLemmas.{first_place-some}
+
+-- a piece that is a match
+abbrev IsMatch : Piece → Type 0
+IsMatch (Plain s) = ⊥
+IsMatch (Match _ _ _ _ _ _) = Unit {0}
+
+-- what holds of each answer of the last step holds of the whole
+after_step : {A B : Type 0} (P : B → Type 0) (o : Option A) (f : A → Option B) → ((x : A) (y : B) → f x ≡ Some y → P y) → (y : B) → (o >>= f) ≡ Some y → P y
+after_step P None f h y e = absurd (none-some y e)
+after_step P (Some x) f h y e = h x y e
+
+is_match : (text : List ℕ) (i : ℕ) (name : Span) (core : Core) (p : Piece) → Some (with_extras text i name core) ≡ Some p → IsMatch p
+unfolding with_extras
+is_match text i name core p e = subst IsMatch (same_Some _ _ e) tt
+
+module _ (names : List (List ℕ)) (text : List ℕ) where
+  -- no match begins where there is no `[`
+  pub match_at-elsewhere : (i : ℕ) → (slice_index text i == 91) ≡ false → match_at names text i ≡ None
+  unfolding match_at name_start
+  match_at-elsewhere i e = rw e refl
+
+  pub match_at-within : (i : ℕ) (p : Piece) → match_at names text i ≡ Some p → i < length text
+  match_at-within i p e =
+      elim (cases_lt i (length text)) [
+        | inl lt ↦ lt
+        | inr le ↦ absurd (none-some p (sym (match_at-elsewhere i (rw (get_or_past text i 0 le) refl)) ∙ e))
+      ]
+
+  -- a match is no plain piece
+  pub match_at-not_plain : (i : ℕ) (s : Span) → match_at names text i ≡ Some (Plain s) → ⊥
+  unfolding match_at
+  match_at-not_plain i s e =
+      after_step IsMatch (name_start text i) _
+      (λ start. after_step IsMatch (name_at names text start) _
+      (λ name. after_step IsMatch (bracket_from text (start + length name)) _ (λ r. is_match text i _ _)))
+      (Plain s) e
+
+-- from i on, and not empty, within the text
+abbrev pub LiesAt : List ℕ → ℕ → Piece → Type 0
+LiesAt text i p = (start_of p ≡ i) × (i < end_of p) × (end_of p ≤ length text)
+
+-- a core ends behind the first `]`, within the text
+abbrev pub EndsWithin : List ℕ → ℕ → Core → Type 0
+EndsWithin text r core = (r < core.end) × (core.end ≤ length text)
+
+closing_ends : (text name : List ℕ) (e r : ℕ) (o : Option ℕ) → closing_from text name (r + 1) ≡ o → r < length text → EndsWithin text r (with_closing name e r o)
+closing_ends text name e r None eq lt = (omega arith, omega arith)
+closing_ends text name e r (Some k) eq lt =
+    let h = first_place-some (occurs_at text (closing_tag name)) (r + 1) (length text) k eq in
+    let there = OccursAt-true text (closing_tag name) k h.here in
+    (omega (arith, h.low_le), there.fits)
+
+pub core_ends : (text name : List ℕ) (e r : ℕ) → r < length text → EndsWithin text r (core_of text name e r)
+unfolding core_of
+core_ends text name e r lt =
+    cond_both (nat_lt e r && slice_index text (r - 1) == 47) (without_content (span e (r - 1)) (r + 1)) (with_closing name e r (closing_from text name (r + 1)))
+    (EndsWithin text r) (λ _. (omega arith, omega arith)) (λ _. closing_ends text name e r _ refl lt)
+
+with_extras-lies : (text : List ℕ) (i : ℕ) (name : Span) (core : Core) → i < core.end → core.end ≤ length text → LiesAt text i (with_extras text i name core)
+unfolding with_extras
+with_extras-lies text i name core lt le = (
+  refl,
+  cond_both (slice_index text core.end == 93) (core.end + 1) core.end (λ n. i < n) (λ _. omega arith) (λ _. lt),
+  cond_both (slice_index text core.end == 93) (core.end + 1) core.end (λ n. n ≤ length text)
+      (λ closing. elim (cases_lt core.end (length text)) [
+        | inl inside ↦ omega arith
+        | inr past ↦ absurd (false≢true (sym (rw (get_or_past text core.end 0 past) refl) ∙ closing))
+      ])
+      (λ _. le),
+)
+
+pub name_start-after : (text : List ℕ) (i start : ℕ) → name_start text i ≡ Some start → i < start
+unfolding name_start
+name_start-after text i start e =
+    let begun = only_if-some (slice_index text i == 91) _ start e in
+    subst (λ n. i < n) begun.1 (cond_both (is_doubled text i) (i + 2) (i + 1) (λ n. i < n) (λ _. omega arith) (λ _. omega arith))
+
+module _ (names : List (List ℕ)) (text : List ℕ) where
+  pub match_at-lies : (i : ℕ) (p : Piece) → match_at names text i ≡ Some p → LiesAt text i p
+  unfolding match_at
+  match_at-lies i p e =
+      let a = bind_some (name_start text i) _ p e in
+      let start = a.0 in
+      let b = bind_some (name_at names text start) _ p a.2 in
+      let name = b.0 in
+      let c = bind_some (bracket_from text (start + length name)) _ p b.2 in
+      let r = c.0 in
+      let after = name_start-after text i start a.1 in
+      let h = first_place-some (λ k. slice_index text k == 93) (start + length name) (length text) r c.1 in
+      let ends = core_ends text name (start + length name) r h.below in
+      subst (LiesAt text i) (same_Some _ p c.2)
+      (with_extras-lies text i (span start (start + length name)) (core_of text name (start + length name) r) (omega (arith, after, h.low_le, ends.0)) ends.1)

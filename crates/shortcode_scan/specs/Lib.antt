@@ -1,0 +1,7 @@
+pub mod Places
+pub mod Matches
+pub mod Pieces
+pub mod Spans
+pub mod Live
+pub mod Memory
+pub mod Rows

@@ -1,0 +1,113 @@
+//! What a scan has found ahead of its place, so that no stretch of the text is searched twice for the same thing.
+ghost use Rattle.std.specs.Prelude.{◌≡◌, ◌+◌, ◌<◌, ◌≤◌, length, IsTrue, IfOk, IfSome};
+ghost use Rattle.memchr.specs.Find.{occurs_at};
+ghost use Rattle.shortcode_scan.specs.Places.{first_place};
+ghost use Rattle.shortcode_scan.specs.Matches.{bracket_from};
+ghost use Rattle.shortcode_scan.specs.Memory.{IsAheadOf, Knows};
+
+use crate::places::{bracket_from, closing_tag, tag_from};
+use hook_changes::TagName;
+use memchr::memmem::Finder;
+use std::alloc::{AllocError, Global};
+
+/// What a search from a place on found: up to there nothing has to be searched again.
+#[derive(Clone, Copy)]
+pub(crate) struct Ahead {
+    pub(crate) from: usize,
+    pub(crate) next: Option<usize>,
+}
+
+/// What the searches of a scan found.
+#[derive(Drop)]
+pub(crate) struct Memory {
+    /// The next `]`.
+    pub(crate) bracket: Ahead,
+    /// The searches for the closing tags of the names, in their order.
+    pub(crate) tags: Vec<Finder<'static>>,
+    /// For each name the next closing tag, or that there is none.
+    pub(crate) closings: Vec<Ahead>,
+}
+
+impl Ahead {
+    /// Whether it answers a search from the place on too.
+    fn covers(&self, from: usize) -> bool
+        ensures { IsTrue result → (self.now.from ≤ from) × IfSome self.now.next (λ k. from ≤ k) }
+    {
+        self.from <= from
+            && match self.next {
+                Some(k) => from <= k,
+                None => true,
+            }
+    }
+}
+
+/// The first `]` from a place on.
+pub(crate) fn next_bracket(text: &[u8], ahead: &mut Ahead, from: usize) -> Option<usize>
+    requires in_text { from ≤ length text.now }
+    requires known { ahead.old.next ≡ bracket_from text.now ahead.old.from }
+    ensures value { result ≡ bracket_from text.now from }
+    ensures within { IfSome result (λ k. (from ≤ k) × (k < length text.now)) }
+    ensures known { ahead.new.next ≡ bracket_from text.now ahead.new.from }
+{
+    if ahead.covers(from) {
+        return ahead.next;
+    }
+    *ahead = Ahead {
+        from,
+        next: bracket_from(text, from),
+    };
+    ahead.next
+}
+
+/// The first place of the tag from a place on.
+pub(crate) fn next_closing(
+    text: &[u8],
+    tag: &Finder<'static>,
+    ahead: &mut Ahead,
+    from: usize,
+) -> Option<usize>
+    requires in_text { from ≤ length text.now }
+    requires some { 0 < length tag.now }
+    requires known { IsAheadOf text.now tag.now ahead.old }
+    ensures value { result ≡ first_place (occurs_at text.now tag.now) from (length text.now) }
+    ensures within { IfSome result (λ k. (from ≤ k) × (k + length tag.now ≤ length text.now)) }
+    ensures known { IsAheadOf text.now tag.now ahead.new }
+{
+    if ahead.covers(from) {
+        return ahead.next;
+    }
+    *ahead = Ahead {
+        from,
+        next: tag_from(text, tag, from),
+    };
+    ahead.next
+}
+
+/// What the first searches, from the front of the text, find.
+pub(crate) fn first_memory(
+    alloc: Global,
+    names: &[TagName],
+    text: &[u8],
+) -> Result<Memory, AllocError>
+    ensures { IfOk result (Knows names.now text.now) }
+{
+    let mut tags = Vec::new(alloc);
+    let mut closings = Vec::new(alloc);
+    for name in names {
+        let tag = closing_tag(alloc, name.as_str().as_bytes())?;
+        closings.push(Ahead {
+            from: 0,
+            next: tag_from(text, &tag, 0),
+        })?;
+        tags.push(tag)?;
+    }
+    let bracket = Ahead {
+        from: 0,
+        next: bracket_from(text, 0),
+    };
+    Ok(Memory {
+        bracket,
+        tags,
+        closings,
+    })
+}

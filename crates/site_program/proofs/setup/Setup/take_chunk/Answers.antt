@@ -1,0 +1,84 @@
+use Rattle.std.proofs.Common.{rules, arith, ◌≡◌, ◌⊎◌, ◌-◌, ◌<◌, ◌≤◌, [], ◌∷◌, ◌++◌, refl, inl, inr, sym, ap, ◌∙◌, Err, length, length-append, take}
+use Rattle.std.proofs.lemmas.Grind.{common_steps}
+use Rattle.std.proofs.KnownBytes.{Appends-nil}
+use Rattle.site_program.specs.Lines.{IsLine, max_line}
+use Rattle.site_program.specs.Stream.{IsTooLong}
+use Rattle.site_program.proofs.Streams.{Takes-line, IsLine-nil, IsLine-before, IsLine-whole, IsTooLong-before, IsTooLong-whole, whole_line, fault_at, FaultsAt-finish, some_of, no_newline_found}
+use Rattle.std.proofs.lemmas.Result.{err_from_is_err_and}
+use Rattle.site_program.proofs.setup.Setup.take_chunk.Goals as goal
+use Rattle.site_program.proofs.setup.Setup.take_chunk.Goals.{then-left-eq0-via-then-left-eq0, then-left-eq0-via-else-left-eq0+then-end-len, then-left-eq0-2-via-then-left-eq0-2, then-left-eq0-2-via-else-left-eq0-2+then-rest-len}
+
+-- a line too many, or one too long
+pub returns-then-left-eq0-clause-err : goal.returns-then-left-eq0-clause-err
+returns-then-left-eq0-clause-err g c =
+    let i = c.loop-end.invariant in
+    let held = c.loop-end.held.items in
+    let rest = c.loop-end.rest.now in
+    let found = c.in-Some.ensures in
+    let some : 0 < length (held ++ rest) = let high = found.0.high in simp length-append (omega arith) in
+    let past : (c.loop-end.left ≡ 0) ⊎ IsTooLong (held ++ rest) =
+    elim c.then-left-eq0.branch [
+      | then-left-eq0-via-then-left-eq0 w ↦ inl (search rules)
+      | then-left-eq0-via-else-left-eq0+then-end-len w ↦ let same = c.loop-end.held.ok.0 in inr (IsTooLong-before held rest c.in-Some.end i.line found (omega (arith, same)))
+    ] in
+    fault_at _ _ _ _ _ _ _ _ _ _ _ _ _ _ i.taken i.whole (refl, Appends-nil _, some, past)
+
+pub returns-then-left-eq0-2-clause-err : goal.returns-then-left-eq0-2-clause-err
+returns-then-left-eq0-2-clause-err g c =
+    let i = c.loop-end.invariant in
+    let held = c.loop-end.held.items in
+    let rest = c.loop-end.rest.now in
+    let more : 0 < length rest = some_of (length rest) (sym c.is_empty.ensures ∙ c.if-is_empty.false) in
+    let some : 0 < length (held ++ rest) = simp length-append (omega arith) in
+    let none = no_newline_found rest c.memchr.result c.memchr.ensures c.in_default.not-Some in
+    let past : (c.loop-end.left ≡ 0) ⊎ IsTooLong (held ++ rest) =
+    elim c.then-left-eq0-2.branch [
+      | then-left-eq0-2-via-then-left-eq0-2 w ↦ inl (search rules)
+      | then-left-eq0-2-via-else-left-eq0-2+then-rest-len w ↦ let same = c.loop-end.held.ok.0 in inr (IsTooLong-whole held rest i.line none (omega (arith, same)))
+    ] in
+    fault_at _ _ _ _ _ _ _ _ _ _ _ _ _ _ i.taken i.whole (refl, Appends-nil _, some, past)
+
+-- the line is carried out, and its newline goes
+pub loop-end-preserved : goal.loop-end-preserved
+loop-end-preserved g c =
+    let i = c.loop-end.invariant in
+    let held = c.loop-end.held.items in
+    let rest = c.loop-end.rest.now in
+    let end = c.in-Some.end in
+    let found = c.in-Some.ensures in
+    let ok = c.in_ok-finish_line.ensures.ok in
+    let same = c.loop-end.held.ok.0 in
+    let fits : end ≤ max_line - length held = omega (arith, same) in
+    let room : 0 < c.loop-end.left = omega arith in
+    let line : IsLine (held ++ take end rest) = IsLine-before held rest (take end rest) end refl i.line found fits in
+    record {
+      stretch = i.stretch ++ (take end rest ++ 10 ∷ []);
+      whole = whole_line i.stretch rest _ (take end rest) _ end refl (grind (arith, common_steps)) found i.whole;
+      taken = rw c.in_ok-finish_line.ensures.empty (Takes-line _ _ _ _ _ _ _ _ _ _ _ _ ok.0 i.taken line room ok.1 ok.2);
+      line = rw c.in_ok-finish_line.ensures.empty IsLine-nil;
+      room = rw c.in_ok-finish_line.ensures.empty (λ h. absurd (omega arith));
+      sound = search rules;
+    }
+
+-- the line found no memory, or its reply was not written
+pub returns-in_err-finish_line-clause-err : goal.returns-in_err-finish_line-clause-err
+returns-in_err-finish_line-clause-err g c =
+    let i = c.loop-end.invariant in
+    let held = c.loop-end.held.items in
+    let rest = c.loop-end.rest.now in
+    let end = c.in-Some.end in
+    let found = c.in-Some.ensures in
+    let same = c.loop-end.held.ok.0 in
+    let fits : end ≤ max_line - length held = omega (arith, same) in
+    let line : IsLine (held ++ take end rest) = IsLine-before held rest (take end rest) end refl i.line found fits in
+    let err = c.in_err-finish_line.ensures in
+    let p = err_from_is_err_and c.from_residual.result c.from_residual.ensures.1 in
+    let faults = FaultsAt-finish _ _ _ _ held rest _ _ _ _ _ refl found line err.only (λ e. err.write (ap Err e)) (λ e. err.memory (ap Err e)) in
+    rw (p.1, p.2) (fault_at _ _ _ _ _ _ _ _ _ _ _ _ _ _ i.taken i.whole faults)
+
+pub returns-in-Ok-clause-line : goal.returns-in-Ok-clause-line
+returns-in-Ok-clause-line g c =
+    let i = c.loop-end.invariant in
+    let same = c.loop-end.held.ok.0 in
+    let none = no_newline_found c.loop-end.rest.now c.memchr.result c.memchr.ensures c.in_default.not-Some in
+    rw c.in-Ok.ensures.items (IsLine-whole c.loop-end.held.items c.loop-end.rest.now i.line none (omega (arith, same)))

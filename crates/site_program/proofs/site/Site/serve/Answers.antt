@@ -1,0 +1,66 @@
+use Rattle.std.proofs.Common.{rules, arith, ◌≡◌, ◌<◌, ◌∙◌, sym, subst, length}
+use Rattle.site_program.specs.Serving.{FailsAt}
+use Rattle.site_program.specs.Step.{Answers, steps_of}
+use Rattle.std.proofs.KnownBytes.{Consumes-trans}
+use Rattle.std.proofs.lemmas.Bool.{eqb-true}
+use Rattle.std.proofs.lemmas.Result.{err_from_is_err_and}
+use Rattle.site_program.proofs.Streams.{some_of}
+use Rattle.site_program.proofs.Endings.{Stops-from_faults, Faults-after, Takes-trans, Consumes-none, ServesAll-from, ServesAll-from_last, Stops-from_last, answers_told}
+use Rattle.site_program.proofs.site.Site.serve.Goals as goal
+use Rattle.site_program.proofs.site.Site.serve.Goals.{then-not-is_empty+in_ok-answer, else-not-is_empty}
+
+pub chunks-preserved : goal.chunks-preserved
+chunks-preserved g c =
+    let i = c.chunks.invariant in
+    let ok = c.in_ok-take_chunk.ensures in
+    record {
+      stretch = _;
+      read = Consumes-trans _ _ _ _ _ i.read c.in-Ok.ensures.bytes.0;
+      taken = Takes-trans _ _ _ _ _ _ _ _ _ _ _ _ _ _ i.taken ok.ok;
+      line = ok.line;
+      room = ok.room;
+      reader_sound = search rules;
+      writer_sound = search rules;
+    }
+
+pub returns-in_err-take_chunk-clause-stopped : goal.returns-in_err-take_chunk-clause-stopped
+returns-in_err-take_chunk-clause-stopped g c =
+    let i = c.chunks.invariant in
+    let err = c.in_err-take_chunk.ensures.err in
+    let p = err_from_is_err_and c.from_residual.result c.from_residual.ensures.1 in
+    let read = Consumes-trans _ _ _ _ _ i.read c.in-Ok.ensures.bytes.0 in
+    rw (p.1, p.2) (Stops-from_faults _ _ _ _ _ _ _ _ _ read (Faults-after _ _ _ _ _ _ _ _ _ _ _ _ _ i.taken err))
+
+pub returns-in_err-answer-clause-stopped : goal.returns-in_err-answer-clause-stopped
+returns-in_err-answer-clause-stopped g c =
+    let i = c.chunks.invariant in
+    let p = err_from_is_err_and c.from_residual-in_err-answer.result c.from_residual-in_err-answer.ensures.1 in
+    let read = Consumes-none _ _ _ _ _ _ i.read c.in-Ok.ensures.bytes.0 c.if-count-eq0.true in
+    let end = c.in-Ok.ensures.bytes.1 c.if-count-eq0.true (omega arith) in
+    let same = c.chunks.held.ok.0 in
+    let counted = some_of _ (sym c.is_empty.ensures ∙ c.if-not-is_empty.true) in
+    let some : 0 < length c.chunks.held.items = omega (arith, same, counted) in
+    let fails = subst (λ line. FailsAt (steps_of g.S.Stated.says g.S.Stated.number c.args.self.now.setup) c.chunks.rows line (g.W.Sink.contents c.chunks.writer) (g.W.Sink.contents c.answer.new.writer) c.answer.new.rows) c.deref.ensures.value c.in_err-answer.ensures.err in
+    rw (p.1, p.2, c.in_err-answer.ensures.fault) (Stops-from_last _ _ _ _ _ _ _ _ _ _ _ _ read end i.taken i.line some fails)
+
+pub returns-clause-ok : goal.returns-clause-ok
+returns-clause-ok g c =
+    let i = c.chunks.invariant in
+    let read = Consumes-none _ _ _ _ _ _ i.read c.in-Ok.ensures.bytes.0 c.if-count-eq0.true in
+    let end = c.in-Ok.ensures.bytes.1 c.if-count-eq0.true (omega arith) in
+    let same = c.chunks.held.ok.0 in
+    elim c.if-not-is_empty.branch [
+      | then-not-is_empty+in_ok-answer w ↦
+          let counted = some_of _ (sym c.is_empty.ensures ∙ w.if-not-is_empty.true) in
+          let some : 0 < length c.chunks.held.items = omega (arith, same, counted) in
+          let ok = w.in_ok-answer.ensures.ok in
+          let answered = subst (λ line. Answers (steps_of g.S.Stated.says g.S.Stated.number c.args.self.now.setup) c.chunks.rows line ok.0 w.answer.new.rows) w.deref.ensures.value ok.1 in
+          rw (w.writer-is, w.self-is) (ServesAll-from_last _ _ _ _ _ _ _ ok.0 _ _ _ _ _ read end i.taken i.line some (i.room some) answered ok.2)
+      | else-not-is_empty w ↦
+          let counted = eqb-true _ _ (sym c.is_empty.ensures ∙ w.if-not-is_empty.false) in
+          let none : length c.chunks.held.items ≡ 0 = omega (arith, same, counted) in
+          rw (w.writer-is, w.self-is) (ServesAll-from _ _ _ _ _ _ _ _ _ _ read end i.taken none)
+    ]
+
+pub returns-clause-answered : goal.returns-clause-answered
+returns-clause-answered g c = answers_told _ _ _ _ _ _ _ (returns-clause-ok g c)

@@ -1,0 +1,76 @@
+-- What serving an input does to a site's rows and what it writes.
+use Rattle.std.specs.Prelude.{◌≡◌, ◌⊎◌, ℕ, ◌<◌, ◌≤◌, List, [], ◌∷◌, ◌++◌, length, Option, Result, Ok, Err, Bool, true, false, IfSome, All, flat_map}
+use Rattle.std.specs.Io.KnownBytes.{Appends, Consumes, IsAtEnd}
+use Rattle.ends.specs.Known.{AppendsFront}
+use Rattle.site_program.specs.Reply.{Answer, bytes_of}
+use Rattle.site_program.specs.Step.{Answers}
+use Rattle.site_program.specs.Lines.{lines_of, max_lines, max_line, IsLine, ended}
+use Rattle.site_program.specs.declared.rows.Rows.{Rows}
+use Rattle.site_program.specs.declared.fault.ServeFault.{ServeFault}
+use Rattle.site_program.specs.declared.fault.ServeFault.TheVariants as fault
+
+-- whether reading failed, and whether writing did
+abbrev pub is_read : Result (Unit {0}) ServeFault → Bool
+is_read (Ok x) = false
+is_read (Err fault.Read) = true
+is_read (Err _) = false
+
+abbrev pub is_write : Result (Unit {0}) ServeFault → Bool
+is_write (Ok x) = false
+is_write (Err fault.Write) = true
+is_write (Err _) = false
+
+-- the first of these lines is one too many, or too long
+abbrev pub GoesPast : List (List ℕ) → List (List ℕ) → Type 0
+GoesPast done [] = ⊥
+GoesPast done (line ∷ lines) = (length done ≡ max_lines) ⊎ (max_line < length line)
+
+-- Everything below is told for any meaning of a line: `steps` gives the rows after it, and the reply.
+module _ (steps : Rows → List ℕ → Rows × Answer) where
+  -- each line in order gives the bytes of its reply and the next rows
+  abbrev pub IsReplies : Rows → List (List ℕ) → List ℕ → Rows → Type 0
+  IsReplies old [] out new = (out ≡ []) × (new ≡ old)
+  IsReplies old (line ∷ lines) out new =
+      (reply : Answer) × (mid : Rows) × (later : List ℕ)
+      × Answers steps old line reply mid × (out ≡ bytes_of reply ++ later) × IsReplies mid lines later new
+
+  -- these lines, as many as there may be, were carried out and answered
+  pub record AnswersAll (old : Rows) (lines : List (List ℕ)) (before after : Option (List ℕ)) (new : Rows) : Type 0 where
+    pub out : List ℕ
+    pub replied : IsReplies old lines out new
+    pub written : Appends before after out
+    pub count : length lines ≤ max_lines
+    pub each : All IsLine lines
+
+  -- the line was carried out, and its reply written in part
+  pub record FailsAt (old : Rows) (line : List ℕ) (before after : Option (List ℕ)) (new : Rows) : Type 0 where
+    pub reply : Answer
+    pub answered : Answers steps old line reply new
+    pub part : AppendsFront before after (bytes_of reply)
+
+  -- Serving stopped by the fault; `given` is what the source had, and `left` what it then has.
+  abbrev pub Stops : Rows → (given left before after : Option (List ℕ)) → Rows → ServeFault → Type 0
+  -- the lines that end in what was read were answered
+  Stops old given left before after new fault.Read =
+      (lines : List (List ℕ)) × (part : List ℕ) × AnswersAll old lines before after new × IsLine part
+      × Consumes given left (flat_map ended lines ++ part)
+  -- the lines before the one that goes past the limits were answered
+  Stops old given left before after new fault.TooMuchInput =
+      (lines : List (List ℕ)) × AnswersAll old lines before after new
+      × IfSome given (λ input. (further : List (List ℕ)) × (lines_of input ≡ lines ++ further) × GoesPast lines further)
+  -- the lines before one that found no memory were answered
+  Stops old given left before after new fault.OutOfMemory =
+      (lines : List (List ℕ)) × AnswersAll old lines before after new
+      × IfSome given (λ input. (further : List (List ℕ)) × (lines_of input ≡ lines ++ further) × (0 < length further))
+  -- the lines before were answered, and of this line's reply a part was written
+  Stops old given left before after new fault.Write =
+      (lines : List (List ℕ)) × (line : List ℕ) × (mid : Rows) × (between : Option (List ℕ))
+      × AnswersAll old lines before between mid × FailsAt mid line between after new
+      × IfSome given (λ input. (further : List (List ℕ)) × (lines_of input ≡ lines ++ line ∷ further))
+
+  -- All the input was read, each of its lines within the limits, and what was written is the replies to them.
+  pub record ServesAll (old : Rows) (given left before after : Option (List ℕ)) (new : Rows) : Type 0 where
+    pub lines : List (List ℕ)
+    pub answered : AnswersAll old lines before after new
+    pub whole : IfSome given (λ input. lines_of input ≡ lines)
+    pub end : IsAtEnd left

@@ -1,0 +1,27 @@
+//! The site that a program serves: lines of JSON come in, each is one command, and each gets one reply.
+//!
+//! [`Site::command`] carries out one line, and [`Site::serve`] a whole input, line by line. What a line means is the
+//! definition `step`; what an input means is `IsReplies`. The bundled plugins' callbacks are answered by
+//! [`bundled_reply`].
+#![tactic(auto)]
+
+mod bundle;
+mod command;
+mod fault;
+mod line;
+mod page;
+mod reply;
+mod rows;
+mod serve;
+mod setup;
+mod site;
+#[cfg(test)]
+mod tests;
+mod worked;
+
+pub use bundle::{Function, Stored, bundled_reply, marks};
+pub use ends::{EndFault, Reading, Sink, Source, Writing};
+pub use fault::ServeFault;
+pub use reply::{Refusal, SiteReply};
+pub use site::Site;
+pub use worked::worked_pages;

@@ -1,0 +1,186 @@
+//! Serving an input, line by line.
+use crate::fault::ServeFault;
+use crate::rows::Rows;
+use crate::setup::Setup;
+use crate::site::Site;
+use callback_store::Stated;
+use ends::{Sink, Source};
+use memchr::memchr;
+
+// The most lines that are served.
+const MAX_LINES: u32 = 1_000_000;
+
+// The most bytes that a line has, without its newline.
+const MAX_LINE: usize = 1_048_576;
+
+// How many bytes are read at a time.
+const CHUNK: usize = 65_536;
+
+impl<'p, S: Stated> Site<'p, S> {
+    ghost use Rattle.std.specs.Prelude.{◌≡◌, ℕ, List, Some, ◌++◌, false, OnOk, IfErr, IfSome};
+    ghost use Rattle.site_program.specs.Rows.{setup_of, rows_of};
+    ghost use Rattle.site_program.specs.Step.{steps_of};
+    ghost use Rattle.site_program.specs.Lines.{lines_of};
+    ghost use Rattle.site_program.specs.Serving.{is_read, is_write, IsReplies, ServesAll, Stops};
+
+    /// Carries out each line of the input, and writes its reply before the next line is carried out.
+    ///
+    /// A last line without a newline counts where it has a byte. At most 1,000,000 lines of at most 1,048,576 bytes are
+    /// served. At `Read`, `TooMuchInput` and `OutOfMemory` the lines before the fault are carried out and answered; at
+    /// `Write` the line whose reply could not be written is carried out too.
+    pub fn serve<R: Source, W: Sink>(
+        &mut self,
+        reader: &mut R,
+        writer: &mut W,
+    ) -> Result<(), ServeFault>
+        requires reader { R.has_failed reader.old ≡ false }
+        requires writer { W.has_failed writer.old ≡ false }
+
+        // What is read to its end is answered line by line, and nothing else is written.
+        ensures answered { OnOk result (IfSome (R.remaining reader.old) (λ input.
+            IfSome (W.contents writer.old) (λ before. (out : List ℕ)
+            × IsReplies (steps_of S.says S.number (setup_of self.old))
+            (rows_of self.old) (lines_of input) out (rows_of self.new)
+            × (W.contents writer.new ≡ Some (before ++ out))))) }
+        ensures ok { OnOk result (ServesAll (steps_of S.says S.number (setup_of self.old))
+            (rows_of self.old) (R.remaining reader.old) (R.remaining reader.new)
+            (W.contents writer.old) (W.contents writer.new) (rows_of self.new)) }
+
+        // What stands after each fault.
+        ensures stopped { IfErr result (Stops (steps_of S.says S.number (setup_of self.old))
+            (rows_of self.old) (R.remaining reader.old) (R.remaining reader.new)
+            (W.contents writer.old) (W.contents writer.new) (rows_of self.new)) }
+
+        // Two of them come only where an end failed.
+        ensures read { R.has_failed reader.new ≡ is_read result }
+        ensures write { W.has_failed writer.new ≡ is_write result }
+        ensures setup { setup_of self.new ≡ setup_of self.old }
+    {
+        let Site { setup, rows } = self;
+        let mut chunk = [0u8; CHUNK];
+        let mut held = Vec::new(setup.alloc);
+        let mut left = MAX_LINES;
+        'chunks: loop {
+            let count = match reader.read(&mut chunk) {
+                Ok(count) => count,
+                Err(_) => return Err(ServeFault::Read),
+            };
+            if count == 0 {
+                break;
+            }
+            setup.take_chunk(rows, &mut held, &mut left, &chunk[..count], writer)?;
+        }
+        if !held.is_empty() {
+            setup.answer(rows, &held, writer)?;
+        }
+        Ok(())
+    }
+}
+
+impl<'p, S: Stated> Setup<'p, S> {
+    ghost use Rattle.std.specs.Prelude.{◌≡◌, ◌⊎◌, ◌<◌, ◌≤◌, ◌++◌, [], false, length, is_err, OnOk, OnErr, IfErr, IsErrOf};
+    ghost use Rattle.std.specs.Io.KnownBytes.{Appends};
+    ghost use Rattle.site_program.specs.Reply.{Answer, bytes_of};
+    ghost use Rattle.site_program.specs.Step.{Answers, steps_of};
+    ghost use Rattle.site_program.specs.Lines.{IsLine};
+    ghost use Rattle.site_program.specs.Serving.{is_write, FailsAt};
+    ghost use Rattle.site_program.specs.Stream.{Takes, Faults};
+
+    // Carries out the lines that end in the chunk, the first of which begins with what is held, and holds what follows them.
+    fn take_chunk<W: Sink>(
+        &self,
+        rows: &mut Rows,
+        held: &mut Vec<u8>,
+        left: &mut u32,
+        chunk: &[u8],
+        writer: &mut W,
+    ) -> Result<(), ServeFault>
+        requires whole { W.has_failed writer.old ≡ false }
+        requires line { IsLine held.old.items }
+        requires room { 0 < length held.old.items → 0 < left.old }
+        ensures ok { OnOk result (Takes (steps_of S.says S.number self.now)
+            rows.old left.old (held.old.items ++ chunk.now)
+            (W.contents writer.old) (W.contents writer.new) rows.new left.new held.new.items) }
+        ensures line { OnOk result (IsLine held.new.items) }
+        ensures room { OnOk result (0 < length held.new.items → 0 < left.new) }
+        ensures err { IfErr result (Faults (steps_of S.says S.number self.now)
+            rows.old left.old (held.old.items ++ chunk.now)
+            (W.contents writer.old) (W.contents writer.new) rows.new) }
+        ensures failed { W.has_failed writer.new ≡ is_write result }
+    {
+        let mut rest = chunk;
+        while let Some(end) = memchr(b'\n', rest) {
+            if *left == 0 || end > MAX_LINE - held.len() {
+                return Err(ServeFault::TooMuchInput);
+            }
+            self.finish_line(rows, held, &rest[..end], writer)?;
+            *left -= 1;
+            rest = &rest[end + 1..];
+        }
+        if rest.is_empty() {
+            return Ok(());
+        }
+        if *left == 0 || rest.len() > MAX_LINE - held.len() {
+            return Err(ServeFault::TooMuchInput);
+        }
+        match held.extend_from_slice(rest) {
+            Ok(()) => Ok(()),
+            Err(_) => Err(ServeFault::OutOfMemory),
+        }
+    }
+
+    // Carries out the line that ends with this part, and holds nothing more.
+    fn finish_line<W: Sink>(
+        &self,
+        rows: &mut Rows,
+        held: &mut Vec<u8>,
+        part: &[u8],
+        writer: &mut W,
+    ) -> Result<(), ServeFault>
+        requires whole { W.has_failed writer.old ≡ false }
+        requires short { length (held.old.items ++ part.now) ≤ 1048576 }
+        ensures ok { OnOk result ((reply : Answer)
+            × Answers (steps_of S.says S.number self.now)
+            rows.old (held.old.items ++ part.now) reply rows.new
+            × Appends (W.contents writer.old) (W.contents writer.new) (bytes_of reply)) }
+        ensures empty { OnOk result (held.new.items ≡ []) }
+        ensures write { IsErrOf result ServeFault.Write → FailsAt (steps_of S.says S.number self.now)
+            rows.old (held.old.items ++ part.now)
+            (W.contents writer.old) (W.contents writer.new) rows.new }
+        ensures memory { IsErrOf result ServeFault.OutOfMemory
+            → (rows.new ≡ rows.old) × (W.contents writer.new ≡ W.contents writer.old) }
+        ensures only { IfErr result (λ e. (e ≡ ServeFault.Write) ⊎ (e ≡ ServeFault.OutOfMemory)) }
+        ensures failed { W.has_failed writer.new ≡ is_write result }
+    {
+        if held.is_empty() {
+            return self.answer(rows, part, writer);
+        }
+        match held.extend_from_slice(part) {
+            Ok(()) => {}
+            Err(_) => return Err(ServeFault::OutOfMemory),
+        }
+        self.answer(rows, held, writer)?;
+        held.clear();
+        Ok(())
+    }
+
+    // Carries out one line, and writes its reply.
+    fn answer<W: Sink>(
+        &self,
+        rows: &mut Rows,
+        line: &[u8],
+        writer: &mut W,
+    ) -> Result<(), ServeFault>
+        requires { W.has_failed writer.old ≡ false }
+        ensures ok { OnOk result ((reply : Answer)
+            × Answers (steps_of S.says S.number self.now) rows.old line.now reply rows.new
+            × Appends (W.contents writer.old) (W.contents writer.new) (bytes_of reply)) }
+        ensures err { OnErr result (FailsAt (steps_of S.says S.number self.now)
+            rows.old line.now (W.contents writer.old) (W.contents writer.new) rows.new) }
+        ensures fault { IfErr result (λ e. e ≡ ServeFault.Write) }
+        ensures failed { W.has_failed writer.new ≡ is_err result }
+    {
+        let reply = self.command(rows, line);
+        reply.write_to(writer)
+    }
+}
