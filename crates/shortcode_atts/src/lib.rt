@@ -127,16 +127,12 @@ impl Atts {
     }
 
     /// A default's name, with the value here or else the default's.
-    fn pair_or(
-        &self,
-        alloc: Global,
-        default: &(String, String),
-    ) -> Result<(String, String), AllocError>
+    fn pair_or(&self, default: &(String, String)) -> Result<(String, String), AllocError>
         ensures { IfOk result (λ pair. pair_bytes pair ≡ pair_or self.now (pair_bytes default.now)) }
     {
         let name = default.0.clone()?;
         let value = self.value_or(default.0.as_str(), default.1.as_str());
-        let value = String::from_str(alloc, value)?;
+        let value = String::from_str(*self.values.allocator(), value)?;
         Ok((name, value))
     }
 
@@ -146,15 +142,14 @@ impl Atts {
     /// Refused for want of memory alone.
     pub fn with_defaults(
         &self,
-        alloc: Global,
         defaults: &[(String, String)],
     ) -> Result<Vec<(String, String)>, AllocError>
         ensures { IfOk result (λ pairs.
             map pair_bytes pairs.items ≡ with_defaults self.now (map pair_bytes defaults.now)) }
     {
-        let mut pairs = Vec::new(alloc);
+        let mut pairs = Vec::new(*self.values.allocator());
         for default in defaults {
-            pairs.push(self.pair_or(alloc, default)?)?;
+            pairs.push(self.pair_or(default)?)?;
         }
         Ok(pairs)
     }

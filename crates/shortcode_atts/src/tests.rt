@@ -71,7 +71,7 @@ fn defaults_stand_in(rt: HostRuntime) -> Result<(), Fail> {
         let name = String::from_str(rt.alloc(), name)?;
         defaults.push((name, String::from_str(rt.alloc(), value)?))?;
     }
-    let found = atts.with_defaults(rt.alloc(), &defaults)?;
+    let found = atts.with_defaults(&defaults)?;
     assert_eq!(rt; found.len(), 2);
     assert_eq!(rt; found[0].0.as_str(), "href");
     assert_eq!(rt; found[0].1.as_str(), "#");
