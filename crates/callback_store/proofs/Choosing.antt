@@ -1,11 +1,10 @@
 -- The first fault of a list of plugins, by the plugins themselves.
-use Rattle.std.proofs.Common.{◌≡◌, ℕ, Bool, true, false, not, ◌||◌, List, map, length, nat_lt, refl, ap, ◌∙◌, Option, Some, None, bytes_eq}
+use Rattle.std.proofs.Common.{◌≡◌, ℕ, Bool, true, false, not, ◌||◌, List, map, length, nat_lt, refl, ◌∙◌, Some, None, bytes_eq}
 use Rattle.std.specs.Prelude.{if◌then◌else◌}
 use Rattle.std.specs.List.{list_any}
 use Rattle.std.proofs.lemmas.List.{length-map}
 use Rattle.hook_changes.specs.Names.{is_tag_name}
 use Rattle.callback_store.specs.declared.plugins.Plugin.{Plugin}
-use Rattle.callback_store.specs.declared.fault.PluginFault.{PluginFault}
 use Rattle.callback_store.specs.declared.fault.PluginFault.TheVariants.{TooMany, BadName, SameName, SameCallback}
 use Rattle.callback_store.specs.Shape.{shape_of}
 use Rattle.callback_store.specs.Faults.{has_repeat, is_large, has_bad_name, has_same_name, are_too_many, has_same_callback, fault_of}

@@ -2,3 +2,4 @@ pub mod Mapped
 pub mod Repeats
 pub mod Owners
 pub mod Choosing
+pub mod InOrder

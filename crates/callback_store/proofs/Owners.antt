@@ -1,11 +1,10 @@
 -- Which plugin has a callback or a name, by the plugins themselves.
-use Rattle.std.proofs.Common.{◌≡◌, ℕ, Bool, true, false, ◌||◌, ◌==◌, List, [], ◌∷◌, map, refl, ap, sym, ◌∙◌, Option, Some, None, bytes_eq}
+use Rattle.std.proofs.Common.{◌≡◌, ℕ, Bool, true, false, ◌==◌, List, [], ◌∷◌, map, refl, ap, sym, ◌∙◌, Option, Some, None, bytes_eq}
 use Rattle.std.proofs.lemmas.Bool.{eqb-true}
 use Rattle.std.specs.Prelude.{find, is_some, option_map, if◌then◌else◌, IfSome}
 use Rattle.std.specs.Option.{option_copied}
 use Rattle.std.specs.Borrow.{Bor}
 use Rattle.std.specs.List.{list_any}
-use Rattle.hook_changes.specs.declared.reply.Change.{Change}
 use Rattle.callback_store.specs.declared.plugins.Plugin.{Plugin}
 use Rattle.callback_store.specs.Shape.{shape_of, has_callback, is_held, owner, load_of}
 use Rattle.callback_store.proofs.Mapped.{list_any-map, find-map, is_some-find}

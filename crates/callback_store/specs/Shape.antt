@@ -1,6 +1,9 @@
 -- What is seen of plugins beside what their callbacks reply.
 use Rattle.std.specs.Prelude.{ℕ, Bool, ◌==◌, List, map, Option, find, option_map, bytes_eq}
+use Rattle.std.specs.Cmp.Lexicographic.{slice_cmp}
 use Rattle.std.specs.List.{list_any}
+use Rattle.std.specs.List.Sorted.{IsSortedByKey}
+use Rattle.std.specs.Ordering.{nat_cmp}
 use Rattle.hook_changes.specs.declared.reply.Change.{Change}
 use Rattle.callback_store.specs.declared.plugins.Plugin.{Plugin}
 use Rattle.callback_store.specs.declared.plugins.Plugins.{Plugins}
@@ -16,6 +19,10 @@ shape_of number plugin = record { name = plugin.name; load = plugin.load; callba
 
 abbrev pub shapes_of : {S : Type 0} → (S → ℕ) → Plugins S → List Shape
 shapes_of number plugins = map (shape_of number) plugins.list
+
+-- no name stands before a lesser one, by bytes
+abbrev pub AreInOrder : List Shape → Type 0
+AreInOrder shapes = IsSortedByKey (λ s. s.name) (slice_cmp nat_cmp) shapes
 
 abbrev pub has_callback : ℕ → Shape → Bool
 has_callback callback shape = list_any (λ c. c == callback) shape.callbacks

@@ -1,9 +1,12 @@
 // Plugins, with their load lists and callbacks.
 ghost use Rattle.std.specs.Prelude.{◌≡◌, ◌≢◌, ◌++◌, map, IfOk, IfErr, OnOk, IsTrue, IfSome, None, Some, option_map, is_some, find, bytes_eq, ◌==◌, ◌||◌, not, nat_lt, length};
 ghost use Rattle.std.specs.List.{list_any};
+ghost use Rattle.std.specs.List.Sorted.{IsPermutation, IsSortedByKey};
+ghost use Rattle.std.specs.Ordering.{nat_cmp};
+ghost use Rattle.std.specs.Cmp.Lexicographic.{slice_cmp};
 ghost use Rattle.std.specs.Option.{option_copied};
 ghost use Rattle.hook_changes.specs.Names.{is_tag_name};
-ghost use Rattle.callback_store.specs.Shape.{shape_of, shapes_of, is_held, owner, load_of};
+ghost use Rattle.callback_store.specs.Shape.{AreInOrder, shape_of, shapes_of, is_held, owner, load_of};
 ghost use Rattle.callback_store.specs.Faults.{has_repeat, is_large, has_same_callback, numbers, fault_of};
 
 use crate::fault::PluginFault;
@@ -58,9 +61,12 @@ pub struct Plugins<S> {
 }
 
 impl<S: Stated> Plugins<S> {
-    /// Takes a list of plugins, or refuses it by its first fault. What is refused is dropped.
+    /// Takes a list of plugins and puts them in the order of their names by bytes, in which load lists are carried
+    /// out, or refuses the list by its first fault. What is refused is dropped.
     pub fn new(alloc: Global, list: Listed<Plugin<S>>) -> Result<Self, PluginFault>
-        ensures ok { IfOk result (λ plugins. (shapes_of S.number plugins ≡ map (shape_of S.number) list) × (fault_of (map (shape_of S.number) list) ≡ None)) }
+        ensures permutation { IfOk result (λ plugins. IsPermutation (map (shape_of S.number) list) (shapes_of S.number plugins)) }
+        ensures in_order { IfOk result (λ plugins. AreInOrder (shapes_of S.number plugins)) }
+        ensures no_fault { IfOk result (λ plugins. fault_of (map (shape_of S.number) list) ≡ None) }
         ensures fault { IfErr result (λ fault. fault ≢ PluginFault.OutOfMemory → fault_of (map (shape_of S.number) list) ≡ Some fault) }
     {
         if are_too_many(list.as_slice()) {
@@ -73,13 +79,15 @@ impl<S: Stated> Plugins<S> {
             return Err(PluginFault::SameName);
         }
         match has_same_callback(alloc, list.as_slice()) {
-            Ok(false) => Ok(Plugins { list }),
+            Ok(false) => Ok(Plugins {
+                list: sorted_by_name(list),
+            }),
             Ok(true) => Err(PluginFault::SameCallback),
             Err(AllocError) => Err(PluginFault::OutOfMemory),
         }
     }
 
-    /// The plugins, in the order of their names.
+    /// The plugins, in the order of their names by bytes.
     pub fn as_slice(&self) -> &[Plugin<S>]
         ensures { map (shape_of S.number) result.now ≡ shapes_of S.number self.entry.now }
     {
@@ -177,6 +185,15 @@ fn has_same_name<S>(list: &[Plugin<S>]) -> bool
         }
     }
     false
+}
+
+fn sorted_by_name<S>(list: Listed<Plugin<S>>) -> Listed<Plugin<S>>
+    ensures permutation { IsPermutation list result }
+    ensures in_order { IsSortedByKey (λ p. p.name) (slice_cmp nat_cmp) result }
+{
+    let mut plugins = list.into_vec();
+    plugins.sort_unstable_by(|plugin, other| plugin.name.as_str().cmp(other.name.as_str()));
+    Listed::new(plugins)
 }
 
 fn push_numbers<S: Stated>(numbers: &mut Vec<u32>, callbacks: &[S]) -> Result<(), AllocError>

@@ -6,8 +6,11 @@ mod callback;
 mod kept;
 mod names;
 mod reply;
+#[cfg(test)]
+mod tests;
 
 pub use callback::CallbackId;
 pub use kept::{Listed, Text};
 pub use names::{HookName, NameFault, TagName, is_tag_name};
 pub use reply::{Answer, Ask, Call, Change, Reply, Then};
+pub use shortcode_atts::Atts;

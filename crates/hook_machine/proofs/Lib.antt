@@ -1,3 +1,4 @@
 pub mod Agree
 pub mod Ending
 pub mod Loading
+pub mod Rows

@@ -3,3 +3,4 @@ pub mod Trace
 pub mod Meaning
 pub mod Ends
 pub mod Runs
+pub mod Worked

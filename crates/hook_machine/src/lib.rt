@@ -8,6 +8,8 @@ mod machine;
 mod pass;
 mod run;
 mod state;
+mod worked;
 
 pub use fault::RunFault;
 pub use run::Run;
+pub use worked::worked_passes;

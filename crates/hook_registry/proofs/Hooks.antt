@@ -1,6 +1,6 @@
 -- A map of hooks, seen as a table.
-use Rattle.std.proofs.Common.{◌≡◌, ℕ, zero, suc, true, false, Bool, cond, not, ◌<◌, ◌+◌, length, subst, arith, List, [], ◌∷◌, map, filter, String, Vec, string_bytes, refl, ap, sym, ◌∙◌, Option, Some, None}
-use Rattle.std.specs.Prelude.{option_map, unwrap_or, bytes_eq, string_eq, position, slice_get, if◌then◌else◌, Result, Ok, Err, OnOk, OnErr}
+use Rattle.std.proofs.Common.{◌≡◌, ℕ, zero, suc, true, false, Bool, cond, not, ◌<◌, ◌+◌, length, subst, arith, List, [], ◌∷◌, map, filter, String, Vec, string_bytes, refl, ap, sym, ◌∙◌, Some, None}
+use Rattle.std.specs.Prelude.{option_map, unwrap_or, bytes_eq, string_eq, position, slice_get, Result, Ok, Err, OnOk, OnErr}
 use Rattle.std.specs.List.{position_or_len}
 use Rattle.std.specs.Map.{lookup, keys_of, values_of}
 use Rattle.indexmap.specs.IndexMap.{insert_entry, set_value_at}

@@ -1,5 +1,5 @@
 -- A map of names, seen as pairs of bytes and values.
-use Rattle.std.proofs.Common.{◌≡◌, ℕ, zero, suc, true, false, Bool, cond, List, [], ◌∷◌, map, String, string_bytes, refl, ap, Option, Some, None}
+use Rattle.std.proofs.Common.{◌≡◌, ℕ, zero, suc, true, false, cond, List, [], ◌∷◌, map, String, string_bytes, refl, ap, Some}
 use Rattle.std.specs.Prelude.{bytes_eq, string_eq, slice_get}
 use Rattle.std.specs.Map.{lookup}
 use Rattle.indexmap.specs.IndexMap.{insert_entry, shift_remove_entry}

@@ -1,2 +1,4 @@
 pub mod Named
+pub mod OneList
 pub mod Table
+pub mod Worked

@@ -57,7 +57,8 @@ impl HookTable {
         accepted: u8,
     ) -> Result<(), AllocError>
         requires { accepted ≤ 16 }
-        ensures added { OnOk result (self.new ≡ add self.old hook.now (record { priority = priority; callback = callback; accepted = accepted })) }
+        ensures added { OnOk result (self.new ≡ add self.old hook.now
+            (record { priority = priority; callback = callback; accepted = accepted })) }
         ensures err { OnErr result (self.new ≡ self.old) }
     {
         match self.hooks.get_index_of(hook.as_str()) {
@@ -78,7 +79,8 @@ impl HookTable {
         accepted: u8,
     ) -> Result<(), AllocError>
         requires { value_of self.old hook.now ≡ None }
-        ensures added { OnOk result (self.new ≡ add self.old hook.now (record { priority = priority; callback = callback; accepted = accepted })) }
+        ensures added { OnOk result (self.new ≡ add self.old hook.now
+            (record { priority = priority; callback = callback; accepted = accepted })) }
         ensures err { OnErr result (self.new ≡ self.old) }
     {
         let name = String::from_str(self.alloc, hook.as_str())?;

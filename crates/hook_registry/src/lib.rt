@@ -3,10 +3,14 @@
 #![tactic(auto)]
 
 mod hook_table;
+mod laws;
 mod list;
 mod named;
 mod registration;
 mod registry;
+mod worked;
 
+pub use laws::{changes_behind, one_list};
 pub use registration::{Entry, Priority, Registration};
 pub use registry::Registry;
+pub use worked::worked_table;

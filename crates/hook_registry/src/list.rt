@@ -16,7 +16,8 @@ pub fn add_to(
     callback: CallbackId,
     accepted: u8,
 ) -> Result<(), AllocError>
-    ensures added { OnOk result (list.new.items ≡ with_added list.old.items (record { priority = priority; callback = callback; accepted = accepted })) }
+    ensures added { OnOk result (list.new.items ≡ with_added list.old.items
+        (record { priority = priority; callback = callback; accepted = accepted })) }
     ensures err { OnErr result (list.new.items ≡ list.old.items) }
 {
     for i in 0..list.len() {

@@ -59,7 +59,10 @@ impl Registry {
         accepted: u8,
     ) -> Result<(), AllocError>
         requires { accepted ≤ 16 }
-        ensures added { OnOk result (self.new ≡ record self.old { table = add self.old.table hook.now (record { priority = priority; callback = callback; accepted = accepted }) }) }
+        ensures added { OnOk result (self.new ≡ record self.old {
+          table = add self.old.table hook.now
+              (record { priority = priority; callback = callback; accepted = accepted });
+        }) }
         ensures err { OnErr result (self.new ≡ self.old) }
     {
         self.hooks.add(hook, priority, callback, accepted)
@@ -113,7 +116,8 @@ impl Registry {
     /// Makes a callback the handler of a tag (Code Reference, add_shortcode). A tag that is there keeps its place and
     /// takes the new handler; where there is no memory, nothing changes.
     pub fn add_tag(&mut self, tag: &TagName, callback: CallbackId) -> Result<(), AllocError>
-        ensures added { OnOk result (self.new ≡ record self.old { tags = set_value self.old.tags tag.now callback }) }
+        ensures added { OnOk result
+            (self.new ≡ record self.old { tags = set_value self.old.tags tag.now callback }) }
         ensures err { OnErr result (self.new ≡ self.old) }
     {
         self.tags.set(tag.as_str(), callback)
@@ -159,7 +163,11 @@ impl Registry {
     /// Counts one firing of an action, and gives the new count, which stays at 4,294,967,295 once there (Code
     /// Reference, did_action). Where there is no memory, nothing is counted.
     pub fn fire(&mut self, hook: &HookName) -> Result<u32, AllocError>
-        ensures fired { IfOk result (λ count. (count ≡ min (times_fired self.old.counts hook.now + 1) 4294967295) × (self.new ≡ record self.old { counts = set_value self.old.counts hook.now count })) }
+        ensures fired { IfOk result (λ count.
+            (count ≡ min (times_fired self.old.counts hook.now + 1) 4294967295)
+            × (self.new ≡ record self.old {
+              counts = set_value self.old.counts hook.now count;
+            })) }
         ensures err { OnErr result (self.new ≡ self.old) }
     {
         let count = self.did(hook.as_str()).saturating_add(1);

@@ -4,6 +4,9 @@
 //! prints what it found. With no arguments it does each work once over a short text.
 #![tactic(auto)]
 
+ghost use Rattle.std.specs.Prelude.{◌≡◌, IfOk, length};
+ghost use Rattle.shortcode_atts.specs.Attributes.{attributes};
+
 use anyhow::{Context, Result, bail};
 use hook_changes::TagName;
 use shortcode_atts::parse;
@@ -83,7 +86,9 @@ fn scan(alloc: Global, names: &[TagName], text: &str) -> Result<usize, AllocErro
 }
 
 /// How many values without a name the text has.
-fn count_positional(alloc: Global, text: &str) -> Result<usize, AllocError> {
+fn count_positional(alloc: Global, text: &str) -> Result<usize, AllocError>
+    ensures { IfOk result (λ count. count ≡ length (attributes text.now).positional) }
+{
     let atts = parse(alloc, text)?;
     Ok(atts.positional().len())
 }

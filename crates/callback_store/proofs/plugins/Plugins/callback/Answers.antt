@@ -1,4 +1,4 @@
-use Rattle.std.proofs.Common.{ap, sym, ◌∙◌}
+use Rattle.std.proofs.Common.{sym, ◌∙◌}
 use Rattle.callback_store.proofs.Owners.{held_by, found_passes, finds_one}
 use Rattle.callback_store.proofs.plugins.Plugins.callback.Goals as goal
 

@@ -1,7 +1,6 @@
-use Rattle.std.proofs.Common.{◌∙◌, ap, sym}
 use Rattle.std.proofs.lemmas.Int.{to_z-of_z}
 use Rattle.hook_registry.specs.declared.registration.Registration.{Registration}
-use Rattle.hook_registry.proofs.Hooks.{shown, add-written, shown-unwritten, missing, on_ok, on_err}
+use Rattle.hook_registry.proofs.Hooks.{add-written, shown-unwritten, missing, on_ok, on_err}
 use Rattle.hook_registry.proofs.hook_table.HookTable.add.Goals as goal
 
 pub add_first-requires : goal.add_first-requires

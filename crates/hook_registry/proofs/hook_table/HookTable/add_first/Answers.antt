@@ -1,4 +1,4 @@
-use Rattle.std.proofs.Common.{◌∙◌, ap, sym}
+use Rattle.std.proofs.Common.{◌∙◌, ap}
 use Rattle.hook_registry.specs.declared.registration.Registration.{Registration}
 use Rattle.hook_registry.proofs.Hooks.{shown, add-first}
 use Rattle.hook_registry.proofs.hook_table.HookTable.add_first.Goals as goal

@@ -1,4 +1,4 @@
-use Rattle.std.proofs.Common.{◌∙◌, ap}
+use Rattle.std.proofs.Common.{◌∙◌}
 use Rattle.hook_registry.proofs.Hooks.{registrations-found, registrations-missing}
 use Rattle.hook_registry.proofs.hook_table.HookTable.list.Goals as goal
 

@@ -1,5 +1,4 @@
 use Rattle.std.proofs.Common.{◌∙◌, ap}
-use Rattle.hook_registry.specs.Named.{set_value}
 use Rattle.hook_registry.proofs.NamedValues.{pairs, insert_entry-pairs}
 use Rattle.hook_registry.proofs.named.Named.set.Goals as goal
 

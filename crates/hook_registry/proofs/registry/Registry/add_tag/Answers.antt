@@ -1,6 +1,5 @@
-use Rattle.std.proofs.Common.{◌≡◌, ap, true}
 use Rattle.std.specs.Prelude.{Result, Ok, Err, OnOk, OnErr}
-use Rattle.hook_registry.proofs.TagNames.{are_tags, are_tags-set}
+use Rattle.hook_registry.proofs.TagNames.{are_tags-set}
 use Rattle.hook_registry.proofs.registry.Registry.add_tag.Goals as goal
 
 pub invariant_of-self : goal.invariant_of-self

@@ -1,4 +1,4 @@
-use Rattle.std.proofs.Common.{◌∙◌, ap, sym, Err, true≢false, ◌++◌, ◌∷◌, [], List, ℕ}
+use Rattle.std.proofs.Common.{◌∙◌, ap, sym, Err, true≢false, ◌++◌, ◌∷◌, []}
 use Rattle.hook_registry.proofs.TagNames.{is_tag-at, names-more}
 use Rattle.hook_registry.proofs.registry.Registry.tag_names.Goals as goal
 

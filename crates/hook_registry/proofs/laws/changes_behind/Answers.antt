@@ -1,0 +1,8 @@
+use Rattle.hook_registry.proofs.Behind.{group-changed, after-changed}
+use Rattle.hook_registry.proofs.laws.changes_behind.Goals as goal
+
+pub returns-clause-groups : goal.returns-clause-groups
+returns-clause-groups c = group-changed
+
+pub returns-clause-next : goal.returns-clause-next
+returns-clause-next c = after-changed
