@@ -15,6 +15,10 @@ import sys
 import tempfile
 import time
 
+SITE = b"""{"cmd":"activate","plugin":"marks"}
+{"cmd":"put","title":"T","date":"2024-05-01 10:00:00"}
+"""
+SITE_REPLY = b"ok\nok 1\n"
 LINE = b'{"cmd":"get","path":"/"}\n'
 REPLY = b"page 200 13\n<h2>TX1Y</h2>\n"
 SIZES = (20_000, 200_000)
@@ -35,7 +39,7 @@ def peak_of(pid, program):
 def run(program, lines):
     """Seconds and peak memory in kilobytes of one run."""
     with tempfile.TemporaryFile() as given, tempfile.TemporaryFile() as written:
-        given.write(LINE * lines)
+        given.write(SITE + LINE * lines)
         given.seek(0)
         begin = time.perf_counter()
         child = subprocess.Popen([program], stdin=given, stdout=written)
@@ -47,7 +51,7 @@ def run(program, lines):
         if child.returncode != 0:
             sys.exit(f"{program} ended with status {child.returncode} on {lines} lines")
         written.seek(0)
-        if written.read() != REPLY * lines:
+        if written.read() != SITE_REPLY + REPLY * lines:
             sys.exit(f"{program} answered {lines} lines wrongly")
         return seconds, peak
 

@@ -3,13 +3,14 @@
 
 use callback_store::{Plugin, PluginFault, Plugins};
 use hook_changes::{Call, CallbackId, Listed, Reply};
-use site_program::{Function, Reading, ServeFault, Site, Stored, Writing, bundled_reply, marks};
+use site_program::{
+    ArgsAnswer, Function, Reading, Site, StoreFault, Stored, Writing, bundled_reply, marks,
+    read_args,
+};
 use std::alloc::{AllocError, Global};
+use std::fmt::Display;
 use std::process::ExitCode;
 use std::{env, io};
-
-// How many calls of its callbacks each page has.
-const CALLS: u32 = 10_000;
 
 // A bundled callback: a closure that passes each call on to `bundled_reply`. It stands in `main`, where it is made.
 macro_rules! stored {
@@ -30,25 +31,31 @@ macro_rules! stored {
 }
 
 fn main(rt: HostRuntime) -> ExitCode {
-    match has_arguments(&rt) {
-        Ok(false) => {}
-        Ok(true) => {
-            let _ = eprintln!(rt;
-                "site takes no arguments; it serves the lines of its standard input"
-            );
+    let alloc = rt.alloc();
+    let Ok(words) = words(&rt) else {
+        return failed(&rt, StoreFault::OutOfMemory);
+    };
+    let (calls, cache) = match read_args(alloc, &words) {
+        ArgsAnswer::Run { calls, cache } => (calls, cache),
+        ArgsAnswer::Help(text) => {
+            let _ = print!(rt; "{text}");
+            return ExitCode::SUCCESS;
+        }
+        ArgsAnswer::Bad(text) => {
+            let _ = eprint!(rt; "{text}");
             return ExitCode::from(2);
         }
-        Err(_) => return failed(&rt, ServeFault::OutOfMemory),
-    }
-    let alloc = rt.alloc();
+        ArgsAnswer::OutOfMemory => return failed(&rt, StoreFault::OutOfMemory),
+    };
     let (Ok(first), Ok(second)) = (stored!(alloc, 1), stored!(alloc, 2)) else {
-        return failed(&rt, ServeFault::OutOfMemory);
+        return failed(&rt, StoreFault::OutOfMemory);
     };
     let Ok(plugins) = plugins(alloc, first, second) else {
-        return failed(&rt, ServeFault::OutOfMemory);
+        return failed(&rt, StoreFault::OutOfMemory);
     };
-    let Ok(mut site) = Site::fixed(alloc, &plugins, CALLS) else {
-        return failed(&rt, ServeFault::OutOfMemory);
+    let mut site = match Site::new(alloc, &plugins, calls, cache) {
+        Ok(site) => site,
+        Err(fault) => return failed(&rt, fault),
     };
     let mut reader = Reading::new(rt.reader());
     let mut writer = Writing::new(io::writer(&rt));
@@ -58,9 +65,13 @@ fn main(rt: HostRuntime) -> ExitCode {
     }
 }
 
-/// Whether there is a word behind the program's name.
-fn has_arguments(rt: &HostRuntime) -> io::Result<bool> {
-    Ok(env::args(rt)?.len() > 1)
+/// The words behind the program's name.
+fn words(rt: &HostRuntime) -> io::Result<Vec<String>> {
+    let mut words = Vec::new(rt.alloc());
+    for word in env::args(rt)?.skip(1) {
+        words.push(word)?;
+    }
+    Ok(words)
 }
 
 /// The bundle, over its callbacks.
@@ -85,8 +96,8 @@ fn listed(
     Ok(list)
 }
 
-/// Says on standard error why serving stopped.
-fn failed(rt: &HostRuntime, fault: ServeFault) -> ExitCode {
+/// Says on standard error why nothing is served any more.
+fn failed(rt: &HostRuntime, fault: impl Display + Drop) -> ExitCode {
     let _ = eprintln!(rt; "site: {fault}");
     ExitCode::from(1)
 }

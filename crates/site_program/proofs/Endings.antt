@@ -15,7 +15,7 @@ use Rattle.site_program.specs.declared.fault.ServeFault.{ServeFault}
 use Rattle.site_program.specs.declared.fault.ServeFault.TheVariants as fault_of
 use Rattle.site_program.proofs.Streams.{IsReplies-push}
 use Rattle.site_program.proofs.LineLists.{lines_of-nil, lines_of-ended, lines_of-last, lines_of-line, lines_of-some, GoesPast-long, GoesPast-many}
-use Rattle.site_program.specs.declared.rows.Rows.{Rows}
+use Rattle.post_tables.specs.Rows.{Rows}
 
 -- a read of no byte took none
 pub Consumes-none : (a b c : Option (List ℕ)) (s buf : List ℕ) (n : ℕ) → Consumes a b s → Consumes b c (take n buf) → n ≡ 0 → Consumes a c s

@@ -5,7 +5,7 @@ use Rattle.hook_machine.specs.declared.fault.RunFault.{RunFault}
 use Rattle.hook_machine.specs.declared.fault.RunFault.TheVariants.{TooManyCalls, TooDeep, OutOfMemory}
 use Rattle.hook_machine.specs.Trace.{Trace, Ended, end_of}
 use Rattle.hook_machine.specs.Ends.{Ends}
-use Rattle.site_program.specs.FixedPage.{IsRefusedBy}
+use Rattle.site_program.specs.FrontPage.{IsRefusedBy}
 
 pub ended_of : (trace : Trace Text) (result : Text) (world : World) → Ends trace (Ok result) world → end_of trace ≡ Ended world result
 ended_of trace result world e = e

@@ -1,18 +1,21 @@
 -- Lemmas on what a page prints.
-use Rattle.std.proofs.Common.{arith, ◌≡◌, ◌≢◌, ◌<◌, ◌≤◌, ℕ, ◌+◌, List, [], ◌∷◌, ◌++◌, ◌∙◌, Ok, Err, refl, sym, ap, subst, length, drop, get_or, codes, decimal}
+use Rattle.std.proofs.Common.{arith, ◌≡◌, ◌≢◌, ◌<◌, ◌≤◌, ℕ, ◌+◌, List, [], ◌∷◌, ◌++◌, ◌∙◌, Ok, Err, false, refl, sym, ap, subst, length, drop, get_or, codes, decimal}
 use Rattle.std.proofs.lemmas.List.{drop_more}
 use Rattle.std.proofs.lemmas.Bool.{le-leb}
 use Rattle.hook_machine.specs.World.{Text, World, fresh, loaded}
 use Rattle.hook_machine.specs.declared.fault.RunFault.{RunFault}
 use Rattle.hook_machine.specs.declared.fault.RunFault.TheVariants as fault
-use Rattle.hook_machine.specs.Trace.{Trace, end_of}
+use Rattle.hook_machine.specs.Trace.{Trace, End, Ended, Fault, end_of}
 use Rattle.hook_machine.specs.Meaning.{Engine, filtered}
 use Rattle.hook_machine.specs.Ends.{Ends}
-use Rattle.site_program.specs.declared.rows.Post.{Post}
-use Rattle.site_program.specs.declared.rows.Rows.{Rows}
+use Rattle.site_records.specs.declared.post.Post.{Post}
+use Rattle.post_tables.specs.Rows.{Rows}
 use Rattle.site_program.specs.Reply.{Answer, page}
-use Rattle.site_program.specs.Step.{got, max_path}
-use Rattle.site_program.specs.FixedPage.{printed, each, title_pass, post_pass, posts_pass, page_pass, found_posts, status_of, shown, refusal_of, request, EndsIn, IsPage, IsRefusedBy}
+use Rattle.site_program.specs.Step.{got, max_path, comes_before_store}
+use Rattle.site_program.specs.FrontPage.{printed, each, title_pass, post_pass, posts_pass, page_pass, options_of, active_of, found_posts, status_of, shown, refusal_of, request, EndsIn, IsPage, IsRefusedBy}
+use Rattle.std.specs.Prelude.{Result, IfErr}
+use Rattle.site_program.specs.declared.fault.StoreFault.{StoreFault}
+use Rattle.site_program.specs.declared.fault.StoreFault.TheVariants as store
 use Rattle.site_program.proofs.Machine.{ended_of, refused_of}
 use Rattle.site_program.proofs.Traces.{and_then-ended, and_then-refused, EndsIn-then, IsRefusedBy-first}
 
@@ -86,38 +89,61 @@ module _ (engine : Engine) where
 
 -- ---- the whole page
 
-module _ (engine : Engine) (calls : ℕ) (rows : Rows) (path : Text) where
+module _ (engine : Engine) (calls : ℕ) (options : List (Text × Text)) (active : List Text) where
   -- the world that a page begins in
-  pub begun_world : (e : Engine) (active : List Text) (begun loaded_world : World) → e ≡ engine → active ≡ rows.active → begun ≡ fresh calls [] active → loaded_world ≡ loaded e.plugins begun
-      → loaded_world ≡ loaded engine.plugins (fresh calls [] rows.active)
-  begun_world e active begun loaded_world e_is active_is begun_is loaded_is =
-      loaded_is ∙ ap (λ (x : Engine). loaded x.plugins begun) e_is ∙ ap (loaded engine.plugins) (begun_is ∙ ap (fresh calls []) active_is)
+  pub begun_world : (e : Engine) (begun loaded_world : World) → e ≡ engine → begun ≡ fresh calls options active → loaded_world ≡ loaded e.plugins begun → loaded_world ≡ loaded engine.plugins (fresh calls options active)
+  begun_world e begun loaded_world e_is begun_is loaded_is =
+      loaded_is ∙ ap (λ (x : Engine). loaded x.plugins begun) e_is ∙ ap (loaded engine.plugins) begun_is
 
-  pub page-ended : (e : Engine) (world last : World) (posts : List Post) → e ≡ engine → world ≡ loaded engine.plugins (fresh calls [] rows.active) → posts ≡ found_posts rows path
-      → EndsIn (posts_pass e world posts) last → EndsIn (page_pass engine calls rows path) last
+  pub page-ended : (posts : List Post) (e : Engine) (world last : World) → e ≡ engine → world ≡ loaded engine.plugins (fresh calls options active) → EndsIn (posts_pass e world posts) last → EndsIn (page_pass engine calls options active posts) last
   unfolding page_pass
-  page-ended e world last posts e_is world_is posts_is done =
-      subst (λ x. EndsIn (posts_pass x (loaded engine.plugins (fresh calls [] rows.active)) (found_posts rows path)) last) e_is
-      (subst (λ w. EndsIn (posts_pass e w (found_posts rows path)) last) world_is (subst (λ ps. EndsIn (posts_pass e world ps) last) posts_is done))
+  page-ended posts e world last e_is world_is done =
+      subst (λ x. EndsIn (posts_pass x (loaded engine.plugins (fresh calls options active)) posts) last) e_is (subst (λ w. EndsIn (posts_pass e w posts) last) world_is done)
 
-  pub page-refused : (e : Engine) (world : World) (posts : List Post) (why : RunFault) → e ≡ engine → world ≡ loaded engine.plugins (fresh calls [] rows.active) → posts ≡ found_posts rows path
-      → IsRefusedBy (posts_pass e world posts) why → IsRefusedBy (page_pass engine calls rows path) why
+  pub page-refused : (posts : List Post) (e : Engine) (world : World) (why : RunFault) → e ≡ engine → world ≡ loaded engine.plugins (fresh calls options active) → IsRefusedBy (posts_pass e world posts) why → IsRefusedBy (page_pass engine calls options active posts) why
   unfolding page_pass
-  page-refused e world posts why e_is world_is posts_is refused =
-      subst (λ x. IsRefusedBy (posts_pass x (loaded engine.plugins (fresh calls [] rows.active)) (found_posts rows path)) why) e_is
-      (subst (λ w. IsRefusedBy (posts_pass e w (found_posts rows path)) why) world_is (subst (λ ps. IsRefusedBy (posts_pass e world ps) why) posts_is refused))
+  page-refused posts e world why e_is world_is refused =
+      subst (λ x. IsRefusedBy (posts_pass x (loaded engine.plugins (fresh calls options active)) posts) why) e_is (subst (λ w. IsRefusedBy (posts_pass e w posts) why) world_is refused)
 
-  -- ---- the answer
+-- ---- the answer
 
-  pub request-page : (text : Text) → IsPage (page_pass engine calls rows path) text → request engine calls rows path ≡ page (status_of path) text
+module _ (engine : Engine) (calls : ℕ) (rows : Rows) (path : Text) where
+  abbrev the_pass : List (Text × Text) → List Text → List Post → Trace Text
+  the_pass options active posts = page_pass engine calls options active posts
+
+  same_pass : (options : List (Text × Text)) (active : List Text) (posts : List Post) → options ≡ options_of rows → active ≡ active_of rows → posts ≡ found_posts rows path
+      → the_pass options active posts ≡ the_pass (options_of rows) (active_of rows) (found_posts rows path)
+  same_pass options active posts o a p = rw (o, a, p) refl
+
+  pub request-page : (options : List (Text × Text)) (active : List Text) (posts : List Post) (text : Text) → options ≡ options_of rows → active ≡ active_of rows → posts ≡ found_posts rows path
+      → IsPage (page_pass engine calls options active posts) text → request engine calls rows path ≡ page (status_of path) text
   unfolding request
-  request-page text made = ap (shown (status_of path)) made.made.ended ∙ ap (page (status_of path)) (sym made.whole)
+  request-page options active posts text o a p made =
+      ap (λ t. shown (status_of path) (end_of t)) (sym (same_pass options active posts o a p)) ∙ ap (shown (status_of path)) made.made.ended ∙ ap (page (status_of path)) (sym made.whole)
 
-  pub request-refused : (why : RunFault) → IsRefusedBy (page_pass engine calls rows path) why → why ≢ fault.OutOfMemory → request engine calls rows path ≡ refusal_of why
+  pub request-refused : (options : List (Text × Text)) (active : List Text) (posts : List Post) (why : RunFault) → options ≡ options_of rows → active ≡ active_of rows → posts ≡ found_posts rows path
+      → IsRefusedBy (page_pass engine calls options active posts) why → why ≢ fault.OutOfMemory → request engine calls rows path ≡ refusal_of why
   unfolding request
-  request-refused why refused other = ap (shown (status_of path)) (refused other)
+  request-refused options active posts why o a p refused other =
+      ap (λ t. shown (status_of path) (end_of t)) (sym (same_pass options active posts o a p)) ∙ ap (shown (status_of path)) (refused other)
 
   -- a path that isn't too long
-  pub got-short : (answer : Answer) → length path ≤ max_path → request engine calls rows path ≡ answer → (rows, answer) ≡ got engine calls rows path
+  pub got-short : (new : Rows) (answer : Answer) → length path ≤ max_path → new ≡ rows → request engine calls rows path ≡ answer → (new, answer) ≡ got engine calls rows path
   unfolding got
-  got-short answer short is = rw (le-leb _ _ short) (ap (λ a. (rows, a)) (sym is))
+  got-short new answer short same is = rw (le-leb _ _ short) (rw same (ap (λ a. (rows, a)) (sym is)))
+
+  shown-late : (status : ℕ) (end : End Text) → comes_before_store (shown status end) ≡ false
+  shown-late status (Ended world nothing) = refl
+  shown-late status (Fault fault.TooManyCalls) = refl
+  shown-late status (Fault fault.TooDeep) = refl
+  shown-late status (Fault fault.OutOfMemory) = refl
+
+  -- the answer to a request is never settled before the database is asked
+  pub got-late : length path ≤ max_path → comes_before_store (got engine calls rows path).1 ≡ false
+  unfolding got request
+  got-late short = rw (le-leb _ _ short) (shown-late (status_of path) _)
+
+-- where something holds anyway, it holds of every fault
+pub of_every_fault : {A X : Type 0} (r : Result A StoreFault) → X → IfErr r (λ fault. fault ≡ store.Store → X)
+of_every_fault (Ok a) x = tt
+of_every_fault (Err e) x = λ is. x

@@ -1,31 +1,77 @@
 -- A refused command keeps the rows.
 use Rattle.std.proofs.Common.{◌≡◌, ℕ, ◌∙◌, List, Option, Some, None, true, false, cond, refl, sym, ap, length}
-use Rattle.std.specs.Prelude.{Bool, nat_le, option_and_then}
+use Rattle.std.specs.Prelude.{Bool, not, ◌&&◌, nat_le, nat_lt, is_some, option_and_then}
 use Rattle.hook_machine.specs.Meaning.{Engine}
+use Rattle.callback_store.specs.Shape.{Shape, load_of}
+use Rattle.site_records.specs.Dates.{is_post_date}
+use Rattle.site_records.specs.declared.post.PostKind.{PostKind}
+use Rattle.site_records.specs.declared.post.PostStatus.{PostStatus}
+use Rattle.post_tables.specs.Rows.{Rows, Text, PostEdit, has_post}
+use Rattle.site_commands.specs.Tree.{tree_of}
+use Rattle.site_commands.specs.Asked.{Asked, command_of}
+use Rattle.site_commands.specs.Asked as asked
 use Rattle.site_program.specs.declared.reply.Refusal.{Refusal}
-use Rattle.site_program.specs.declared.rows.Rows.{Rows}
-use Rattle.site_program.specs.Tree.{tree_of}
-use Rattle.site_program.specs.Asked.{Asked, command_of}
-use Rattle.site_program.specs.Asked as asked
 use Rattle.site_program.specs.Reply.{Answer, refused}
+use Rattle.site_program.specs.Edits.{put, edit, edited, delete, set_option, set_active, fits, if_given, max_title, max_content, max_value, max_id}
 use Rattle.site_program.specs.Step.{step, got, carried_out, max_path}
 
--- neither of two answers changes the rows
-either_keeps : (b : Bool) (rows : Rows) (first second : Answer) → (cond {A = Rows × Answer} b (rows, first) (rows, second)).0 ≡ rows
-either_keeps true rows first second = refl
-either_keeps false rows first second = refl
+-- what a refusal among these keeps
+abbrev Keeps : Rows → Rows × Answer → Type 0
+Keeps rows p = (r : Refusal) → p.1 ≡ refused r → p.0 ≡ rows
+
+-- of two outcomes that keep the rows when they are refused, each does
+either : (b : Bool) (rows : Rows) (p q : Rows × Answer) → Keeps rows p → Keeps rows q → Keeps rows (cond b p q)
+either true rows p q x y = x
+either false rows p q x y = y
+
+same : (rows : Rows) (a : Answer) → Keeps rows (rows, a)
+same rows a = λ r h. refl
+
+put-keeps : (rows : Rows) (kind : PostKind) (status : PostStatus) (title content date : Text) → Keeps rows (put rows kind status title content date)
+unfolding put
+put-keeps rows kind status title content date =
+    either (not (fits max_title title && fits max_content content)) rows _ _ (same rows _)
+    (either (not (is_post_date date)) rows _ _ (same rows _) (either (nat_lt rows.largest max_id) rows _ _ (λ r h. cc) (same rows _)))
+
+edited-keeps : (rows : Rows) (id : ℕ) (given : PostEdit) → Keeps rows (edited rows id given)
+unfolding edited
+edited-keeps rows id given = either (has_post id rows.posts) rows _ _ (λ r h. cc) (same rows _)
+
+edit-keeps : (rows : Rows) (id : ℕ) (given : PostEdit) → Keeps rows (edit rows id given)
+unfolding edit
+edit-keeps rows id given =
+    either (not (if_given (fits max_title) given.title && if_given (fits max_content) given.content)) rows _ _ (same rows _)
+    (either (not (if_given is_post_date given.date)) rows _ _ (same rows _) (edited-keeps rows id given))
+
+delete-keeps : (rows : Rows) (id : ℕ) → Keeps rows (delete rows id)
+unfolding delete
+delete-keeps rows id = either (has_post id rows.posts) rows _ _ (λ r h. cc) (same rows _)
+
+option-keeps : (rows : Rows) (name value : Text) → Keeps rows (set_option rows name value)
+unfolding set_option
+option-keeps rows name value = either (fits max_value value) rows _ _ (λ r h. cc) (same rows _)
+
+active-keeps : (plugins : List Shape) (rows : Rows) (name : Text) (active : Bool) → Keeps rows (set_active plugins rows name active)
+unfolding set_active
+active-keeps plugins rows name active = either (is_some (load_of plugins name)) rows _ _ (λ r h. cc) (same rows _)
 
 -- a page changes no row, refused or not
-got-keeps : (engine : Engine) (calls : ℕ) (rows : Rows) (path : List ℕ) → (got engine calls rows path).0 ≡ rows
+got-keeps : (engine : Engine) (calls : ℕ) (rows : Rows) (path : List ℕ) → Keeps rows (got engine calls rows path)
 unfolding got
-got-keeps engine calls rows path = either_keeps (nat_le (length path) max_path) rows _ _
+got-keeps engine calls rows path = either (nat_le (length path) max_path) rows _ _ (same rows _) (same rows _)
 
-carried_out-refused : (engine : Engine) (calls : ℕ) (rows : Rows) (command : Option Asked) (r : Refusal) → (carried_out engine calls rows command).1 ≡ refused r → (carried_out engine calls rows command).0 ≡ rows
-carried_out-refused engine calls rows None r h = refl
-carried_out-refused engine calls rows (Some (asked.get path)) r h = got-keeps engine calls rows path
+carried_out-keeps : (engine : Engine) (calls : ℕ) (rows : Rows) (command : Option Asked) → Keeps rows (carried_out engine calls rows command)
+carried_out-keeps engine calls rows None = same rows _
+carried_out-keeps engine calls rows (Some (asked.put kind status title content date)) = put-keeps rows kind status title content date
+carried_out-keeps engine calls rows (Some (asked.edit id status title content date)) = edit-keeps rows id _
+carried_out-keeps engine calls rows (Some (asked.delete id)) = delete-keeps rows id
+carried_out-keeps engine calls rows (Some (asked.option name value)) = option-keeps rows name value
+carried_out-keeps engine calls rows (Some (asked.activate plugin)) = active-keeps engine.plugins rows plugin true
+carried_out-keeps engine calls rows (Some (asked.deactivate plugin)) = active-keeps engine.plugins rows plugin false
+carried_out-keeps engine calls rows (Some (asked.get path)) = got-keeps engine calls rows path
 
 -- a line whose step is a refusal keeps the rows
 pub step-refused : (engine : Engine) (calls : ℕ) (rows new : Rows) (line : List ℕ) (reply : Answer) (r : Refusal) → (new, reply) ≡ step engine calls rows line → reply ≡ refused r → new ≡ rows
 unfolding step
 step-refused engine calls rows new line reply r done is =
-    ap (λ p. p.0) done ∙ carried_out-refused engine calls rows (option_and_then command_of (tree_of line)) r (sym (ap (λ p. p.1) done) ∙ is)
+    ap (λ p. p.0) done ∙ carried_out-keeps engine calls rows (option_and_then command_of (tree_of line)) r (sym (ap (λ p. p.1) done) ∙ is)

@@ -15,7 +15,7 @@ use Rattle.site_program.specs.Serving.{IsReplies, FailsAt}
 use Rattle.site_program.specs.declared.fault.ServeFault.{ServeFault}
 use Rattle.site_program.specs.declared.fault.ServeFault.TheVariants as fault_of
 use Rattle.site_program.specs.Stream.{Takes, Faults, FaultsAt, IsTooLong}
-use Rattle.site_program.specs.declared.rows.Rows.{Rows}
+use Rattle.post_tables.specs.Rows.{Rows}
 
 -- ---- newlines
 

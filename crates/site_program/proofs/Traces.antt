@@ -3,7 +3,7 @@ use Rattle.std.proofs.Common.{◌≡◌, ◌∙◌, refl}
 use Rattle.hook_machine.specs.World.{Text, World}
 use Rattle.hook_machine.specs.declared.fault.RunFault.{RunFault}
 use Rattle.hook_machine.specs.Trace.{Trace, Done, Refused, Turn, and_then, Ended, Fault, end_of}
-use Rattle.site_program.specs.FixedPage.{EndsIn, IsPage, IsRefusedBy}
+use Rattle.site_program.specs.FrontPage.{EndsIn, IsPage, IsRefusedBy}
 
 -- work that is done, and then more
 pub and_then-ended : (trace : Trace Text) (next : World → Text → Trace Text) (world : World) (result : Text) → end_of trace ≡ Ended world result → end_of (and_then trace next) ≡ end_of (next world result)

@@ -1,45 +1,83 @@
 -- Worked pages, computed.
-use Rattle.std.proofs.Common.{◌≡◌, ℕ, codes, refl}
+use Rattle.std.proofs.Common.{◌≡◌, ◌∙◌, ℕ, List, [], ◌∷◌, codes, refl, ap}
 use Rattle.std.specs.Fmt.{digits}
 use Rattle.std.specs.Str.{is_utf8, chars}
-use Rattle.hook_machine.specs.World.{loaded}
+use Rattle.hook_machine.specs.World.{Text, loaded}
+use Rattle.hook_machine.specs.Trace.{end_of}
 use Rattle.hook_machine.specs.Meaning.{deeper, group_pass, priorities_pass, pass, filter_pass, action_pass, handled, piece_pass, pieces_pass, shortcodes_pass, answered, follow, invoked, invoked_with, invoke_within, invoke, filtered}
+use Rattle.post_tables.specs.Rows.{Rows}
 use Rattle.site_program.specs.declared.reply.Refusal.TheVariants.{TooManyCalls}
 use Rattle.site_program.specs.Bundled.{bundled}
-use Rattle.site_program.specs.Rows.{fixed_rows}
-use Rattle.site_program.specs.FixedPage.{each, title_pass, post_pass, posts_pass, page_pass, request}
+use Rattle.site_program.specs.FrontPage.{each, title_pass, post_pass, posts_pass, page_pass, found_posts, status_of, shown, request}
 use Rattle.serde_json.proofs.OnLiterals.{serde_json_on_literals}
-use Rattle.site_program.specs.Tree.{tree_of}
-use Rattle.site_program.specs.Asked.{command_of, get_of}
+use Rattle.site_commands.specs.Tree.{tree_of}
+use Rattle.site_commands.specs.Asked.{command_of, get_of}
 use Rattle.site_program.specs.Step.{step, got}
-use Rattle.site_program.specs.Reply.{refused, page, bytes_of}
+use Rattle.site_program.specs.Reply.{Answer, refused, page, bytes_of}
+use Rattle.site_program.specs.Worked.{IsMarked, one_post}
 
 -- what computes in the pages below
 computes : ℕ
-unfolding loaded deeper group_pass priorities_pass pass filter_pass action_pass handled piece_pass pieces_pass shortcodes_pass answered follow invoked invoked_with invoke_within invoke filtered each title_pass post_pass posts_pass page_pass request bytes_of digits
+unfolding loaded deeper group_pass priorities_pass pass filter_pass action_pass handled piece_pass pieces_pass shortcodes_pass answered follow invoked invoked_with invoke_within invoke filtered each title_pass post_pass posts_pass page_pass bytes_of digits
 computes = 0
 
-pub first_page : request bundled 10000 (fixed_rows bundled.plugins) (codes "/") ≡ page 200 (codes "<h2>TX1Y</h2>")
-unfolding computes
-first_page = refl
+-- the posts that the front of the worked site shows, and the answer that they give
+abbrev front : ℕ → Answer
+front calls = shown 200 (end_of (page_pass bundled calls [] (codes "marks" ∷ []) one_post))
 
-pub first_page_bytes : bytes_of (request bundled 10000 (fixed_rows bundled.plugins) (codes "/")) ≡ codes "page 200 13\n<h2>TX1Y</h2>\n"
-unfolding computes
-first_page_bytes = refl
+front_posts : (rows : Rows) → IsMarked rows → found_posts rows (codes "/") ≡ one_post
+front_posts rows marked = rw (marked.posts) refl
 
-pub missing_page : request bundled 10000 (fixed_rows bundled.plugins) (codes "/x") ≡ page 404 (codes "<p>Nothing found.</p>")
-unfolding computes
-missing_page = refl
+front_is : (calls : ℕ) (rows : Rows) → IsMarked rows → request bundled calls rows (codes "/") ≡ front calls
+unfolding request
+front_is calls rows marked = rw (front_posts rows marked, marked.options, marked.active) refl
 
-pub two_calls : request bundled 2 (fixed_rows bundled.plugins) (codes "/") ≡ page 200 (codes "<h2>TX1Y</h2>")
+marked_page : front 10000 ≡ page 200 (codes "<h2>TX1Y</h2>")
 unfolding computes
-two_calls = refl
+marked_page = refl
 
-pub one_call : request bundled 1 (fixed_rows bundled.plugins) (codes "/") ≡ refused TooManyCalls
+pub first_page : (rows : Rows) → IsMarked rows → request bundled 10000 rows (codes "/") ≡ page 200 (codes "<h2>TX1Y</h2>")
+first_page rows marked = front_is 10000 rows marked ∙ marked_page
+
+page_bytes : bytes_of (page 200 (codes "<h2>TX1Y</h2>")) ≡ codes "page 200 13\n<h2>TX1Y</h2>\n"
 unfolding computes
-one_call = refl
+page_bytes = refl
+
+pub first_page_bytes : (rows : Rows) → IsMarked rows → bytes_of (request bundled 10000 rows (codes "/")) ≡ codes "page 200 13\n<h2>TX1Y</h2>\n"
+first_page_bytes rows marked = ap bytes_of (first_page rows marked) ∙ page_bytes
+
+abbrev nothing_found : Answer
+nothing_found = shown 404 (end_of (page_pass bundled 10000 [] (codes "marks" ∷ []) []))
+
+nothing_is : (rows : Rows) → IsMarked rows → request bundled 10000 rows (codes "/x") ≡ nothing_found
+unfolding request
+nothing_is rows marked = rw (marked.options, marked.active) refl
+
+nothing_page : nothing_found ≡ page 404 (codes "<p>Nothing found.</p>")
+unfolding computes
+nothing_page = refl
+
+pub missing_page : (rows : Rows) → IsMarked rows → request bundled 10000 rows (codes "/x") ≡ page 404 (codes "<p>Nothing found.</p>")
+missing_page rows marked = nothing_is rows marked ∙ nothing_page
+
+page_of_two : front 2 ≡ page 200 (codes "<h2>TX1Y</h2>")
+unfolding computes
+page_of_two = refl
+
+pub two_calls : (rows : Rows) → IsMarked rows → request bundled 2 rows (codes "/") ≡ page 200 (codes "<h2>TX1Y</h2>")
+two_calls rows marked = front_is 2 rows marked ∙ page_of_two
+
+page_of_one : front 1 ≡ refused TooManyCalls
+unfolding computes
+page_of_one = refl
+
+pub one_call : (rows : Rows) → IsMarked rows → request bundled 1 rows (codes "/") ≡ refused TooManyCalls
+one_call rows marked = front_is 1 rows marked ∙ page_of_one
 
 -- from a line of JSON
-pub first_line : step bundled 10000 (fixed_rows bundled.plugins) (codes "{\"cmd\":\"get\",\"path\":\"/\"}") ≡ (fixed_rows bundled.plugins, page 200 (codes "<h2>TX1Y</h2>"))
+line_is : (rows : Rows) → step bundled 10000 rows (codes "{\"cmd\":\"get\",\"path\":\"/\"}") ≡ (rows, request bundled 10000 rows (codes "/"))
 unfolding computes step tree_of command_of get_of got serde_json_on_literals is_utf8 chars
-first_line = refl
+line_is rows = refl
+
+pub first_line : (rows : Rows) → IsMarked rows → step bundled 10000 rows (codes "{\"cmd\":\"get\",\"path\":\"/\"}") ≡ (rows, page 200 (codes "<h2>TX1Y</h2>"))
+first_line rows marked = line_is rows ∙ ap (λ (a : Answer). (rows, a)) (first_page rows marked)

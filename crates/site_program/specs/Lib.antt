@@ -1,11 +1,11 @@
 pub mod Reply
-pub mod Tree
-pub mod Asked
-pub mod Rows
-pub mod FixedPage
+pub mod Site
+pub mod FrontPage
+pub mod Edits
 pub mod Step
 pub mod Lines
 pub mod Serving
 pub mod Stream
 pub mod Bundled
 pub mod Tested
+pub mod Worked

@@ -5,7 +5,7 @@ use Rattle.ends.specs.Known.{AppendsFront}
 use Rattle.site_program.specs.Reply.{Answer, bytes_of}
 use Rattle.site_program.specs.Step.{Answers}
 use Rattle.site_program.specs.Lines.{lines_of, max_lines, max_line, IsLine, ended}
-use Rattle.site_program.specs.declared.rows.Rows.{Rows}
+use Rattle.post_tables.specs.Rows.{Rows}
 use Rattle.site_program.specs.declared.fault.ServeFault.{ServeFault}
 use Rattle.site_program.specs.declared.fault.ServeFault.TheVariants as fault
 

@@ -1,16 +1,17 @@
 -- What the site does at a line.
-use Rattle.std.specs.Prelude.{◌≡◌, ◌⊎◌, ℕ, nat_le, List, length, Option, None, Some, option_and_then, if◌then◌else◌}
+use Rattle.std.specs.Prelude.{◌≡◌, ◌⊎◌, ℕ, Bool, true, false, nat_le, List, length, Option, None, Some, option_and_then, if◌then◌else◌}
 use Rattle.hook_machine.specs.Meaning.{Engine}
-use Rattle.site_program.specs.declared.reply.Refusal.TheVariants.{BadCommand, BadImport, BadDate, UnknownPlugin, BadTemplate, TooLarge, OutOfMemory, Store, NoSuchPage, TooManyPages}
 use Rattle.hook_changes.specs.declared.reply.Call.{Call}
 use Rattle.hook_changes.specs.declared.reply.Reply.{Reply}
-use Rattle.site_program.specs.declared.rows.Rows.{Rows}
+use Rattle.post_tables.specs.Rows.{Rows}
+use Rattle.site_commands.specs.Tree.{tree_of}
+use Rattle.site_commands.specs.Asked.{Asked, command_of}
+use Rattle.site_commands.specs.Asked as asked
+use Rattle.site_program.specs.declared.reply.Refusal.TheVariants.{BadCommand, BadImport, BadDate, UnknownPlugin, BadTemplate, TooLarge, OutOfMemory, Store, NoSuchPage, TooManyPages}
 use Rattle.site_program.specs.declared.setup.Setup.{Setup}
-use Rattle.site_program.specs.Rows.{engine_of, calls_of}
-use Rattle.site_program.specs.Tree.{tree_of}
-use Rattle.site_program.specs.Asked.{Asked, command_of}
-use Rattle.site_program.specs.Asked as asked
-use Rattle.site_program.specs.FixedPage.{request}
+use Rattle.site_program.specs.Site.{engine_of, calls_of}
+use Rattle.site_program.specs.FrontPage.{request}
+use Rattle.site_program.specs.Edits.{put, edit, delete, set_option, set_active}
 use Rattle.site_program.specs.Reply.{Answer, refused}
 
 -- the most bytes that a path may have
@@ -24,23 +25,30 @@ got engine calls rows path = if nat_le (length path) max_path then (rows, reques
 -- the rows after a command, and the reply
 abbrev pub carried_out : Engine → ℕ → Rows → Option Asked → Rows × Answer
 carried_out engine calls rows None = (rows, refused BadCommand)
+carried_out engine calls rows (Some (asked.put kind status title content date)) = put rows kind status title content date
+carried_out engine calls rows (Some (asked.edit id status title content date)) =
+    edit rows id (record { status = status; title = title; content = content; date = date })
+carried_out engine calls rows (Some (asked.delete id)) = delete rows id
+carried_out engine calls rows (Some (asked.option name value)) = set_option rows name value
+carried_out engine calls rows (Some (asked.activate plugin)) = set_active engine.plugins rows plugin true
+carried_out engine calls rows (Some (asked.deactivate plugin)) = set_active engine.plugins rows plugin false
 carried_out engine calls rows (Some (asked.get path)) = got engine calls rows path
 
 -- the rows after a line, and the reply
 unfoldable pub step : Engine → ℕ → Rows → List ℕ → Rows × Answer
 step engine calls rows line = carried_out engine calls rows (option_and_then command_of (tree_of line))
 
--- replies in whose place the refusal of the database may not stand
-abbrev pub ComesBeforeStore : Answer → Type 0
-ComesBeforeStore (refused BadCommand) = Unit {0}
-ComesBeforeStore (refused BadImport) = Unit {0}
-ComesBeforeStore (refused BadDate) = Unit {0}
-ComesBeforeStore (refused UnknownPlugin) = Unit {0}
-ComesBeforeStore (refused BadTemplate) = Unit {0}
-ComesBeforeStore (refused TooLarge) = Unit {0}
-ComesBeforeStore (refused NoSuchPage) = Unit {0}
-ComesBeforeStore (refused TooManyPages) = Unit {0}
-ComesBeforeStore _ = ⊥
+-- replies that are settled before the database is asked: its refusal may not stand in their place
+abbrev pub comes_before_store : Answer → Bool
+comes_before_store (refused BadCommand) = true
+comes_before_store (refused BadImport) = true
+comes_before_store (refused BadDate) = true
+comes_before_store (refused UnknownPlugin) = true
+comes_before_store (refused BadTemplate) = true
+comes_before_store (refused TooLarge) = true
+comes_before_store (refused NoSuchPage) = true
+comes_before_store (refused TooManyPages) = true
+comes_before_store _ = false
 
 module _ (steps : Rows → List ℕ → Rows × Answer) where
   -- The line is answered so, and the rows are left so: by its step, or, for want of memory or by the database, refused with the rows unchanged.
@@ -48,7 +56,7 @@ module _ (steps : Rows → List ℕ → Rows × Answer) where
   Answers old line reply new =
       ((new, reply) ≡ steps old line)
       ⊎ (((reply ≡ refused OutOfMemory) × (new ≡ old))
-      ⊎ ((reply ≡ refused Store) × (new ≡ old) × (ComesBeforeStore (steps old line).1 → ⊥)))
+      ⊎ ((reply ≡ refused Store) × (new ≡ old) × (comes_before_store (steps old line).1 ≡ false)))
 
 -- the steps of a site with this setup
 abbrev pub steps_of : {S : Type 0} → (ℕ → Call → Reply) → (S → ℕ) → Setup S → Rows → List ℕ → Rows × Answer

@@ -4,7 +4,7 @@ use Rattle.std.specs.Io.KnownBytes.{Appends}
 use Rattle.site_program.specs.Reply.{Answer}
 use Rattle.site_program.specs.Lines.{IsLine, HasNoNewline, max_line, ended}
 use Rattle.site_program.specs.Serving.{IsReplies, FailsAt}
-use Rattle.site_program.specs.declared.rows.Rows.{Rows}
+use Rattle.post_tables.specs.Rows.{Rows}
 use Rattle.site_program.specs.declared.fault.ServeFault.{ServeFault}
 use Rattle.site_program.specs.declared.fault.ServeFault.TheVariants as fault
 

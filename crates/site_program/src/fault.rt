@@ -1,5 +1,39 @@
-//! Why serving stops before the end of the input.
+//! What stops a command, or serving.
+ghost use Rattle.std.specs.Prelude.{◌≡◌};
+
+use post_tables::TablesFault;
+use std::alloc::AllocError;
 use thiserror::Error;
+
+/// Why a site's tables can't be used. No row has changed.
+#[derive(Clone, Copy, Debug, PartialEq, Eq, Drop, Error)]
+pub enum StoreFault {
+    /// There was no memory.
+    #[error("out of memory")]
+    OutOfMemory,
+    /// The database refused in another way.
+    #[error("store failed")]
+    Store,
+}
+
+impl From<AllocError> for StoreFault {
+    ghost use Rattle.site_program.specs.declared.fault.StoreFault.TheVariants.{OutOfMemory};
+
+    ghost from_gives = { λ _ fault. fault ≡ OutOfMemory };
+
+    fn from(_error: AllocError) -> StoreFault {
+        StoreFault::OutOfMemory
+    }
+}
+
+impl From<TablesFault> for StoreFault {
+    fn from(fault: TablesFault) -> StoreFault {
+        match fault {
+            TablesFault::OutOfMemory => StoreFault::OutOfMemory,
+            _ => StoreFault::Store,
+        }
+    }
+}
 
 /// Why `serve` stopped before the end of the input. What stands after each is said at [`crate::Site::serve`].
 #[derive(Clone, Copy, Debug, PartialEq, Eq, Drop, Error)]

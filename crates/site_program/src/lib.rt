@@ -6,12 +6,10 @@
 #![tactic(auto)]
 
 mod bundle;
-mod command;
+mod edits;
 mod fault;
-mod line;
 mod page;
 mod reply;
-mod rows;
 mod serve;
 mod setup;
 mod site;
@@ -21,7 +19,8 @@ mod worked;
 
 pub use bundle::{Function, Stored, bundled_reply, marks};
 pub use ends::{EndFault, Reading, Sink, Source, Writing};
-pub use fault::ServeFault;
+pub use fault::{ServeFault, StoreFault};
 pub use reply::{Refusal, SiteReply};
 pub use site::Site;
+pub use site_args::{ArgsAnswer, read_args};
 pub use worked::worked_pages;

@@ -1,11 +1,11 @@
 //! Serving an input, line by line.
 use crate::fault::ServeFault;
-use crate::rows::Rows;
 use crate::setup::Setup;
 use crate::site::Site;
 use callback_store::Stated;
 use ends::{Sink, Source};
 use memchr::memchr;
+use post_tables::Tables;
 
 // The most lines that are served.
 const MAX_LINES: u32 = 1_000_000;
@@ -18,7 +18,7 @@ const CHUNK: usize = 65_536;
 
 impl<'p, S: Stated> Site<'p, S> {
     ghost use Rattle.std.specs.Prelude.{◌≡◌, ℕ, List, Some, ◌++◌, false, OnOk, IfErr, IfSome};
-    ghost use Rattle.site_program.specs.Rows.{setup_of, rows_of};
+    ghost use Rattle.site_program.specs.Site.{setup_of, rows_of};
     ghost use Rattle.site_program.specs.Step.{steps_of};
     ghost use Rattle.site_program.specs.Lines.{lines_of};
     ghost use Rattle.site_program.specs.Serving.{is_read, is_write, IsReplies, ServesAll, Stops};
@@ -56,7 +56,7 @@ impl<'p, S: Stated> Site<'p, S> {
         ensures write { W.has_failed writer.new ≡ is_write result }
         ensures setup { setup_of self.new ≡ setup_of self.old }
     {
-        let Site { setup, rows } = self;
+        let Site { setup, tables } = self;
         let mut chunk = [0u8; CHUNK];
         let mut held = Vec::new(setup.alloc);
         let mut left = MAX_LINES;
@@ -68,10 +68,10 @@ impl<'p, S: Stated> Site<'p, S> {
             if count == 0 {
                 break;
             }
-            setup.take_chunk(rows, &mut held, &mut left, &chunk[..count], writer)?;
+            setup.take_chunk(tables, &mut held, &mut left, &chunk[..count], writer)?;
         }
         if !held.is_empty() {
-            setup.answer(rows, &held, writer)?;
+            setup.answer(tables, &held, writer)?;
         }
         Ok(())
     }
@@ -89,7 +89,7 @@ impl<'p, S: Stated> Setup<'p, S> {
     // Carries out the lines that end in the chunk, the first of which begins with what is held, and holds what follows them.
     fn take_chunk<W: Sink>(
         &self,
-        rows: &mut Rows,
+        tables: &mut Tables,
         held: &mut Vec<u8>,
         left: &mut u32,
         chunk: &[u8],
@@ -99,13 +99,13 @@ impl<'p, S: Stated> Setup<'p, S> {
         requires line { IsLine held.old.items }
         requires room { 0 < length held.old.items → 0 < left.old }
         ensures ok { OnOk result (Takes (steps_of S.says S.number self.now)
-            rows.old left.old (held.old.items ++ chunk.now)
-            (W.contents writer.old) (W.contents writer.new) rows.new left.new held.new.items) }
+            tables.old left.old (held.old.items ++ chunk.now)
+            (W.contents writer.old) (W.contents writer.new) tables.new left.new held.new.items) }
         ensures line { OnOk result (IsLine held.new.items) }
         ensures room { OnOk result (0 < length held.new.items → 0 < left.new) }
         ensures err { IfErr result (Faults (steps_of S.says S.number self.now)
-            rows.old left.old (held.old.items ++ chunk.now)
-            (W.contents writer.old) (W.contents writer.new) rows.new) }
+            tables.old left.old (held.old.items ++ chunk.now)
+            (W.contents writer.old) (W.contents writer.new) tables.new) }
         ensures failed { W.has_failed writer.new ≡ is_write result }
     {
         let mut rest = chunk;
@@ -113,7 +113,7 @@ impl<'p, S: Stated> Setup<'p, S> {
             if *left == 0 || end > MAX_LINE - held.len() {
                 return Err(ServeFault::TooMuchInput);
             }
-            self.finish_line(rows, held, &rest[..end], writer)?;
+            self.finish_line(tables, held, &rest[..end], writer)?;
             *left -= 1;
             rest = &rest[end + 1..];
         }
@@ -132,7 +132,7 @@ impl<'p, S: Stated> Setup<'p, S> {
     // Carries out the line that ends with this part, and holds nothing more.
     fn finish_line<W: Sink>(
         &self,
-        rows: &mut Rows,
+        tables: &mut Tables,
         held: &mut Vec<u8>,
         part: &[u8],
         writer: &mut W,
@@ -141,25 +141,25 @@ impl<'p, S: Stated> Setup<'p, S> {
         requires short { length (held.old.items ++ part.now) ≤ 1048576 }
         ensures ok { OnOk result ((reply : Answer)
             × Answers (steps_of S.says S.number self.now)
-            rows.old (held.old.items ++ part.now) reply rows.new
+            tables.old (held.old.items ++ part.now) reply tables.new
             × Appends (W.contents writer.old) (W.contents writer.new) (bytes_of reply)) }
         ensures empty { OnOk result (held.new.items ≡ []) }
         ensures write { IsErrOf result ServeFault.Write → FailsAt (steps_of S.says S.number self.now)
-            rows.old (held.old.items ++ part.now)
-            (W.contents writer.old) (W.contents writer.new) rows.new }
+            tables.old (held.old.items ++ part.now)
+            (W.contents writer.old) (W.contents writer.new) tables.new }
         ensures memory { IsErrOf result ServeFault.OutOfMemory
-            → (rows.new ≡ rows.old) × (W.contents writer.new ≡ W.contents writer.old) }
+            → (tables.new ≡ tables.old) × (W.contents writer.new ≡ W.contents writer.old) }
         ensures only { IfErr result (λ e. (e ≡ ServeFault.Write) ⊎ (e ≡ ServeFault.OutOfMemory)) }
         ensures failed { W.has_failed writer.new ≡ is_write result }
     {
         if held.is_empty() {
-            return self.answer(rows, part, writer);
+            return self.answer(tables, part, writer);
         }
         match held.extend_from_slice(part) {
             Ok(()) => {}
             Err(_) => return Err(ServeFault::OutOfMemory),
         }
-        self.answer(rows, held, writer)?;
+        self.answer(tables, held, writer)?;
         held.clear();
         Ok(())
     }
@@ -167,20 +167,20 @@ impl<'p, S: Stated> Setup<'p, S> {
     // Carries out one line, and writes its reply.
     fn answer<W: Sink>(
         &self,
-        rows: &mut Rows,
+        tables: &mut Tables,
         line: &[u8],
         writer: &mut W,
     ) -> Result<(), ServeFault>
         requires { W.has_failed writer.old ≡ false }
         ensures ok { OnOk result ((reply : Answer)
-            × Answers (steps_of S.says S.number self.now) rows.old line.now reply rows.new
+            × Answers (steps_of S.says S.number self.now) tables.old line.now reply tables.new
             × Appends (W.contents writer.old) (W.contents writer.new) (bytes_of reply)) }
         ensures err { OnErr result (FailsAt (steps_of S.says S.number self.now)
-            rows.old line.now (W.contents writer.old) (W.contents writer.new) rows.new) }
+            tables.old line.now (W.contents writer.old) (W.contents writer.new) tables.new) }
         ensures fault { IfErr result (λ e. e ≡ ServeFault.Write) }
         ensures failed { W.has_failed writer.new ≡ is_err result }
     {
-        let reply = self.command(rows, line);
+        let reply = self.command(tables, line);
         reply.write_to(writer)
     }
 }

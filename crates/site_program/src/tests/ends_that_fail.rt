@@ -63,7 +63,7 @@ impl Sink for Small {
     }
 }
 
-// The test plugin under a name that the fixed site doesn't have active.
+// The test plugin, which is not active.
 macro_rules! nothing_active {
     ($alloc:expr) => {{
         let first: Function = Box::new(
@@ -88,10 +88,10 @@ macro_rules! nothing_active {
 }
 
 const INPUT: &[u8] =
-    b"{\"cmd\":\"get\",\"path\":\"/\"}\n{}\n\n{\"cmd\":\"get\",\"path\":\"/x\"}\n{\"cmd\":\"get\",\"path\":\"/\"}";
+    b"{\"cmd\":\"get\",\"path\":\"/\"}\n{}\n\n{\"cmd\":\"put\",\"title\":\"T\",\"date\":\"2024-05-01 10:00:00\"}\n{\"cmd\":\"get\",\"path\":\"/\"}";
 
 const OUTPUT: &[u8] =
-    b"page 200 10\n<h2>T</h2>\nrefused 1 BadCommand\nrefused 1 BadCommand\npage 404 21\n<p>Nothing found.</p>\npage 200 10\n<h2>T</h2>\n";
+    b"page 200 21\n<p>Nothing found.</p>\nrefused 1 BadCommand\nrefused 1 BadCommand\nok 1\npage 200 10\n<h2>T</h2>\n";
 
 /// Serves the input, cut into pieces of which the first `good` bytes come, into a sink with room for `room` bytes,
 /// and asserts how that ends and what was written.
@@ -103,7 +103,7 @@ fn serves<S: Stated>(
     expected: (Result<(), ServeFault>, &[u8]),
 ) -> Result<(), Fail> {
     let (piece, good, room) = ends;
-    let mut site = Site::fixed(alloc, plugins, 10)?;
+    let mut site = Site::new(alloc, plugins, 10, 64)?;
     let mut reader = Cut {
         bytes: INPUT,
         piece,
@@ -135,7 +135,7 @@ fn in_pieces(rt: HostRuntime) -> Result<(), Fail> {
 fn a_source_that_fails(rt: HostRuntime) -> Result<(), Fail> {
     let alloc = rt.alloc();
     let plugins = nothing_active!(alloc);
-    let first: &[u8] = b"page 200 10\n<h2>T</h2>\n";
+    let first: &[u8] = b"page 200 21\n<p>Nothing found.</p>\n";
     for good in [24usize, 25, 26] {
         let written: &[u8] = if good < 25 { b"" } else { first };
         serves(
@@ -156,7 +156,7 @@ fn a_sink_that_fails(rt: HostRuntime) -> Result<(), Fail> {
     for (room, written) in [
         (0usize, b"".as_slice()),
         (5, b"page ".as_slice()),
-        (23, b"page 200 10\n<h2>T</h2>\n".as_slice()),
+        (34, b"page 200 21\n<p>Nothing found.</p>\n".as_slice()),
     ] {
         serves(
             &rt,
@@ -189,7 +189,7 @@ fn long_lines(rt: HostRuntime) -> Result<(), Fail> {
         for _ in 0..spaces {
             input.push(b' ')?;
         }
-        let mut site = Site::fixed(alloc, &plugins, 10)?;
+        let mut site = Site::new(alloc, &plugins, 10, 64)?;
         let mut out = Vec::new(alloc);
         let mut reader = Reading::new(input.as_slice());
         let served = site.serve(&mut reader, &mut Writing::new(&mut out));

@@ -1,7 +1,7 @@
 use Rattle.std.proofs.Common.{subst}
 use Rattle.std.proofs.lemmas.Result.{on_ok_weaker, err_from_is_err_and}
 use Rattle.hook_machine.specs.Runs.{world_of}
-use Rattle.site_program.specs.FixedPage.{title_pass, EndsIn, IsRefusedBy}
+use Rattle.site_program.specs.FrontPage.{title_pass, EndsIn, IsRefusedBy}
 use Rattle.site_program.proofs.Pages.{post-ended, post-refused}
 use Rattle.site_program.proofs.page.print_post.Goals as goal
 

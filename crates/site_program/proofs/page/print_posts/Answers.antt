@@ -3,7 +3,7 @@ use Rattle.std.proofs.lemmas.Grind.{common_steps}
 use Rattle.std.proofs.lemmas.Bool.{eqb-true}
 use Rattle.std.proofs.lemmas.Result.{on_ok_weaker, err_from_is_err_and}
 use Rattle.hook_machine.specs.Runs.{world_of, engine_of}
-use Rattle.site_program.specs.FixedPage.{post_pass, EndsIn, IsRefusedBy}
+use Rattle.site_program.specs.FrontPage.{post_pass, EndsIn, IsRefusedBy}
 use Rattle.std.proofs.lemmas.List.{nil_from_length}
 use Rattle.site_program.proofs.Streams.{some_of}
 use Rattle.site_program.proofs.Pages.{posts-none, posts-refused, posts-ended, each-step}

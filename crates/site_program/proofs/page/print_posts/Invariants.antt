@@ -1,7 +1,7 @@
 use Rattle.std.proofs.Common.{◌≡◌, None, drop}
 use Rattle.hook_machine.specs.Runs.{world_of, fault_of, engine_of}
 use Rattle.hook_machine.specs.Trace.{end_of}
-use Rattle.site_program.specs.FixedPage.{each, post_pass}
+use Rattle.site_program.specs.FrontPage.{each, post_pass}
 use Rattle.site_program.proofs.page.print_posts.Given as goal
 
 -- what is left ends as all the posts end

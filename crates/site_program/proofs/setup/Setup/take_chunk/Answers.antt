@@ -38,6 +38,16 @@ returns-then-left-eq0-2-clause-err g c =
     ] in
     fault_at _ _ _ _ _ _ _ _ _ _ _ _ _ _ i.taken i.whole (refl, Appends-nil _, some, past)
 
+-- what follows the last newline found no memory
+pub returns-in-Err-clause-err : goal.returns-in-Err-clause-err
+returns-in-Err-clause-err g c =
+    let i = c.loop-end.invariant in
+    let held = c.loop-end.held.items in
+    let rest = c.loop-end.rest.now in
+    let more : 0 < length rest = some_of (length rest) (sym c.is_empty.ensures ∙ c.if-is_empty.false) in
+    let some : 0 < length (held ++ rest) = simp length-append (omega arith) in
+    fault_at _ _ _ _ _ _ _ _ _ _ _ _ _ _ i.taken i.whole (refl, Appends-nil _, some)
+
 -- the line is carried out, and its newline goes
 pub loop-end-preserved : goal.loop-end-preserved
 loop-end-preserved g c =

@@ -1,0 +1,48 @@
+-- No page begins after as many posts as there are IDs.
+use Rattle.std.proofs.Common.{◌≡◌, ◌≤◌, ◌<◌, ◌^◌, ℕ, zero, suc, List, [], ◌∷◌, length, filter, take, drop, Bool, true, false, cond, Ordering, Less, Equal, Greater, refl, sym, ap, subst, ◌∙◌, arith}
+use Rattle.std.proofs.Math.ListN.{drop_of_length-le}
+use Rattle.std.specs.Ordering.{match_ordering}
+use Rattle.sqlite_trees.specs.declared.memory.MemStore.{MemStore}
+use Rattle.sqlite.specs.Held.{Held}
+use Rattle.sqlite.specs.Tree.{IsTable}
+use Rattle.site_records.specs.declared.post.Post.{Post}
+use Rattle.site_records.specs.declared.post.PostKind.{PostKind}
+use Rattle.post_tables.specs.Sorting.{put_sorted, sorted}
+use Rattle.post_tables.specs.Page.{newest, is_listed, page_of}
+use Rattle.post_tables.specs.Stored.{IsSite, rows_of, trees_of, post_in}
+use Rattle.post_tables.proofs.Comparing.{mapped_from}
+use Rattle.post_tables.proofs.PageLemmas.{rising_from, rows_are}
+use Rattle.post_tables.proofs.PostRows.{few_posts}
+
+length-put : {X : Type 0} (R : X → X → Ordering) (x : X) (ys : List X) → length (put_sorted R x ys) ≡ suc (length ys)
+length-put R x [] = refl
+length-put R x (y ∷ ys) = go (R x y) (length-put R x ys)
+  where
+    go : (o : Ordering) → length (put_sorted R x ys) ≡ suc (length ys) → length (match_ordering o (x ∷ y ∷ ys) (x ∷ y ∷ ys) (y ∷ put_sorted R x ys)) ≡ suc (suc (length ys))
+    go Less later = refl
+    go Equal later = refl
+    go Greater later = ap (λ n. suc n) later
+
+length-sorted : {X : Type 0} (R : X → X → Ordering) (xs : List X) → length (sorted R xs) ≡ length xs
+length-sorted R [] = refl
+length-sorted R (x ∷ xs) = length-put R x (sorted R xs) ∙ ap (λ n. suc n) (length-sorted R xs)
+
+length-some : {X : Type 0} (p : X → Bool) (xs : List X) → length (filter p xs) ≤ length xs
+length-some p [] = omega arith
+length-some p (x ∷ xs) = let rest = length-some p xs in elim (p x) as (λ b. length (cond b (x ∷ filter p xs) (filter p xs)) ≤ length (x ∷ xs)) [ true ↦ omega arith | false ↦ omega arith ]
+
+nothing_taken : (n : ℕ) (none : List Post) → none ≡ [] → take n none ≡ []
+nothing_taken zero none is = refl
+nothing_taken (suc n) none is = ap (take (suc n)) is
+
+pub beyond : (h : Held MemStore) → IsSite h → (kind : PostKind) (from to : List ℕ) (limit offset : ℕ) → 2 ^ 32 ≤ offset → page_of kind from to limit offset (rows_of h).posts ≡ []
+beyond h is kind from to limit offset far =
+    let ok = is.holds.sound.posts in
+    let ps : List Post = (rows_of h).posts in
+    let few : length ps ≤ 2 ^ 32 = few_posts (2 ^ 32) ps (rising_from ps (subst IsTable (rows_are (trees_of h 0) ok.each) ok.ordered))
+    (λ q there. let r = mapped_from post_in (trees_of h 0) q there in subst (λ (p : Post). p.id < 2 ^ 32) (sym r.2) (ok.within r.0 r.1)) in
+    let listed : List Post = filter (is_listed kind from to) ps in
+    let some : length listed ≤ length ps = length-some (is_listed kind from to) ps in
+    let all : length (sorted newest listed) ≡ length listed = length-sorted newest listed in
+    let past : length (sorted newest listed) ≤ offset = omega arith in
+    nothing_taken limit (drop offset (sorted newest listed)) (drop_of_length-le (sorted newest listed) past)

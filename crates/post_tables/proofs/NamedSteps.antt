@@ -1,0 +1,146 @@
+-- What each statement on a table of names makes of the site.
+use Rattle.std.proofs.Common.{◌≡◌, ℕ, List, [], ◌∷◌, map, codes, Ok, Err, Result, IfOk, Vec, refl, sym, ap, subst, ◌∙◌}
+use Rattle.std.specs.declared.alloc.Global.{Global}
+use Rattle.std.specs.FinMap.{entries, insert, remove, keys}
+use Rattle.sqlite.specs.Order.{Row}
+use Rattle.sqlite_value.specs.declared.value.Value.TheVariants.{Null, Text}
+use Rattle.sqlite_trees.specs.declared.memory.MemStore.{MemStore}
+use Rattle.sqlite.specs.declared.error.Error.{Error}
+use Rattle.sqlite.specs.Term.{lit, col}
+use Rattle.sqlite.specs.Held.{Held, state}
+use Rattle.sqlite.specs.Steps.{over_memory}
+use Rattle.sqlite.specs.Listing.{understood}
+use Rattle.sqlite.specs.State.{Executes, Shown}
+use Rattle.sqlite_tied.specs.Compute.{everything}
+use Rattle.post_tables.specs.Stored.{AreNamed, named_in, HoldsSite, IsSite, rows_of, trees_of, text_rest, text_in, no_rest, nothing_in}
+use Rattle.post_tables.specs.Reading.{pair_from, name_from}
+use Rattle.post_tables.proofs.Statements.{IsDone}
+use Rattle.post_tables.proofs.Parts.{options_now, templates_now, active_now}
+use Rattle.post_tables.proofs.NamedTable.{options, templates, actives}
+use Rattle.post_tables.proofs.NamedRows.{still_named, named_set, others_named, named_removed}
+use Rattle.post_tables.proofs.Replacing.{ReplaceText, replaced}
+use Rattle.post_tables.proofs.NamedDeleting.{DeleteText, deleted}
+use Rattle.post_tables.proofs.NamedReading.{SelectText, names_read, shown}
+
+-- ---- the texts
+
+abbrev pub put_option_text : List ℕ
+put_option_text = codes "INSERT OR REPLACE INTO option (name, value) VALUES (?1, ?2)"
+
+abbrev pub put_template_text : List ℕ
+put_template_text = codes "INSERT OR REPLACE INTO template (name, body) VALUES (?1, ?2)"
+
+abbrev pub put_active_text : List ℕ
+put_active_text = codes "INSERT OR REPLACE INTO active (name) VALUES (?1)"
+
+abbrev pub delete_template_text : List ℕ
+delete_template_text = codes "DELETE FROM template WHERE name = ?1"
+
+abbrev pub delete_active_text : List ℕ
+delete_active_text = codes "DELETE FROM active WHERE name = ?1"
+
+abbrev pub options_text : List ℕ
+options_text = codes "SELECT name, value FROM option ORDER BY name"
+
+abbrev pub templates_text : List ℕ
+templates_text = codes "SELECT name, body FROM template ORDER BY name"
+
+abbrev pub active_text : List ℕ
+active_text = codes "SELECT name FROM active ORDER BY name"
+
+put_option_is : ReplaceText options put_option_text
+unfolding understood everything
+put_option_is = record { terms = lit Null ∷ col 0 0 ∷ col 0 1 ∷ []; width = 3; is = refl; plain = (refl, refl); source = λ name v. refl }
+
+put_template_is : ReplaceText templates put_template_text
+unfolding understood everything
+put_template_is = record { terms = lit Null ∷ col 0 0 ∷ col 0 1 ∷ []; width = 3; is = refl; plain = (refl, refl); source = λ name v. refl }
+
+put_active_is : ReplaceText actives put_active_text
+unfolding understood everything
+put_active_is = record { terms = lit Null ∷ col 0 0 ∷ []; width = 2; is = refl; plain = (refl, refl); source = λ name v. refl }
+
+delete_template_is : DeleteText templates delete_template_text
+unfolding understood everything
+delete_template_is = record { is = refl; plain = (refl, refl) }
+
+delete_active_is : DeleteText actives delete_active_text
+unfolding understood everything
+delete_active_is = record { is = refl; plain = (refl, refl) }
+
+pub options_is : SelectText options options_text
+unfolding understood everything
+options_is = record { projects = col 1 1 ∷ col 1 2 ∷ []; names = codes "name" ∷ codes "value" ∷ []; is = refl; unlisted = refl; plain = (refl, refl); shows = λ z name v. refl }
+
+pub templates_is : SelectText templates templates_text
+unfolding understood everything
+templates_is = record { projects = col 1 1 ∷ col 1 2 ∷ []; names = codes "name" ∷ codes "body" ∷ []; is = refl; unlisted = refl; plain = (refl, refl); shows = λ z name v. refl }
+
+pub active_is : SelectText actives active_text
+unfolding understood everything
+active_is = record { projects = col 1 1 ∷ []; names = codes "name" ∷ []; is = refl; unlisted = refl; plain = (refl, refl); shows = λ z name v. refl }
+
+-- ---- the writes
+
+module _ (old new : Held MemStore) (holds : HoldsSite (state over_memory old).now) (count : ℕ) (name : List ℕ) where
+  pub puts_option : (value : List ℕ) → Executes put_option_text (Text name ∷ Text value ∷ []) (state over_memory old) (state over_memory new) (Ok count) → IsDone (λ s. record s { options = insert s.options name value }) old new
+  puts_option value h =
+      let it = replaced options put_option_text put_option_is old new name value count holds h in
+      let db = trees_of old in
+      let now = options_now db (trees_of new) holds.sound it.others (still_named options (db 2) (trees_of new 2) name value holds.sound.options it.made) _ (named_set options (db 2) (trees_of new 2) name value holds.sound.options it.made) in
+      record { holds = record { schema_is = it.schema_is; sound = now.sound }; rows = now.are; idle = it.idle }
+
+  pub puts_template : (value : List ℕ) → Executes put_template_text (Text name ∷ Text value ∷ []) (state over_memory old) (state over_memory new) (Ok count) → IsDone (λ s. record s { templates = insert s.templates name value }) old new
+  puts_template value h =
+      let it = replaced templates put_template_text put_template_is old new name value count holds h in
+      let db = trees_of old in
+      let now = templates_now db (trees_of new) holds.sound it.others (still_named templates (db 4) (trees_of new 4) name value holds.sound.templates it.made) _ (named_set templates (db 4) (trees_of new 4) name value holds.sound.templates it.made) in
+      record { holds = record { schema_is = it.schema_is; sound = now.sound }; rows = now.are; idle = it.idle }
+
+  pub puts_active : Executes put_active_text (Text name ∷ []) (state over_memory old) (state over_memory new) (Ok count) → IsDone (λ s. record s { active = insert s.active name tt }) old new
+  puts_active h =
+      let it = replaced actives put_active_text put_active_is old new name tt count holds h in
+      let db = trees_of old in
+      let now = active_now db (trees_of new) holds.sound it.others (still_named actives (db 6) (trees_of new 6) name tt holds.sound.active it.made) _ (named_set actives (db 6) (trees_of new 6) name tt holds.sound.active it.made) in
+      record { holds = record { schema_is = it.schema_is; sound = now.sound }; rows = now.are; idle = it.idle }
+
+  pub deletes_template : Executes delete_template_text (Text name ∷ []) (state over_memory old) (state over_memory new) (Ok count) → IsDone (λ s. record s { templates = remove s.templates name }) old new
+  deletes_template h =
+      let db = trees_of old in
+      let ok = holds.sound.templates in
+      let it = deleted templates delete_template_text delete_template_is old new name count holds ok h in
+      let named = subst (AreNamed text_rest text_in) (sym it.is) (others_named (db 4) ok name it.test it.tests) in
+      let now = templates_now db (trees_of new) holds.sound it.others named _ (ap (named_in text_in) it.is ∙ named_removed (db 4) ok name it.test it.tests) in
+      record { holds = record { schema_is = it.schema_is; sound = now.sound }; rows = now.are; idle = it.idle }
+
+  pub deletes_active : Executes delete_active_text (Text name ∷ []) (state over_memory old) (state over_memory new) (Ok count) → IsDone (λ s. record s { active = remove s.active name }) old new
+  deletes_active h =
+      let db = trees_of old in
+      let ok = holds.sound.active in
+      let it = deleted actives delete_active_text delete_active_is old new name count holds ok h in
+      let named = subst (AreNamed no_rest nothing_in) (sym it.is) (others_named (db 6) ok name it.test it.tests) in
+      let now = active_now db (trees_of new) holds.sound it.others named _ (ap (named_in nothing_in) it.is ∙ named_removed (db 6) ok name it.test it.tests) in
+      record { holds = record { schema_is = it.schema_is; sound = now.sound }; rows = now.are; idle = it.idle }
+
+-- ---- the queries
+
+pairs_back : (ps : List (List ℕ × List ℕ)) → map pair_from (map (shown options) ps) ≡ ps
+pairs_back [] = refl
+pairs_back (p ∷ ps) = ap (λ l. p ∷ l) (pairs_back ps)
+
+names_back : (ps : List (List ℕ × Unit {0})) → map name_from (map (shown actives) ps) ≡ map (λ p. p.0) ps
+names_back [] = refl
+names_back (p ∷ ps) = ap (λ l. p.0 ∷ l) (names_back ps)
+
+module _ (old new : Held MemStore) (is : IsSite old) where
+  pub options_rows : (r : Result (Vec Row Global) Error) → IfOk r (λ rows. Shown options_text [] (state over_memory old) (state over_memory new) rows.items) → IfOk r (λ rows. map pair_from rows.items ≡ entries (rows_of old).options)
+  options_rows (Err e) ok = tt
+  options_rows (Ok rows) ok = ap (map pair_from) (names_read options options_text options_is old new rows.items is is.holds.sound.options ok) ∙ pairs_back (entries (rows_of old).options)
+
+  pub templates_rows : (r : Result (Vec Row Global) Error) → IfOk r (λ rows. Shown templates_text [] (state over_memory old) (state over_memory new) rows.items) → IfOk r (λ rows. map pair_from rows.items ≡ entries (rows_of old).templates)
+  templates_rows (Err e) ok = tt
+  templates_rows (Ok rows) ok = ap (map pair_from) (names_read templates templates_text templates_is old new rows.items is is.holds.sound.templates ok) ∙ pairs_back (entries (rows_of old).templates)
+
+  pub active_rows : (r : Result (Vec Row Global) Error) → IfOk r (λ rows. Shown active_text [] (state over_memory old) (state over_memory new) rows.items) → IfOk r (λ rows. map name_from rows.items ≡ keys (rows_of old).active)
+  active_rows (Err e) ok = tt
+  active_rows (Ok rows) ok = ap (map name_from) (names_read actives active_text active_is old new rows.items is is.holds.sound.active ok) ∙ names_back (entries (rows_of old).active)

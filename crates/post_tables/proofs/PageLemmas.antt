@@ -1,0 +1,204 @@
+-- What the query of a part of the posts answers.
+use Rattle.std.proofs.Common.{◌≡◌, inl, inr, ℕ, pos, List, [], ◌∷◌, map, filter, take, drop, Bool, true, false, ◌&&◌, cond, codes, Ok, Err, Result, IfOk, Vec, Less, refl, sym, ap, subst, ◌∙◌}
+use Rattle.std.specs.List.{AllByRecursion, IsDistinct}
+use Rattle.std.specs.Str.{bytes_eq}
+use Rattle.std.specs.declared.alloc.Global.{Global}
+use Rattle.sqlite.specs.declared.error.Error.{Error}
+use Rattle.std.specs.Ordering.{is_ge, nat_cmp, eq_by_cmp}
+use Rattle.std.proofs.lemmas.List.{take-map, drop-map}
+use Rattle.std.proofs.lemmas.Map.Text.{is_eq-slice_cmp}
+use Rattle.sqlite.specs.Order.{Row}
+use Rattle.sqlite.specs.Term.{Term, lit, col}
+use Rattle.sqlite.specs.Tree.{Trees, rowid, IsTable, IsAscending}
+use Rattle.sqlite.specs.Query.{Query, IsAnswer, output, output_cmp, page, Output}
+use Rattle.sqlite.specs.Program.{overlay}
+use Rattle.sqlite_value.specs.declared.value.Value.TheVariants.{Null, Int, Text}
+use Rattle.sqlite_value.specs.declared.keys.Collation.TheVariants.{Binary}
+use Rattle.sqlite_value.specs.declared.keys.Key.{Key}
+use Rattle.sqlite_value.specs.Order.{value_cmp}
+use Rattle.sqlite_value.proofs.OrderLemmas.{value_cmp-Text, value_cmp-Int, then-Equal}
+use Rattle.sqlite_value.proofs.KeyLemmas.{then_tied}
+use Rattle.sqlite_sql.specs.declared.ops.BinaryOp.TheVariants.{Compare}
+use Rattle.sqlite_sql.specs.declared.ops.CompareOp.{CompareOp}
+use Rattle.sqlite_sql.specs.declared.ops.CompareOp.TheVariants.{Eq, Ge, Le}
+use Rattle.sqlite_sql.specs.Term.{op2}
+use Rattle.sqlite_tied.specs.Compute.{everything}
+use Rattle.sqlite.specs.Command.TheVariants.{Select}
+use Rattle.sqlite.specs.Listing.{understood, reads_listing}
+use Rattle.sqlite.proofs.Callers.{IsPlain, command_of}
+use Rattle.post_tables.specs.Schema.{site_schema}
+use Rattle.std.specs.Ordering.{ordering_reverse}
+use Rattle.std.specs.Cmp.{nat_cmp_total}
+use Rattle.std.proofs.lemmas.Bool.{false_from_ne_true}
+use Rattle.sqlite_rules.specs.Lists.{Has}
+use Rattle.sqlite_rules.proofs.ListLemmas.{has_filtered, all_has, all_from}
+use Rattle.sqlite_trees.specs.declared.memory.MemStore.{MemStore}
+use Rattle.sqlite.specs.Held.{Held, state}
+use Rattle.sqlite.specs.Steps.{over_memory}
+use Rattle.sqlite.specs.State.{Shown}
+use Rattle.sqlite.proofs.Callers.{reads_as}
+use Rattle.site_records.specs.declared.post.Post.{Post}
+use Rattle.site_records.specs.declared.post.PostKind.{PostKind}
+use Rattle.site_records.specs.declared.post.PostKind.TheVariants.{Post as OfPost, Page as OfPage}
+use Rattle.site_records.specs.declared.post.PostStatus.{PostStatus}
+use Rattle.site_records.specs.declared.post.PostStatus.TheVariants.{Publish, Draft}
+use Rattle.post_tables.specs.Sorting.{sorted}
+use Rattle.post_tables.specs.Rows.{by_bytes}
+use Rattle.post_tables.specs.Page.{newest, is_kind, is_published, is_listed, page_of}
+use Rattle.post_tables.specs.Stored.{IsSite, rows_of, trees_of, row_of, post_in, kind_text, kind_of, status_text, status_of}
+use Rattle.post_tables.specs.Reading.{post_from}
+use Rattle.post_tables.proofs.Comparing.{equal_is, mapped_from, text_compares, and_true, pos_cmp}
+use Rattle.post_tables.proofs.SortLemmas.{sorted_mapped}
+use Rattle.post_tables.proofs.Reading as reading
+
+abbrev by : Key
+by = record { collation = Binary; descending = true }
+
+abbrev compare : CompareOp → Term → Term → Term
+compare op = op2 (Compare op Binary)
+
+abbrev pub wheres : List Term
+wheres = compare Eq (col 1 2) (col 0 0) ∷ compare Eq (col 1 3) (lit (Text (codes "publish"))) ∷ compare Ge (col 1 6) (col 0 1) ∷ compare Le (col 1 6) (col 0 2) ∷ []
+
+abbrev pub projects : List Term
+projects = col 1 0 ∷ col 1 2 ∷ col 1 3 ∷ col 1 4 ∷ col 1 5 ∷ col 1 6 ∷ []
+
+abbrev pub orders : List (Term × Key)
+orders = (col 1 6, by) ∷ (col 1 0, by) ∷ []
+
+abbrev pub query : Query
+query = reading.query 0 wheres projects [] orders (col 0 3) (col 0 4)
+
+-- ---- the statement
+
+abbrev pub page_text : List ℕ
+page_text = codes "SELECT id, kind, status, title, content, date FROM post WHERE kind = ?1 AND status = 'publish' AND date BETWEEN ?2 AND ?3 ORDER BY date DESC, id DESC LIMIT ?4 OFFSET ?5"
+
+abbrev names : List (List ℕ)
+names = codes "id" ∷ codes "kind" ∷ codes "status" ∷ codes "title" ∷ codes "content" ∷ codes "date" ∷ []
+
+page_is : (command_of (understood site_schema page_text) ≡ Select (record { lets = []; body = query }) names) × (reads_listing site_schema page_text ≡ false)
+unfolding understood everything
+page_is = (refl, refl)
+
+pub page_plain : IsPlain (understood site_schema page_text)
+unfolding understood everything
+page_plain = (refl, refl)
+
+-- ---- what the tests of WHERE say
+
+kinds_tie : (a b : PostKind) → bytes_eq (kind_text a) (kind_text b) ≡ is_kind a b
+kinds_tie OfPost OfPost = refl
+kinds_tie OfPost OfPage = refl
+kinds_tie OfPage OfPost = refl
+kinds_tie OfPage OfPage = refl
+
+published_ties : (s : PostStatus) → bytes_eq (status_text s) (codes "publish") ≡ is_published s
+published_ties Publish = refl
+published_ties Draft = refl
+
+pub kind_back : (k : PostKind) → kind_of (kind_text k) ≡ k
+kind_back OfPost = refl
+kind_back OfPage = refl
+
+pub status_back : (s : PostStatus) → status_of (status_text s) ≡ s
+status_back Publish = refl
+status_back Draft = refl
+
+-- the IDs rise
+abbrev pub Rising : List Post → Type 0
+Rising = IsAscending (λ a b. nat_cmp a.id b.id ≡ Less)
+
+below_from : (p : Post) (ps : List Post) → AllByRecursion (λ r. value_cmp (rowid (row_of p)) (rowid r) ≡ Less) (map row_of ps) → AllByRecursion (λ b. nat_cmp p.id b.id ≡ Less) ps
+below_from p [] up = tt
+below_from p (b ∷ ps) up = (sym (value_cmp-Int (pos p.id) (pos b.id) ∙ pos_cmp p.id b.id) ∙ up.0, below_from p ps up.1)
+
+pub rising_from : (ps : List Post) → IsTable (map row_of ps) → Rising ps
+rising_from [] up = tt
+rising_from (p ∷ ps) up = (below_from p ps up.0, rising_from ps up.1)
+
+rising_filter : (f : Post → Bool) (ps : List Post) → Rising ps → Rising (filter f ps)
+rising_filter f [] up = tt
+rising_filter f (p ∷ ps) up =
+    let later = rising_filter f ps up.1 in
+    elim (f p) as (λ b. Rising (cond b (p ∷ filter f ps) (filter f ps))) [ true ↦ (all_from _ (filter f ps) (λ q h. all_has _ ps q up.0 (has_filtered f ps q h).0), later) | false ↦ later ]
+
+pub rows_are : (rows : List Row) → ((r : Row) → Has rows r → r ≡ row_of (post_in r)) → rows ≡ map row_of (map post_in rows)
+rows_are [] each = refl
+rows_are (r ∷ rows) each = let first = each r (inl refl) in let rest = rows_are rows (λ x h. each x (inr h)) in λ i. first i ∷ rest i
+
+-- what is shown of a post
+abbrev pub shown_post : Post → Row
+shown_post p = Int (pos p.id) ∷ Text (kind_text p.kind) ∷ Text (status_text p.status) ∷ Text p.title ∷ Text p.content ∷ Text p.date ∷ []
+
+pub posts_back : (ps : List Post) → map post_from (map shown_post ps) ≡ ps
+posts_back [] = refl
+posts_back (p ∷ ps) = let rest = posts_back ps in λ i. record p { kind = kind_back p.kind i; status = status_back p.status i } ∷ rest i
+
+module _ (kind : PostKind) (from to : List ℕ) (limit offset : ℕ) where
+  abbrev pub params : Row
+  params = Text (kind_text kind) ∷ Text from ∷ Text to ∷ Int (pos limit) ∷ Int (pos offset) ∷ []
+
+  abbrev passes : Row → Bool
+  passes = reading.passes 0 wheres projects [] orders (col 0 3) (col 0 4) (λ _. []) params
+
+  passes_is : (p : Post) → passes (row_of p) ≡ is_listed kind from to p
+  passes_is p = rw (text_compares, text_compares, text_compares, text_compares, is_eq-slice_cmp, is_eq-slice_cmp, kinds_tie, published_ties)
+      (ap (λ b. is_kind p.kind kind && (is_published p.status && (is_ge (by_bytes p.date from) && b))) (and_true _))
+
+  -- what a post is sorted by, and what is shown of it
+  abbrev pub out : Post → Output
+  out p = (Text p.date ∷ Int (pos p.id) ∷ [], shown_post p)
+
+  newest_is : (a b : Post) → output_cmp query (out a) (out b) ≡ newest a b
+  newest_is a b = rw (value_cmp-Text, value_cmp-Int, then-Equal, pos_cmp) refl
+
+  abbrev shows : Row → Output
+  shows r = output query (params ∷ r ∷ [])
+
+  listed_rows : (ps : List Post) → map shows (filter passes (map row_of ps)) ≡ map out (filter (is_listed kind from to) ps)
+  listed_rows [] = refl
+  listed_rows (p ∷ ps) = rw (passes_is p) (elim (is_listed kind from to p) as (λ b. map shows (cond b (row_of p ∷ filter passes (map row_of ps)) (filter passes (map row_of ps))) ≡ map out (cond b (p ∷ filter (is_listed kind from to) ps) (filter (is_listed kind from to) ps)))
+      [ true ↦ ap (λ l. out p ∷ l) (listed_rows ps) | false ↦ listed_rows ps ])
+
+  tied_ids : (a b : Post) → nat_cmp a.id b.id ≡ Less → eq_by_cmp (output_cmp query) (out a) (out b) ≡ false
+  tied_ids a b lower = false_from_ne_true _ (λ tied.
+      let both = then_tied (by_bytes b.date a.date) (nat_cmp b.id a.id) (sym (newest_is a b) ∙ equal_is _ tied) in
+      let flipped = nat_cmp_total.antisymm a.id b.id ∙ ap ordering_reverse both.1 in
+      cc)
+
+  apart : (ps : List Post) → Rising ps → IsDistinct (eq_by_cmp (output_cmp query)) (map out ps)
+  unfolding IsDistinct
+  apart [] up = tt
+  apart (p ∷ ps) up = (all_from _ (map out ps) (λ o h. let b = mapped_from out ps o h in rw (b.2) (tied_ids p b.0 (all_has _ ps b.0 up.0 b.1))), apart ps up.1)
+
+  first_shown : (ps : List Post) → map (λ (o : Output). o.1) (map out ps) ≡ map shown_post ps
+  first_shown [] = refl
+  first_shown (p ∷ ps) = ap (λ l. shown_post p ∷ l) (first_shown ps)
+
+  -- the answer over the rows of posts
+  pub answered_page : (db : Trees) (rows : List Row) (ps : List Post) → db 0 ≡ map row_of ps → IsTable (db 0) → IsAnswer query db params rows → rows ≡ map shown_post (page_of kind from to limit offset ps)
+  answered_page db rows ps are up a =
+      let ls : List Post = filter (is_listed kind from to) ps in
+      let outs : map shows (filter passes (db 0)) ≡ map out ls = ap (λ l. map shows (filter passes l)) are ∙ listed_rows ps in
+      let distinct : IsDistinct (eq_by_cmp (output_cmp query)) (map out ls) = apart ls (rising_filter (is_listed kind from to) ps (rising_from ps (subst IsTable are up))) in
+      let all = reading.answer_is 0 wheres projects [] orders (col 0 3) (col 0 4) db params rows a (subst (IsDistinct (eq_by_cmp (output_cmp query))) (sym outs) distinct) in
+      all ∙ ap (λ l. page query params (map (λ (o : Output). o.1) (sorted (output_cmp query) l))) outs
+      ∙ ap (λ l. page query params (map (λ (o : Output). o.1) l)) (sym (sorted_mapped newest (output_cmp query) out newest_is ls))
+      ∙ ap (page query params) (first_shown (sorted newest ls))
+      ∙ ap (take limit) (drop-map shown_post offset (sorted newest ls))
+      ∙ take-map shown_post limit (drop offset (sorted newest ls))
+
+-- what the statement answers over the tables of a site
+page_read : (old new : Held MemStore) (kind : PostKind) (from to : List ℕ) (limit offset : ℕ) (rows : List Row) → IsSite old → Shown page_text (params kind from to limit offset) (state over_memory old) (state over_memory new) rows
+    → rows ≡ map shown_post (page_of kind from to limit offset (rows_of old).posts)
+page_read old new kind from to limit offset rows is h =
+    let read = reads_as page_text (params kind from to limit offset) (state over_memory old) (state over_memory new) site_schema is.holds.schema_is (Select (record { lets = []; body = query }) names) page_is.0 page_plain page_is.1 rows h in
+    let posts = is.holds.sound.posts in
+    answered_page kind from to limit offset (overlay (trees_of old) []) rows (map post_in (trees_of old 0)) (rows_are (trees_of old 0) posts.each) posts.ordered (read.answer Null)
+
+pub page_rows : (old new : Held MemStore) (kind : PostKind) (from to : List ℕ) (limit offset : ℕ) (r : Result (Vec Row Global) Error) → IsSite old
+    → IfOk r (λ rows. Shown page_text (params kind from to limit offset) (state over_memory old) (state over_memory new) rows.items)
+    → IfOk r (λ rows. map post_from rows.items ≡ page_of kind from to limit offset (rows_of old).posts)
+page_rows old new kind from to limit offset (Err e) is ok = tt
+page_rows old new kind from to limit offset (Ok rows) is ok = ap (map post_from) (page_read old new kind from to limit offset rows.items is ok) ∙ posts_back (page_of kind from to limit offset (rows_of old).posts)

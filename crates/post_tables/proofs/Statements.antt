@@ -1,0 +1,89 @@
+-- What a statement leaves, whatever it does of its own.
+use Rattle.std.proofs.Common.{◌≡◌, inl, inr, ℕ, List, true, false, Ok, Err, Result, IfOk, IfErr, OnErr, Vec, refl, sym, ap, subst, ◌∙◌}
+use Rattle.std.specs.declared.alloc.Global.{Global}
+use Rattle.sqlite.specs.Order.{Row}
+use Rattle.sqlite_trees.specs.declared.memory.MemStore.{MemStore}
+use Rattle.sqlite.specs.declared.error.Error.{Error}
+use Rattle.sqlite.specs.Held.{Held, state}
+use Rattle.sqlite.specs.Steps.{over_memory, FailsToCommit}
+use Rattle.sqlite.specs.Listing.{understood}
+use Rattle.sqlite.specs.State.{Executes, ExecutesInside, IsRolledBack, Shows, Shown, FailsToQuery}
+use Rattle.sqlite.proofs.Callers.{IsPlain}
+use Rattle.post_tables.specs.Rows.{Rows}
+use Rattle.post_tables.specs.Schema.{site_schema}
+use Rattle.post_tables.specs.Stored.{IsIdle, IsKept, IsSite, HoldsSite, rows_of, rows_in, Makes, MakesInside, Reads, ReadsInside}
+use Rattle.post_tables.proofs.Memory.{refused, answered, unanswered}
+
+-- what a call that changes nothing leaves of the site
+pub kept_site : (old new : Held MemStore) → IsSite old → IsKept old new → Reads old new
+kept_site old new is kept = record { site = record { holds = subst HoldsSite (sym kept.now) is.holds; idle = kept.idle }; same = ap (λ d. rows_in d.trees) kept.now }
+
+-- what a write has done
+pub record IsDone (f : Rows → Rows) (old new : Held MemStore) : Type 0 where
+  pub holds : HoldsSite (state over_memory new).now
+  pub rows : rows_of new ≡ f (rows_of old)
+  pub idle : IsIdle old → IsIdle new
+
+module _ (f : Rows → Rows) (old new : Held MemStore) (sql : List ℕ) (params : Row) (holds : HoldsSite (state over_memory old).now)
+    (does : (count : ℕ) → Executes sql params (state over_memory old) (state over_memory new) (Ok count) → IsDone f old new) where
+  makes_from : IsIdle old → (r : Result ℕ Error) → Executes sql params (state over_memory old) (state over_memory new) r → Makes f old new r
+  makes_from idle (Ok count) h = let done = does count h in record { site = record { holds = done.holds; idle = done.idle idle }; ok = done.rows; err = tt }
+  makes_from idle (Err e) h = let kept = kept_site old new (record { holds = holds; idle = idle }) (refused old new idle sql params e h) in record { site = kept.site; ok = tt; err = kept.same }
+
+  refused_inside : (e : Error) → ExecutesInside 0 sql params (state over_memory old) (state over_memory new) (Err e) → (state over_memory new).committed ≡ (state over_memory old).committed
+  refused_inside e (inl ran) = elim ran.1 [ inl same ↦ same.0.committed_is | inr back ↦ (back.undone refl).1 ]
+  refused_inside e (inr ends) = ends.2.0.committed_is
+
+  pub makes_inside : (r : Result ℕ Error) → ExecutesInside 0 sql params (state over_memory old) (state over_memory new) r → MakesInside f old new r
+  makes_inside (Ok count) h = let done = does count h.0 in record { holds = done.holds; rows = done.rows; inside = h.1.mode; committed = h.1.committed_is }
+  makes_inside (Err e) h = record { holds = tt; rows = tt; inside = tt; committed = refused_inside e h }
+
+pub makes : (f : Rows → Rows) (old new : Held MemStore) (sql : List ℕ) (params : Row) (is : IsSite old) → ((count : ℕ) → Executes sql params (state over_memory old) (state over_memory new) (Ok count) → IsDone f old new)
+    → (r : Result ℕ Error) → Executes sql params (state over_memory old) (state over_memory new) r → Makes f old new r
+makes f old new sql params is does r h = makes_from f old new sql params is.holds does is.idle r h
+
+-- ---- queries
+
+module _ (sql : List ℕ) (plain : IsPlain (understood site_schema sql)) (given : Row) (old new : Held MemStore) (is : IsSite old) where
+  query_kept : (r : Result (Vec Row Global) Error) → IfOk r (λ rows. Shown sql given (state over_memory old) (state over_memory new) rows.items)
+      → IfErr r (FailsToQuery sql given (state over_memory old) (state over_memory new)) → IsKept old new
+  query_kept (Ok rows) ok err = answered old new is.idle sql given rows.items (subst (λ s. IsPlain (understood s sql)) (sym is.holds.schema_is) plain) ok
+  query_kept (Err e) ok err = unanswered old new is.idle sql given e err
+
+  pub reads : (r : Result (Vec Row Global) Error) → IfOk r (λ rows. Shown sql given (state over_memory old) (state over_memory new) rows.items)
+      → IfErr r (FailsToQuery sql given (state over_memory old) (state over_memory new)) → Reads old new
+  reads r ok err = kept_site old new is (query_kept r ok err)
+
+-- ---- how a transaction ends
+
+pub back_site : (old last end : Held MemStore) → IsSite old → (state over_memory last).committed ≡ (state over_memory old).now → IsRolledBack (state over_memory last) (state over_memory end) → Reads old end
+back_site old last end is committed back =
+    let undone = back.undone refl in
+    let now : (state over_memory end).now ≡ (state over_memory old).now = undone.0 ∙ committed in
+    kept_site old end is (record { now = now; idle = record { autocommit = back.autocommit; settled = undone.1 ∙ sym undone.0 } })
+
+pub committed_site : (last end : Held MemStore) → HoldsSite (state over_memory last).now → Shows (state over_memory last) (state over_memory end) (state over_memory last).now (state over_memory last).now false
+    → IsSite end × (rows_of end ≡ rows_of last)
+committed_site last end holds shows =
+    (record { holds = subst HoldsSite (sym shows.now_is) holds; idle = record { autocommit = shows.mode; settled = shows.committed_is ∙ sym shows.now_is } }, ap (λ d. rows_in d.trees) shows.now_is)
+
+pub uncommitted_site : (old last end : Held MemStore) (e : Error) → IsSite old → last.in_transaction ≡ true → (state over_memory last).committed ≡ (state over_memory old).now
+    → FailsToCommit (state over_memory last) (state over_memory end) e → Reads old end
+uncommitted_site old last end e is inside committed (inl broke) = back_site old last end is committed broke.3
+uncommitted_site old last end e is inside committed (inr late) = absurd (let no_more = late.1 in cc)
+
+pub on_err : {A E P : Type 0} (r : Result A E) → P → OnErr r P
+on_err (Ok a) p = tt
+on_err (Err e) p = p
+
+abbrev ok_as : (A E : Type 0) → A → Result A E
+ok_as A E x = Ok x
+
+-- a query and then a write, within a transaction
+pub read_then : {A B E F : Type 0} (f g : Rows → Rows) (begin mid end : Held MemStore) (x : A) (n : B) → ((s : Rows) → f s ≡ g s) → ReadsInside begin mid (ok_as A E x) → MakesInside f mid end (ok_as B E n) → MakesInside g begin end (ok_as (Unit {0}) F tt)
+read_then f g begin mid end x n same reads made = record {
+  holds = made.holds;
+  rows = made.rows ∙ ap (λ d. f (rows_in d.trees)) reads.now ∙ same (rows_of begin);
+  inside = made.inside;
+  committed = made.committed ∙ reads.committed;
+}

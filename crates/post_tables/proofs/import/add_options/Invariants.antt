@@ -1,0 +1,15 @@
+use Rattle.std.proofs.Common.{◌≡◌, drop, true}
+use Rattle.sqlite.specs.Held.{state}
+use Rattle.sqlite.specs.Steps.{over_memory}
+use Rattle.post_tables.specs.Rows.{with_options}
+use Rattle.post_tables.specs.Stored.{HoldsSite, rows_of}
+use Rattle.post_tables.proofs.import.add_options.Given as goal
+
+abbrev pub invariant-loop-pair : goal.invariant-loop-pair
+invariant-loop-pair l = record {
+  same_reference : l.tx.conn.ghost_name ≡ l.fn.tx.conn.ghost_name;
+  holds : HoldsSite (state over_memory l.tx.conn.now).now;
+  inside : l.tx.conn.now.in_transaction ≡ true;
+  committed : (state over_memory l.tx.conn.now).committed ≡ (state over_memory l.fn.tx.conn.now).committed;
+  rest : with_options (drop l.pair-index l.pairs) (rows_of l.tx.conn.now) ≡ with_options l.pairs (rows_of l.fn.tx.conn.now);
+}

@@ -1,0 +1,16 @@
+use Rattle.std.proofs.Common.{◌≡◌, drop, true}
+use Rattle.sqlite.specs.Held.{state}
+use Rattle.sqlite.specs.Steps.{over_memory}
+use Rattle.post_tables.specs.Rows.{with_all, are_new}
+use Rattle.post_tables.specs.Stored.{HoldsSite, rows_of}
+use Rattle.post_tables.proofs.import.add_posts.Given as goal
+
+abbrev pub invariant-loop-post : goal.invariant-loop-post
+invariant-loop-post l = record {
+  same_reference : l.tx.conn.ghost_name ≡ l.fn.tx.conn.ghost_name;
+  holds : HoldsSite (state over_memory l.tx.conn.now).now;
+  inside : l.tx.conn.now.in_transaction ≡ true;
+  committed : (state over_memory l.tx.conn.now).committed ≡ (state over_memory l.fn.tx.conn.now).committed;
+  fresh : are_new (drop l.post-index l.posts) (rows_of l.tx.conn.now).posts ≡ are_new l.posts (rows_of l.fn.tx.conn.now).posts;
+  rest : with_all (drop l.post-index l.posts) (rows_of l.tx.conn.now) ≡ with_all l.posts (rows_of l.fn.tx.conn.now);
+}

@@ -1,0 +1,14 @@
+use Rattle.std.proofs.Common.{[], ◌∷◌}
+use Rattle.std.specs.FinMap.{insert}
+use Rattle.sqlite_value.specs.declared.value.Value.TheVariants.{Text}
+use Rattle.sqlite.proofs.Callers.{memory_is_clean}
+use Rattle.post_tables.proofs.Statements.{makes}
+use Rattle.post_tables.proofs.NamedSteps.{put_active_text, puts_active}
+use Rattle.post_tables.proofs.named.put_active.Goals as goal
+
+pub returns : goal.returns
+returns c =
+    let end = c.execute.new.self in
+    makes (λ s. record s { active = insert s.active c.args.name.now tt }) c.args.conn.now end put_active_text (Text c.args.name.now ∷ []) c.requires
+    (λ count. puts_active c.args.conn.now end c.requires.holds count c.args.name.now) c.execute.result
+    (rw (c.params-to_sql.ensures) at (c.execute.ensures.runs (memory_is_clean end)))

@@ -1,0 +1,15 @@
+use Rattle.std.proofs.Common.{[], ◌∷◌}
+use Rattle.std.specs.FinMap.{insert}
+use Rattle.sqlite_value.specs.declared.value.Value.TheVariants.{Text}
+use Rattle.sqlite.proofs.Callers.{memory_is_clean}
+use Rattle.post_tables.proofs.Statements.{makes_inside}
+use Rattle.post_tables.proofs.NamedSteps.{put_option_text, puts_option}
+use Rattle.post_tables.proofs.named.put_option_in.Goals as goal
+
+pub returns-clause-made : goal.returns-clause-made
+returns-clause-made c =
+    let begin = c.args.tx.now.conn.now in
+    let end = c.execute.new.self.conn.now in
+    makes_inside (λ s. record s { options = insert s.options c.args.name.now c.args.value.now }) begin end put_option_text (Text c.args.name.now ∷ Text c.args.value.now ∷ []) c.requires.holds
+    (λ count. puts_option begin end c.requires.holds count c.args.name.now c.args.value.now) c.execute.result
+    (rw (c.params-to_sql.ensures, c.params-to_sql-2.ensures) at (c.execute.ensures.runs (memory_is_clean end) c.requires.inside))

@@ -1,0 +1,15 @@
+use Rattle.std.proofs.Common.{[], ◌∷◌}
+use Rattle.std.specs.FinMap.{insert}
+use Rattle.sqlite_value.specs.declared.value.Value.TheVariants.{Text}
+use Rattle.sqlite.proofs.Callers.{memory_is_clean}
+use Rattle.post_tables.proofs.Statements.{makes_inside}
+use Rattle.post_tables.proofs.NamedSteps.{put_template_text, puts_template}
+use Rattle.post_tables.proofs.named.put_template_in.Goals as goal
+
+pub returns-clause-made : goal.returns-clause-made
+returns-clause-made c =
+    let begin = c.args.tx.now.conn.now in
+    let end = c.execute.new.self.conn.now in
+    makes_inside (λ s. record s { templates = insert s.templates c.args.name.now c.args.text.now }) begin end put_template_text (Text c.args.name.now ∷ Text c.args.text.now ∷ []) c.requires.holds
+    (λ count. puts_template begin end c.requires.holds count c.args.name.now c.args.text.now) c.execute.result
+    (rw (c.params-to_sql.ensures, c.params-to_sql-2.ensures) at (c.execute.ensures.runs (memory_is_clean end) c.requires.inside))

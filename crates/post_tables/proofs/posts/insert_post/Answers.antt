@@ -1,0 +1,18 @@
+use Rattle.std.proofs.Common.{◌<◌, ◌^◌, arith}
+use Rattle.sqlite.proofs.Callers.{memory_is_clean}
+use Rattle.site_records.specs.declared.post.Post.{Post}
+use Rattle.post_tables.specs.Rows.{with_new}
+use Rattle.post_tables.specs.Reading.{shown}
+use Rattle.post_tables.proofs.Statements.{makes}
+use Rattle.post_tables.proofs.Inserting.{insert_text}
+use Rattle.post_tables.proofs.PostSteps.{puts_post, given}
+use Rattle.post_tables.proofs.posts.insert_post.Goals as goal
+
+pub returns : goal.returns
+returns c =
+    let end = c.execute.new.self in
+    let post : Post = shown c.args.post.now in
+    let within : post.id < 2 ^ 32 = omega arith in
+    makes (with_new post) c.args.conn.now end insert_text (given post) c.requires
+    (λ count. puts_post c.args.conn.now end c.requires.holds count post within) c.execute.result
+    (rw (c.params-to_sql.ensures, c.params-to_sql-2.ensures, c.params-to_sql-3.ensures, c.params-to_sql-4.ensures, c.params-to_sql-5.ensures, c.params-to_sql-6.ensures, c.kind_text.ensures, c.status_text.ensures, c.as_str.ensures) at (c.execute.ensures.runs (memory_is_clean end)))

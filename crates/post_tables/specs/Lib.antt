@@ -1,0 +1,7 @@
+pub mod Schema
+pub mod Sorting
+pub mod Rows
+pub mod Page
+pub mod Stored
+pub mod Reading
+pub mod Worked

@@ -1,0 +1,186 @@
+-- What a site stores, and what each call makes of it.
+use Rattle.std.specs.Prelude.{◌≡◌, ◌⊎◌, ℕ, Bool, true, false, not, ◌&&◌, ◌==◌, List, [], ◌∷◌, map, filter, find, max, nat_lt, if◌then◌else◌, Option, Some, None, unwrap_or, refl}
+use Rattle.std.specs.List.{list_any}
+use Rattle.std.specs.Option.{option_copied}
+use Rattle.std.proofs.Common.{Bor}
+use Rattle.std.specs.declared.cmp.Ordering.{Ordering}
+use Rattle.std.specs.Ordering.{nat_cmp}
+use Rattle.std.specs.Cmp.Lexicographic.{slice_cmp}
+use Rattle.std.specs.Coded.{Coded, code_by, coded×, coded_ℕ, coded_bool, coded_list}
+use Rattle.std.specs.FinMap.{FinMap, empty, insert, remove, code}
+use Rattle.std.specs.FinSet.{FinSet, code as set_code}
+use Rattle.site_records.specs.declared.post.Post.{Post}
+use Rattle.site_records.specs.declared.post.PostKind.{PostKind}
+use Rattle.site_records.specs.declared.post.PostKind.TheVariants.{Post as OfPost, Page as OfPage}
+use Rattle.site_records.specs.declared.post.PostStatus.{PostStatus}
+use Rattle.site_records.specs.declared.post.PostStatus.TheVariants.{Publish, Draft}
+use Rattle.site_records.specs.declared.post.SiteRecords.{SiteRecords}
+use Rattle.post_tables.specs.declared.fault.TablesFault.{TablesFault}
+use Rattle.post_tables.specs.declared.fault.TablesFault.TheVariants.{OutOfMemory, Store}
+
+-- a text, as its bytes
+abbrev pub Text : Type 0
+Text = List ℕ
+
+abbrev pub by_bytes : Text → Text → Ordering
+by_bytes = slice_cmp nat_cmp
+
+-- texts under names, and names alone, both in the order of the names' bytes
+abbrev pub Named : Type 0
+Named = FinMap by_bytes Text
+
+abbrev pub Names : Type 0
+Names = FinSet by_bytes
+
+pub record Rows : Type 0 where
+  -- posts and pages, by ascending ID
+  pub posts : List Post
+  pub options : Named
+  pub templates : Named
+  -- the names of the active plugins
+  pub active : Names
+  -- the greatest ID ever given or imported, also after its post is gone
+  pub largest : ℕ
+
+abbrev pub no_rows : Rows
+no_rows = record { posts = []; options = empty; templates = empty; active = empty; largest = 0 }
+
+-- ---- posts
+
+-- a post in its place by ID, as the table lies
+abbrev pub with_post : Post → List Post → List Post
+with_post p [] = p ∷ []
+with_post p (q ∷ qs) = if nat_lt q.id p.id then q ∷ with_post p qs else p ∷ q ∷ qs
+
+-- the posts but the one with the ID (wp_delete_post, without the trash)
+abbrev pub without_post : ℕ → List Post → List Post
+without_post id = filter (λ q. not (q.id == id))
+
+-- whether there is one with the ID
+abbrev pub has_post : ℕ → List Post → Bool
+has_post id = list_any (λ q. q.id == id)
+
+-- the post with the ID, published or not (get_post)
+abbrev pub post_with : ℕ → List Post → Option Post
+post_with id = find (λ q. q.id == id)
+
+-- one post more. IDs are never used anew, so the largest is kept apart from the posts (SQLite, AUTOINCREMENT)
+abbrev pub with_new : Post → Rows → Rows
+with_new p s = record s { posts = with_post p s.posts; largest = max s.largest p.id }
+
+-- what an edit gives stands in place of what the post had, and what it doesn't give stays (wp_update_post)
+pub record PostEdit : Type 0 where
+  pub status : Option PostStatus
+  pub title : Option Text
+  pub content : Option Text
+  pub date : Option Text
+
+-- of what is given, and what it refers to
+abbrev pub edit_by : Option PostStatus → Option (Bor Text) → Option (Bor Text) → Option (Bor Text) → PostEdit
+edit_by status title content date = record { status = status; title = option_copied title; content = option_copied content; date = option_copied date }
+
+abbrev pub edited_post : PostEdit → Post → Post
+edited_post e q = record q { status = unwrap_or e.status q.status; title = unwrap_or e.title q.title; content = unwrap_or e.content q.content; date = unwrap_or e.date q.date }
+
+abbrev pub edited_posts : ℕ → PostEdit → List Post → List Post
+edited_posts id e = map (λ q. if q.id == id then edited_post e q else q)
+
+-- ---- names
+
+-- a text set under a name, in place of the one before (update_option), or taken away with its name
+abbrev pub set_text : Text → Option Text → Named → Named
+set_text name None texts = remove texts name
+set_text name (Some text) texts = insert texts name text
+
+-- a name put in (activate_plugin), or taken away (deactivate_plugins)
+abbrev pub set_name : Text → Bool → Names → Names
+set_name name true names = insert names name tt
+set_name name false names = remove names name
+
+-- ---- an import
+
+-- the posts are added in the order of their list, each in its place by ID
+abbrev pub with_posts : List Post → List Post → List Post
+with_posts [] stored = stored
+with_posts (p ∷ ps) stored = with_posts ps (with_post p stored)
+
+abbrev pub largest_of : List Post → ℕ → ℕ
+largest_of [] n = n
+largest_of (p ∷ ps) n = largest_of ps (max n p.id)
+
+abbrev pub with_all : List Post → Rows → Rows
+with_all ps s = record s { posts = with_posts ps s.posts; largest = largest_of ps s.largest }
+
+-- no ID of these is there, and none stands twice
+abbrev pub are_new : List Post → List Post → Bool
+are_new [] stored = true
+are_new (p ∷ ps) stored = (not (has_post p.id stored) && not (has_post p.id ps)) && are_new ps stored
+
+-- the pairs are set in the order of their list, so a later one counts
+abbrev pub set_all : List (Text × Text) → Named → Named
+set_all [] texts = texts
+set_all (p ∷ ps) texts = set_all ps (insert texts p.0 p.1)
+
+abbrev pub put_all : List Text → Names → Names
+put_all [] names = names
+put_all (n ∷ ns) names = put_all ns (insert names n tt)
+
+abbrev pub with_options : List (Text × Text) → Rows → Rows
+with_options pairs s = record s { options = set_all pairs s.options }
+
+abbrev pub with_templates : List (Text × Text) → Rows → Rows
+with_templates pairs s = record s { templates = set_all pairs s.templates }
+
+abbrev pub with_active : List Text → Rows → Rows
+with_active names s = record s { active = put_all names s.active }
+
+abbrev pub with_records : SiteRecords → Rows → Rows
+with_records r s = with_active r.active (with_templates r.templates (with_options r.options (with_all r.posts s)))
+
+-- ---- what can go wrong in any call
+
+-- there was no memory, or the database refused
+abbrev pub IsOfStore : TablesFault → Type 0
+IsOfStore e = (e ≡ OutOfMemory) ⊎ (e ≡ Store)
+
+-- ---- the codes of these values
+
+abbrev is_page : PostKind → Bool
+is_page OfPost = false
+is_page OfPage = true
+
+abbrev kind_by : Bool → PostKind
+kind_by false = OfPost
+kind_by true = OfPage
+
+pub kind_back : (k : PostKind) → kind_by (is_page k) ≡ k
+kind_back OfPost = refl
+kind_back OfPage = refl
+
+abbrev is_draft : PostStatus → Bool
+is_draft Publish = false
+is_draft Draft = true
+
+abbrev status_by : Bool → PostStatus
+status_by false = Publish
+status_by true = Draft
+
+pub status_back : (s : PostStatus) → status_by (is_draft s) ≡ s
+status_back Publish = refl
+status_back Draft = refl
+
+abbrev pub text_code : Coded Text
+text_code = coded_list coded_ℕ
+
+abbrev pub post_code : Coded Post
+post_code =
+    code_by (ℕ × (Bool × (Bool × (Text × (Text × Text))))) (coded× coded_ℕ (coded× coded_bool (coded× coded_bool (coded× text_code (coded× text_code text_code)))))
+    (λ p. (p.id, (is_page p.kind, (is_draft p.status, (p.title, (p.content, p.date))))))
+    (λ t. record { id = t.0; kind = kind_by t.1.0; status = status_by t.1.1.0; title = t.1.1.1.0; content = t.1.1.1.1.0; date = t.1.1.1.1.1 })
+    (λ p i. record p { kind = kind_back p.kind i; status = status_back p.status i })
+
+abbrev pub rows_code : Coded Rows
+rows_code =
+    code_by (List Post × (Named × (Named × (Names × ℕ)))) (coded× (coded_list post_code) (coded× (code text_code text_code) (coded× (code text_code text_code) (coded× (set_code text_code) coded_ℕ))))
+    (λ s. (s.posts, (s.options, (s.templates, (s.active, s.largest)))))
+    (λ p. record { posts = p.0; options = p.1.0; templates = p.1.1.0; active = p.1.1.1.0; largest = p.1.1.1.1 }) (λ _. refl)

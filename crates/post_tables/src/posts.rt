@@ -1,0 +1,219 @@
+// The statements on posts.
+ghost use Rattle.std.specs.Prelude.{◌≡◌, true, option_map, not, nat_eq, length, map, IfOk};
+ghost use Rattle.std.specs.Option.{option_to_list, option_copied};
+ghost use Rattle.post_tables.specs.Page.{page_of};
+ghost use Rattle.post_tables.specs.Reading.{post_from, shown, IsTop};
+ghost use Rattle.post_tables.specs.Rows.{
+  with_new,
+  without_post,
+  has_post,
+  post_with,
+  edited_posts,
+  edit_by,
+};
+ghost use Rattle.post_tables.specs.Stored.{
+  IsSite,
+  HoldsSite,
+  Makes,
+  MakesInside,
+  Reads,
+  ReadsInside,
+  TouchesPost,
+  rows_of,
+  kind_text,
+  status_text,
+};
+ghost use Rattle.sqlite.specs.Held.{state};
+ghost use Rattle.sqlite.specs.Steps.{over_memory};
+
+use site_records::{PostDate, PostKind, PostStatus};
+use sqlite::{Connection, Error, MemStore, Row, Transaction, params};
+
+const INSERT_POST: &str = "INSERT INTO post (id, kind, status, title, content, date) \
+     VALUES (?1, ?2, ?3, ?4, ?5, ?6)";
+
+/// A post that is to be put in.
+#[derive(Clone, Copy)]
+pub(crate) struct NewPost<'a> {
+    pub(crate) id: u32,
+    pub(crate) kind: PostKind,
+    pub(crate) status: PostStatus,
+    pub(crate) title: &'a str,
+    pub(crate) content: &'a str,
+    pub(crate) date: &'a PostDate,
+}
+
+/// What the column `kind` has.
+fn kind_text(kind: PostKind) -> &'static str
+    ensures { result.now ≡ kind_text kind }
+{
+    match kind {
+        PostKind::Post => "post",
+        PostKind::Page => "page",
+    }
+}
+
+/// What the column `status` has.
+fn status_text(status: PostStatus) -> &'static str
+    ensures { result.now ≡ status_text status }
+{
+    match status {
+        PostStatus::Publish => "publish",
+        PostStatus::Draft => "draft",
+    }
+}
+
+fn given_status(status: Option<PostStatus>) -> Option<&'static str>
+    ensures { option_copied result ≡ option_map status_text status }
+{
+    match status {
+        Some(status) => Some(status_text(status)),
+        None => None,
+    }
+}
+
+fn given_date(date: Option<&PostDate>) -> Option<&str>
+    ensures { option_copied result ≡ option_copied date.entry }
+{
+    match date {
+        Some(date) => Some(date.as_str()),
+        None => None,
+    }
+}
+
+pub(crate) fn insert_post(
+    conn: &mut Connection<MemStore>,
+    post: &NewPost<'_>,
+) -> Result<usize, Error>
+    requires { IsSite conn.old }
+    ensures { Makes (with_new (shown post.now)) conn.old conn.new result }
+{
+    conn.execute(
+        INSERT_POST,
+        params![
+            post.id,
+            kind_text(post.kind),
+            status_text(post.status),
+            post.title,
+            post.content,
+            post.date.as_str()
+        ],
+    )
+}
+
+pub(crate) fn insert_post_in(
+    tx: &mut Transaction<'_, MemStore>,
+    post: &NewPost<'_>,
+) -> Result<usize, Error>
+    requires holds { HoldsSite (state over_memory tx.old.conn.now).now }
+    requires inside { tx.old.conn.now.in_transaction ≡ true }
+    ensures same_reference { tx.new.conn.ghost_name ≡ tx.old.conn.ghost_name }
+    ensures made { MakesInside (with_new (shown post.now)) tx.old.conn.now tx.new.conn.now result }
+{
+    tx.execute(
+        INSERT_POST,
+        params![
+            post.id,
+            kind_text(post.kind),
+            status_text(post.status),
+            post.title,
+            post.content,
+            post.date.as_str()
+        ],
+    )
+}
+
+pub(crate) fn delete_post(conn: &mut Connection<MemStore>, id: u32) -> Result<usize, Error>
+    requires { IsSite conn.old }
+    ensures { TouchesPost id (λ s. record s { posts = without_post id s.posts })
+        conn.old conn.new result }
+{
+    conn.execute("DELETE FROM post WHERE id = ?1", params![id])
+}
+
+// What is not given is NULL, and the column then keeps what it has.
+pub(crate) fn edit_post(
+    conn: &mut Connection<MemStore>,
+    id: u32,
+    status: Option<PostStatus>,
+    title: Option<&str>,
+    content: Option<&str>,
+    date: Option<&PostDate>,
+) -> Result<usize, Error>
+    requires { IsSite conn.old }
+    ensures { TouchesPost id
+        (λ s. record s {
+          posts = edited_posts id
+              (edit_by status title.entry content.entry date.entry) s.posts;
+        })
+        conn.old conn.new result }
+{
+    conn.execute(
+        "UPDATE post SET status = coalesce(?2, status), title = coalesce(?3, title), \
+         content = coalesce(?4, content), date = coalesce(?5, date) WHERE id = ?1",
+        params![id, given_status(status), title, content, given_date(date)],
+    )
+}
+
+/// The greatest ID ever given is in the row that AUTOINCREMENT keeps.
+pub(crate) fn top_rows(conn: &mut Connection<MemStore>) -> Result<Vec<Row>, Error>
+    requires { IsSite conn.old }
+    ensures reads { Reads conn.old conn.new }
+    ensures rows { IfOk result (λ rows. IsTop rows.items (rows_of conn.old).largest) }
+{
+    conn.query_all("SELECT seq FROM sqlite_sequence WHERE name = 'post'", &[])
+}
+
+pub(crate) fn post_rows(conn: &mut Connection<MemStore>, id: u32) -> Result<Vec<Row>, Error>
+    requires { IsSite conn.old }
+    ensures reads { Reads conn.old conn.new }
+    ensures rows { IfOk result (λ rows. map post_from rows.items
+        ≡ option_to_list (post_with id (rows_of conn.old).posts)) }
+{
+    conn.query_all(
+        "SELECT id, kind, status, title, content, date FROM post WHERE id = ?1",
+        params![id],
+    )
+}
+
+pub(crate) fn page_rows(
+    conn: &mut Connection<MemStore>,
+    kind: PostKind,
+    from: &PostDate,
+    to: &PostDate,
+    limit: u32,
+    offset: u32,
+) -> Result<Vec<Row>, Error>
+    requires { IsSite conn.old }
+    ensures reads { Reads conn.old conn.new }
+    ensures rows { IfOk result (λ rows. map post_from rows.items
+        ≡ page_of kind from.now to.now limit offset (rows_of conn.old).posts) }
+{
+    conn.query_all(
+        "SELECT id, kind, status, title, content, date FROM post \
+         WHERE kind = ?1 AND status = 'publish' AND date BETWEEN ?2 AND ?3 \
+         ORDER BY date DESC, id DESC LIMIT ?4 OFFSET ?5",
+        params![kind_text(kind), from.as_str(), to.as_str(), limit, offset],
+    )
+}
+
+fn id_rows_in(tx: &mut Transaction<'_, MemStore>, id: u32) -> Result<Vec<Row>, Error>
+    requires { HoldsSite (state over_memory tx.old.conn.now).now }
+    ensures same_reference { tx.new.conn.ghost_name ≡ tx.old.conn.ghost_name }
+    ensures reads { ReadsInside tx.old.conn.now tx.new.conn.now result }
+    ensures found { IfOk result (λ rows. not (nat_eq (length rows.items) 0)
+        ≡ has_post id (rows_of tx.old.conn.now).posts) }
+{
+    tx.query_all("SELECT id FROM post WHERE id = ?1", params![id])
+}
+
+/// Whether a post has the ID.
+pub(crate) fn has_post_in(tx: &mut Transaction<'_, MemStore>, id: u32) -> Result<bool, Error>
+    requires { HoldsSite (state over_memory tx.old.conn.now).now }
+    ensures same_reference { tx.new.conn.ghost_name ≡ tx.old.conn.ghost_name }
+    ensures reads { ReadsInside tx.old.conn.now tx.new.conn.now result }
+    ensures found { IfOk result (λ found. found ≡ has_post id (rows_of tx.old.conn.now).posts) }
+{
+    let rows = id_rows_in(tx, id)?;
+    Ok(!rows.is_empty())
+}

@@ -1,0 +1,291 @@
+//! The tables of a site.
+ghost use Rattle.std.specs.Prelude.{
+  ◌≡◌,
+  ◌⊎◌,
+  ◌+◌,
+  ◌<◌,
+  ◌≤◌,
+  true,
+  false,
+  IfOk,
+  IfErr,
+  OnOk,
+  OnErr,
+  All,
+};
+ghost use Rattle.std.specs.FinMap.{insert, entries, keys};
+ghost use Rattle.std.specs.Option.{option_copied};
+ghost use Rattle.post_tables.specs.Rows.{
+  no_rows,
+  with_new,
+  without_post,
+  has_post,
+  post_with,
+  edit_by,
+  edited_posts,
+  set_text,
+  set_name,
+  are_new,
+  with_records,
+  IsOfStore,
+};
+ghost use Rattle.post_tables.specs.Page.{page_of};
+
+use crate::fault::TablesFault;
+use crate::import::import;
+use crate::named::{
+    active_rows, delete_active, delete_template, option_rows, put_active, put_option, put_template,
+    template_rows,
+};
+use crate::posts::{NewPost, delete_post, edit_post, insert_post, page_rows, post_rows, top_rows};
+use crate::read::{read_found, read_names, read_pairs, read_posts, read_top};
+use crate::schema::create;
+use hook_changes::{Listed, Text};
+use site_records::{Post, PostDate, PostKind, PostStatus, SiteRecords};
+use sqlite::{Connection, MemStore};
+use std::alloc::Global;
+use std::marker::Model;
+
+const GREATEST_ID: u32 = 2_147_483_647;
+
+/// What a site stores: posts and pages, options, templates, and the names of the active plugins, in
+/// a database in memory. Contracts see its rows as a record of lists and maps. A call that is refused
+/// leaves each of them as it was.
+#[derive(Drop)]
+pub struct Tables {
+    conn: Connection<MemStore>,
+    alloc: Global,
+}
+
+impl Model for Tables {
+    ghost use Rattle.post_tables.specs.Rows.{Rows, rows_code};
+    ghost use Rattle.post_tables.specs.Stored.{IsSite, rows_of};
+
+    ghost Value = { Rows };
+
+    ghost coded = { rows_code };
+
+    ghost view = { λ t. rows_of t.conn };
+
+    ghost invariant = { λ t. IsSite t.conn };
+}
+
+impl Tables {
+    /// New tables with no rows.
+    pub fn open_in_memory(alloc: Global) -> Result<Tables, TablesFault>
+        ensures ok { IfOk result (λ tables. tables ≡ no_rows) }
+        ensures fault { IfErr result IsOfStore }
+    {
+        let mut conn = Connection::open_in_memory(alloc)?;
+        create(&mut conn)?;
+        Ok(Tables { conn, alloc })
+    }
+
+    /// Puts in a post or a page, and answers its ID: the one after the greatest that was ever given
+    /// (wp_insert_post; SQLite, AUTOINCREMENT). It is refused as `IdsUsedUp` where that is
+    /// 2,147,483,647.
+    pub fn put_post(
+        &mut self,
+        kind: PostKind,
+        status: PostStatus,
+        title: &str,
+        content: &str,
+        date: &PostDate,
+    ) -> Result<u32, TablesFault>
+        ensures id { IfOk result (λ id. id ≡ self.old.largest + 1) }
+        ensures ok { IfOk result (λ id. self.new ≡ with_new
+            (record {
+              id = id;
+              kind = kind;
+              status = status;
+              title = title.now;
+              content = content.now;
+              date = date.now;
+            })
+            self.old) }
+        ensures err { OnErr result (self.new ≡ self.old) }
+
+        // There is no ID left exactly where the greatest was given.
+        ensures left { OnOk result (self.old.largest < 2147483647) }
+        ensures used_up { result ≡ Err TablesFault.IdsUsedUp → 2147483647 ≤ self.old.largest }
+        ensures fault { IfErr result (λ e. (e ≡ TablesFault.IdsUsedUp) ⊎ IsOfStore e) }
+    {
+        let largest = read_top(&top_rows(&mut self.conn)?)?;
+        if largest >= GREATEST_ID {
+            return Err(TablesFault::IdsUsedUp);
+        }
+        let id = largest + 1;
+        let post = NewPost {
+            id,
+            kind,
+            status,
+            title,
+            content,
+            date,
+        };
+        insert_post(&mut self.conn, &post)?;
+        Ok(id)
+    }
+
+    /// Edits the post with the ID. It keeps what is not given, its kind and its ID.
+    pub fn edit_post(
+        &mut self,
+        id: u32,
+        status: Option<PostStatus>,
+        title: Option<&str>,
+        content: Option<&str>,
+        date: Option<&PostDate>,
+    ) -> Result<(), TablesFault>
+        ensures ok { OnOk result (self.new ≡ record self.old {
+          posts = edited_posts id (edit_by status title.entry content.entry date.entry)
+              self.old.posts;
+        }) }
+        ensures err { OnErr result (self.new ≡ self.old) }
+        ensures there { OnOk result (has_post id self.old.posts ≡ true) }
+        ensures missing { result ≡ Err TablesFault.NoSuchPost → has_post id self.old.posts ≡ false }
+        ensures fault { IfErr result (λ e. (e ≡ TablesFault.NoSuchPost) ⊎ IsOfStore e) }
+    {
+        match edit_post(&mut self.conn, id, status, title, content, date)? {
+            0 => Err(TablesFault::NoSuchPost),
+            _ => Ok(()),
+        }
+    }
+
+    /// Deletes the post with the ID. The ID is not given again.
+    pub fn delete_post(&mut self, id: u32) -> Result<(), TablesFault>
+        ensures ok { OnOk result (self.new ≡ record self.old {
+          posts = without_post id self.old.posts;
+        }) }
+        ensures err { OnErr result (self.new ≡ self.old) }
+        ensures there { OnOk result (has_post id self.old.posts ≡ true) }
+        ensures missing { result ≡ Err TablesFault.NoSuchPost → has_post id self.old.posts ≡ false }
+        ensures fault { IfErr result (λ e. (e ≡ TablesFault.NoSuchPost) ⊎ IsOfStore e) }
+    {
+        match delete_post(&mut self.conn, id)? {
+            0 => Err(TablesFault::NoSuchPost),
+            _ => Ok(()),
+        }
+    }
+
+    /// The post or page with the ID, published or not, if there is one.
+    pub fn post(&mut self, id: u32) -> Result<Option<Post>, TablesFault>
+        ensures ok { IfOk result (λ post. post ≡ post_with id self.old.posts) }
+        ensures same { self.new ≡ self.old }
+        ensures fault { IfErr result IsOfStore }
+    {
+        let rows = post_rows(&mut self.conn, id)?;
+        Ok(read_found(&rows)?)
+    }
+
+    /// The published entries of a kind that are dated `from` one moment `to` another, both included:
+    /// newest first, and of one date the greater ID first (WP_Query, `orderby`). The first `offset` of
+    /// them are left out, and of the others at most `limit` are given.
+    pub fn posts_of(
+        &mut self,
+        kind: PostKind,
+        from: &PostDate,
+        to: &PostDate,
+        limit: u32,
+        offset: u64,
+    ) -> Result<Listed<Post>, TablesFault>
+        ensures ok { IfOk result (λ posts. posts
+            ≡ page_of kind from.now to.now limit offset self.old.posts) }
+        ensures same { self.new ≡ self.old }
+        ensures fault { IfErr result IsOfStore }
+    {
+        // There are fewer IDs than that.
+        let Ok(offset) = u32::try_from(offset) else {
+            return Ok(Listed::empty(self.alloc));
+        };
+        let rows = page_rows(&mut self.conn, kind, from, to, limit, offset)?;
+        Ok(Listed::new(read_posts(self.alloc, &rows)?))
+    }
+
+    /// Sets the value of an option.
+    pub fn set_option(&mut self, name: &str, value: &str) -> Result<(), TablesFault>
+        ensures ok { OnOk result (self.new ≡ record self.old {
+          options = insert self.old.options name.now value.now;
+        }) }
+        ensures err { OnErr result (self.new ≡ self.old) }
+        ensures fault { IfErr result IsOfStore }
+    {
+        put_option(&mut self.conn, name, value)?;
+        Ok(())
+    }
+
+    /// All options with their values, in the order of their names' bytes.
+    pub fn options(&mut self) -> Result<Listed<(Text, Text)>, TablesFault>
+        ensures ok { IfOk result (λ options. options ≡ entries self.old.options) }
+        ensures same { self.new ≡ self.old }
+        ensures fault { IfErr result IsOfStore }
+    {
+        let rows = option_rows(&mut self.conn)?;
+        Ok(Listed::new(read_pairs(self.alloc, &rows)?))
+    }
+
+    /// Makes a name active, or takes it from the active ones. It may have been so before.
+    pub fn set_active(&mut self, name: &str, active: bool) -> Result<(), TablesFault>
+        ensures ok { OnOk result (self.new ≡ record self.old {
+          active = set_name name.now active self.old.active;
+        }) }
+        ensures err { OnErr result (self.new ≡ self.old) }
+        ensures fault { IfErr result IsOfStore }
+    {
+        if active {
+            put_active(&mut self.conn, name)?;
+        } else {
+            delete_active(&mut self.conn, name)?;
+        }
+        Ok(())
+    }
+
+    /// The active names, in the order of their bytes.
+    pub fn active(&mut self) -> Result<Listed<Text>, TablesFault>
+        ensures ok { IfOk result (λ names. names ≡ keys self.old.active) }
+        ensures same { self.new ≡ self.old }
+        ensures fault { IfErr result IsOfStore }
+    {
+        let rows = active_rows(&mut self.conn)?;
+        Ok(Listed::new(read_names(self.alloc, &rows)?))
+    }
+
+    /// Sets the text of a template, or with `None` takes the template away, if it is there.
+    pub fn set_template(&mut self, name: &str, text: Option<&str>) -> Result<(), TablesFault>
+        ensures ok { OnOk result (self.new ≡ record self.old {
+          templates = set_text name.now (option_copied text.entry) self.old.templates;
+        }) }
+        ensures err { OnErr result (self.new ≡ self.old) }
+        ensures fault { IfErr result IsOfStore }
+    {
+        match text {
+            Some(text) => put_template(&mut self.conn, name, text)?,
+            None => delete_template(&mut self.conn, name)?,
+        };
+        Ok(())
+    }
+
+    /// All templates with their texts, in the order of their names' bytes.
+    pub fn templates(&mut self) -> Result<Listed<(Text, Text)>, TablesFault>
+        ensures ok { IfOk result (λ templates. templates ≡ entries self.old.templates) }
+        ensures same { self.new ≡ self.old }
+        ensures fault { IfErr result IsOfStore }
+    {
+        let rows = template_rows(&mut self.conn)?;
+        Ok(Listed::new(read_pairs(self.alloc, &rows)?))
+    }
+
+    /// Adds all records of a site file, or none: the posts first, and then the options, the templates
+    /// and the active names in the order of their lists. It is refused as `DuplicateId` where the ID of
+    /// a post stands twice among these, or is there already.
+    pub fn import(&mut self, records: &SiteRecords) -> Result<(), TablesFault>
+        requires { All (λ p. (1 ≤ p.id) × (p.id ≤ 2147483647)) records.now.posts }
+        ensures ok { OnOk result (self.new ≡ with_records records.now self.old) }
+        ensures err { OnErr result (self.new ≡ self.old) }
+        ensures fresh { OnOk result (are_new records.now.posts self.old.posts ≡ true) }
+        ensures twice { result ≡ Err TablesFault.DuplicateId
+            → are_new records.now.posts self.old.posts ≡ false }
+        ensures fault { IfErr result (λ e. (e ≡ TablesFault.DuplicateId) ⊎ IsOfStore e) }
+    {
+        import(&mut self.conn, records)
+    }
+}

@@ -1,0 +1,3 @@
+pub mod SiteApp
+pub mod GivenValues
+pub mod WorkedArgs

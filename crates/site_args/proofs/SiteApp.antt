@@ -1,0 +1,39 @@
+-- Facts about the program's command line, computed.
+use Rattle.std.proofs.Common.{◌≡◌, [], ◌∷◌, map, true, codes, refl, ap, ap₂}
+use Rattle.std.specs.List.{All, list_all}
+use Rattle.clap.specs.Words.{App, Rule, app_of, args_of, is_simple, is_simple_and_free, with_rule, new_app, rule_of}
+use Rattle.clap.specs.Simple.{on_top}
+use Rattle.clap.specs.declared.builder.command.Command.{Command}
+use Rattle.clap.proofs.OnLiterals.{clap_on_literals}
+use Rattle.clap.proofs.SimpleLemmas.{HasPlainFields, plain_fields, simple_groups}
+use Rattle.site_args.specs.CommandLine.{site_app, number_rule}
+
+pub simple : is_simple site_app ≡ true
+unfolding clap_on_literals site_app
+simple = refl
+
+pub simple_and_free : is_simple_and_free site_app ≡ true
+unfolding clap_on_literals site_app
+simple_and_free = refl
+
+-- a command line of words that stand behind the program's name
+abbrev pub without_name : App → App
+without_name a = on_top (λ s. record s { no_binary_name = true }) a
+
+pub app_is : (a : App) (r s : Rule) → a ≡ without_name (new_app (codes "site")) → r ≡ number_rule (codes "calls") 100000 → s ≡ number_rule (codes "cache") 4096 → with_rule (with_rule a r) s ≡ site_app
+unfolding site_app
+app_is a r s p q t = ap₂ with_rule (ap₂ with_rule p q) t
+
+-- the two options
+pub two_rules : (c : Command) → app_of c ≡ site_app → map rule_of (args_of c) ≡ number_rule (codes "calls") 100000 ∷ number_rule (codes "cache") 4096 ∷ []
+unfolding site_app
+two_rules c is = ap (λ (a : App). a.top.rules) is
+
+-- there are no groups, and no option is in one
+pub plain : (c : Command) → app_of c ≡ site_app → HasPlainFields c
+unfolding site_app
+plain c is = plain_fields c (ap (λ (a : App). a.top.is_plain) is)
+
+pub no_groups : (c : Command) → app_of c ≡ site_app → All (λ a. a.groups.items ≡ []) (args_of c)
+unfolding site_app
+no_groups c is = simple_groups c (ap (λ (a : App). list_all (λ (r : Rule). r.is_simple) a.top.rules) is)

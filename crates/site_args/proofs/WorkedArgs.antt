@@ -1,0 +1,77 @@
+-- Worked command lines, computed.
+use Rattle.std.proofs.Common.{◌≡◌, List, [], ◌∷◌, codes, refl}
+use Rattle.clap.proofs.OnLiterals.{clap_on_literals}
+use Rattle.clap.specs.Words.{Text}
+use Rattle.clap.specs.declared.error.kind.ErrorKind.TheVariants as kind
+use Rattle.site_args.specs.CommandLine.{calls_of, cache_of, reasons, site_app}
+
+pub no_words : reasons [] ≡ []
+unfolding clap_on_literals site_app
+no_words = refl
+
+pub default_calls : calls_of [] ≡ 10000
+unfolding clap_on_literals site_app
+default_calls = refl
+
+pub default_cache : cache_of [] ≡ 64
+unfolding clap_on_literals site_app
+default_cache = refl
+
+abbrev pub two_options : List Text
+two_options = codes "--calls" ∷ codes "100000" ∷ codes "--cache" ∷ codes "1" ∷ []
+
+pub both : reasons two_options ≡ []
+unfolding clap_on_literals site_app
+both = refl
+
+pub both_calls : calls_of two_options ≡ 100000
+unfolding clap_on_literals site_app
+both_calls = refl
+
+pub both_cache : cache_of two_options ≡ 1
+unfolding clap_on_literals site_app
+both_cache = refl
+
+pub one_word : cache_of (codes "--cache=4096" ∷ []) ≡ 4096
+unfolding clap_on_literals site_app
+one_word = refl
+
+pub no_calls : reasons (codes "--calls" ∷ codes "0" ∷ []) ≡ kind.ValueValidation ∷ []
+unfolding clap_on_literals site_app
+no_calls = refl
+
+pub too_many_calls : reasons (codes "--calls" ∷ codes "100001" ∷ []) ≡ kind.ValueValidation ∷ []
+unfolding clap_on_literals site_app
+too_many_calls = refl
+
+pub no_cache : reasons (codes "--cache" ∷ codes "0" ∷ []) ≡ kind.ValueValidation ∷ []
+unfolding clap_on_literals site_app
+no_cache = refl
+
+pub too_large_cache : reasons (codes "--cache" ∷ codes "4097" ∷ []) ≡ kind.ValueValidation ∷ []
+unfolding clap_on_literals site_app
+too_large_cache = refl
+
+pub no_number : reasons (codes "--calls" ∷ codes "x" ∷ []) ≡ kind.ValueValidation ∷ []
+unfolding clap_on_literals site_app
+no_number = refl
+
+pub twice : reasons (codes "--calls" ∷ codes "5" ∷ codes "--calls" ∷ codes "5" ∷ []) ≡ kind.ArgumentConflict ∷ []
+unfolding clap_on_literals site_app
+twice = refl
+
+pub no_value : reasons (codes "--calls" ∷ []) ≡ kind.InvalidValue ∷ []
+unfolding clap_on_literals site_app
+no_value = refl
+
+pub no_option : reasons (codes "--pages" ∷ []) ≡ kind.UnknownArgument ∷ []
+unfolding clap_on_literals site_app
+no_option = refl
+
+pub stray_word : reasons (codes "x" ∷ []) ≡ kind.UnknownArgument ∷ []
+unfolding clap_on_literals site_app
+stray_word = refl
+
+pub help : reasons (codes "--help" ∷ []) ≡ kind.DisplayHelp ∷ []
+unfolding clap_on_literals site_app
+help = refl

@@ -1,0 +1,23 @@
+use Rattle.site_args.proofs.WorkedArgs as computed
+use Rattle.site_args.proofs.worked.worked_args.Goals as goal
+
+pub returns : goal.returns
+returns c = record {
+  no_words = computed.no_words;
+  default_calls = computed.default_calls;
+  default_cache = computed.default_cache;
+  both = computed.both;
+  both_calls = computed.both_calls;
+  both_cache = computed.both_cache;
+  one_word = computed.one_word;
+  no_calls = computed.no_calls;
+  too_many_calls = computed.too_many_calls;
+  no_cache = computed.no_cache;
+  too_large_cache = computed.too_large_cache;
+  no_number = computed.no_number;
+  twice = computed.twice;
+  no_value = computed.no_value;
+  no_option = computed.no_option;
+  stray_word = computed.stray_word;
+  help = computed.help;
+}

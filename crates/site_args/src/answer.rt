@@ -1,0 +1,73 @@
+//! What the words say.
+ghost use Rattle.std.specs.Prelude.{◌≡◌, ◌≤◌, IfOk, map, string_bytes};
+ghost use Rattle.clap.specs.Words.{FailsBy, HasKind, Kinds};
+ghost use Rattle.site_args.specs.CommandLine.{calls_of, cache_of, reasons};
+ghost use Rattle.site_args.specs.Answers.{HasRanges, HasNumbers, IsOutcome, IsRefusal};
+
+use crate::options::site_command;
+use clap::Error;
+use clap::error::ErrorKind;
+use std::alloc::Global;
+
+/// What the words behind the program's name ask for.
+#[derive(Debug, Drop)]
+pub enum ArgsAnswer {
+    /// Serve.
+    Run {
+        /// How many callbacks each page may call: 1 to 100,000, and 10,000 where no word says it.
+        calls: u32,
+        /// How many texts keep their pieces: 1 to 4,096, and 64 where no word says it.
+        cache: u32,
+    },
+    /// Show this help, and serve nothing.
+    Help(String),
+    /// The words are no options of the program; the text says which and why.
+    Bad(String),
+    /// There was no memory to read the words, or to write the text.
+    OutOfMemory,
+}
+
+/// Reads the words behind the program's name: `--calls N`, `--cache N` (also as `--calls=N`) and
+/// `--help`. An option given twice, a number out of its range, any other option and any other word
+/// are [`ArgsAnswer::Bad`]. The last clause says in clap's terms which answer it is.
+pub fn read_args(alloc: Global, words: &[String]) -> ArgsAnswer
+    ensures ranges { HasRanges result }
+    ensures numbers { HasNumbers (map string_bytes words.now) result }
+    ensures outcome { IsOutcome (reasons (map string_bytes words.now)) result }
+{
+    match read_numbers(alloc, words) {
+        Ok((calls, cache)) => ArgsAnswer::Run { calls, cache },
+        Err(error) => refusal(alloc, &error),
+    }
+}
+
+/// The two numbers of the words, or clap's error.
+fn read_numbers(alloc: Global, words: &[String]) -> Result<(u32, u32), Error>
+    ensures calls { IfOk result (λ n.
+        (1 ≤ n.0) × (n.0 ≤ 100000) × (n.0 ≡ calls_of (map string_bytes words.now))) }
+    ensures cache { IfOk result (λ n.
+        (1 ≤ n.1) × (n.1 ≤ 4096) × (n.1 ≡ cache_of (map string_bytes words.now))) }
+    ensures kinds { FailsBy (reasons (map string_bytes words.now)) result }
+{
+    let command = site_command(alloc)?;
+    let matches = command.try_get_matches_from(words)?;
+    let calls = matches.get_one::<u32>("calls").unwrap_or(10_000);
+    let cache = matches.get_one::<u32>("cache").unwrap_or(64);
+    Ok((calls, cache))
+}
+
+/// What an error of clap's means. Where its text has no memory, that is all that is said.
+fn refusal(alloc: Global, error: &Error) -> ArgsAnswer
+    ensures outcome { (kinds : Kinds) → HasKind kinds error.now → IsOutcome kinds result }
+    ensures refusal { IsRefusal result }
+{
+    let kind = error.kind();
+    if kind == ErrorKind::OutOfMemory {
+        return ArgsAnswer::OutOfMemory;
+    }
+    match error.to_string(alloc) {
+        Ok(text) if kind == ErrorKind::DisplayHelp => ArgsAnswer::Help(text),
+        Ok(text) => ArgsAnswer::Bad(text),
+        Err(_) => ArgsAnswer::OutOfMemory,
+    }
+}

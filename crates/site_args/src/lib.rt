@@ -1,0 +1,12 @@
+//! The words behind the program's name: how many calls a page has, and how many texts are kept.
+//! `clap` reads them.
+#![tactic(auto)]
+
+mod answer;
+mod options;
+#[cfg(test)]
+mod tests;
+mod worked;
+
+pub use answer::{ArgsAnswer, read_args};
+pub use worked::worked_args;

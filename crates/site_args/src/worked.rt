@@ -1,0 +1,41 @@
+//! Worked command lines that are theorems: each clause below is computed from clap's definitions.
+ghost use Rattle.std.specs.Prelude.{◌≡◌, ◌∷◌, [], codes};
+ghost use Rattle.site_args.specs.CommandLine.{calls_of, cache_of, reasons};
+
+use clap::error::ErrorKind;
+
+/// What some words mean. The call itself does nothing: it carries these facts.
+pub fn worked_args()
+    ensures no_words { reasons [] ≡ [] }
+    ensures default_calls { calls_of [] ≡ 10000 }
+    ensures default_cache { cache_of [] ≡ 64 }
+
+    ensures both { reasons
+        (codes "--calls" ∷ codes "100000" ∷ codes "--cache" ∷ codes "1" ∷ []) ≡ [] }
+    ensures both_calls { calls_of
+        (codes "--calls" ∷ codes "100000" ∷ codes "--cache" ∷ codes "1" ∷ []) ≡ 100000 }
+    ensures both_cache { cache_of
+        (codes "--calls" ∷ codes "100000" ∷ codes "--cache" ∷ codes "1" ∷ []) ≡ 1 }
+    ensures one_word { cache_of (codes "--cache=4096" ∷ []) ≡ 4096 }
+
+    // What clap turns down, and why.
+    ensures no_calls { reasons (codes "--calls" ∷ codes "0" ∷ [])
+        ≡ ErrorKind.ValueValidation ∷ [] }
+    ensures too_many_calls { reasons (codes "--calls" ∷ codes "100001" ∷ [])
+        ≡ ErrorKind.ValueValidation ∷ [] }
+    ensures no_cache { reasons (codes "--cache" ∷ codes "0" ∷ [])
+        ≡ ErrorKind.ValueValidation ∷ [] }
+    ensures too_large_cache { reasons (codes "--cache" ∷ codes "4097" ∷ [])
+        ≡ ErrorKind.ValueValidation ∷ [] }
+    ensures no_number { reasons (codes "--calls" ∷ codes "x" ∷ [])
+        ≡ ErrorKind.ValueValidation ∷ [] }
+    ensures twice { reasons
+        (codes "--calls" ∷ codes "5" ∷ codes "--calls" ∷ codes "5" ∷ [])
+        ≡ ErrorKind.ArgumentConflict ∷ [] }
+    ensures no_value { reasons (codes "--calls" ∷ []) ≡ ErrorKind.InvalidValue ∷ [] }
+    ensures no_option { reasons (codes "--pages" ∷ []) ≡ ErrorKind.UnknownArgument ∷ [] }
+    ensures stray_word { reasons (codes "x" ∷ []) ≡ ErrorKind.UnknownArgument ∷ [] }
+
+    // It asks for the help.
+    ensures help { reasons (codes "--help" ∷ []) ≡ ErrorKind.DisplayHelp ∷ [] }
+{}

@@ -1,0 +1,168 @@
+//! Commands, read from a line's tree.
+ghost use Rattle.std.specs.Prelude.{◌≡◌, option_map};
+ghost use Rattle.serde_json.specs.View.{view};
+ghost use Rattle.site_commands.specs.Asked.{
+  asked_by,
+  command_of,
+  put_of,
+  edit_of,
+  delete_of,
+  option_of,
+  activate_of,
+  deactivate_of,
+  get_of,
+};
+
+use crate::values::{
+    id_at, kind_named, option_named, status_given, status_named, text_at, text_given, text_or,
+};
+use serde_json::Value;
+use site_records::{PostKind, PostStatus};
+
+/// A command, over the texts of its tree. Sizes of texts and paths, dates, and whether a post or a
+/// plugin is there, aren't looked at: whoever carries the command out refuses those by name.
+#[derive(Clone, Copy, Debug)]
+pub enum Command<'v> {
+    /// Store one more post or page.
+    Put {
+        /// A post where the line doesn't say.
+        kind: PostKind,
+        /// Published where the line doesn't say.
+        status: PostStatus,
+        /// Empty where the line doesn't say, as is the content.
+        title: &'v str,
+        content: &'v str,
+        /// Any text: `site_records::PostDate` reads it.
+        date: &'v str,
+    },
+    /// Change what is given of a post or page, and keep the rest. The kind can't be changed.
+    Edit {
+        /// 1 to 2,147,483,647.
+        id: u32,
+        status: Option<PostStatus>,
+        title: Option<&'v str>,
+        content: Option<&'v str>,
+        /// Any text, as in `Put`.
+        date: Option<&'v str>,
+    },
+    /// Delete a post or page.
+    Delete {
+        /// 1 to 2,147,483,647.
+        id: u32,
+    },
+    /// Set an option.
+    Option {
+        /// 1 to 64 bytes.
+        name: &'v str,
+        value: &'v str,
+    },
+    /// Make a plugin active.
+    Activate {
+        plugin: &'v str,
+    },
+    /// Make a plugin inactive.
+    Deactivate {
+        plugin: &'v str,
+    },
+    /// Show the page of a path.
+    Get {
+        path: &'v str,
+    },
+}
+
+/// The command of a tree, or `None` where it is none: where the tree is no object, its `cmd` is no
+/// text that names a command, or a key of that command is missing and has no default, is of another
+/// kind or out of its range. `null` is of another kind than any. Other keys are ignored.
+/// It takes no memory.
+#[tactic(auto, unfolding(crate::specs::Asked::command_of))]
+pub fn read_command(value: &Value) -> Option<Command<'_>>
+    ensures { option_map asked_by result ≡ command_of (view value.now) }
+{
+    match text_at(value, "cmd")? {
+        "put" => read_put(value),
+        "edit" => read_edit(value),
+        "delete" => read_delete(value),
+        "option" => read_option(value),
+        "activate" => read_activate(value),
+        "deactivate" => read_deactivate(value),
+        "get" => read_get(value),
+        _ => None,
+    }
+}
+
+#[tactic(auto, unfolding(crate::specs::Asked::put_of))]
+fn read_put(value: &Value) -> Option<Command<'_>>
+    ensures { option_map asked_by result ≡ put_of (view value.now) }
+{
+    let kind = kind_named(text_or(value, "kind", "post")?)?;
+    let status = status_named(text_or(value, "status", "publish")?)?;
+    let title = text_or(value, "title", "")?;
+    let content = text_or(value, "content", "")?;
+    let date = text_at(value, "date")?;
+    Some(Command::Put {
+        kind,
+        status,
+        title,
+        content,
+        date,
+    })
+}
+
+#[tactic(auto, unfolding(crate::specs::Asked::edit_of))]
+fn read_edit(value: &Value) -> Option<Command<'_>>
+    ensures { option_map asked_by result ≡ edit_of (view value.now) }
+{
+    let id = id_at(value)?;
+    let status = status_given(value)?;
+    let title = text_given(value, "title")?;
+    let content = text_given(value, "content")?;
+    let date = text_given(value, "date")?;
+    Some(Command::Edit {
+        id,
+        status,
+        title,
+        content,
+        date,
+    })
+}
+
+#[tactic(auto, unfolding(crate::specs::Asked::delete_of))]
+fn read_delete(value: &Value) -> Option<Command<'_>>
+    ensures { option_map asked_by result ≡ delete_of (view value.now) }
+{
+    let id = id_at(value)?;
+    Some(Command::Delete { id })
+}
+
+#[tactic(auto, unfolding(crate::specs::Asked::option_of))]
+fn read_option(value: &Value) -> Option<Command<'_>>
+    ensures { option_map asked_by result ≡ option_of (view value.now) }
+{
+    let name = option_named(text_at(value, "name")?)?;
+    let value = text_at(value, "value")?;
+    Some(Command::Option { name, value })
+}
+
+#[tactic(auto, unfolding(crate::specs::Asked::activate_of))]
+fn read_activate(value: &Value) -> Option<Command<'_>>
+    ensures { option_map asked_by result ≡ activate_of (view value.now) }
+{
+    let plugin = text_at(value, "plugin")?;
+    Some(Command::Activate { plugin })
+}
+
+#[tactic(auto, unfolding(crate::specs::Asked::deactivate_of))]
+fn read_deactivate(value: &Value) -> Option<Command<'_>>
+    ensures { option_map asked_by result ≡ deactivate_of (view value.now) }
+{
+    let plugin = text_at(value, "plugin")?;
+    Some(Command::Deactivate { plugin })
+}
+
+#[tactic(auto, unfolding(crate::specs::Asked::get_of))]
+fn read_get(value: &Value) -> Option<Command<'_>>
+    ensures { option_map asked_by result ≡ get_of (view value.now) }
+{
+    let path = text_at(value, "path")?;
+    Some(Command::Get { path })
+}

@@ -1,0 +1,15 @@
+//! The commands of a site, read from lines of JSON: which command a line is, and what it names.
+//! Lengths of texts and paths, dates, posts and plugins that may not exist are looked at where a
+//! command is carried out.
+#![tactic(auto)]
+
+mod command;
+mod line;
+#[cfg(test)]
+mod tests;
+mod values;
+mod worked;
+
+pub use command::{Command, read_command};
+pub use line::read_line;
+pub use worked::worked_commands;

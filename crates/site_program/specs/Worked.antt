@@ -1,0 +1,16 @@
+-- The site of the worked pages.
+use Rattle.std.specs.Prelude.{◌≡◌, List, [], ◌∷◌, codes}
+use Rattle.site_records.specs.declared.post.Post.{Post}
+use Rattle.site_records.specs.declared.post.PostKind.TheVariants as kind
+use Rattle.site_records.specs.declared.post.PostStatus.TheVariants as status
+use Rattle.post_tables.specs.Rows.{Rows}
+use Rattle.site_program.specs.FrontPage.{options_of, active_of}
+
+abbrev pub one_post : List Post
+one_post = record { id = 1; kind = kind.Post; status = status.Publish; title = codes "T"; content = []; date = codes "2024-05-01 10:00:00" } ∷ []
+
+-- one published post, number 1 with the title `T`, the plugin `marks` active, and no option set
+pub record IsMarked (rows : Rows) : Type 0 where
+  pub posts : rows.posts ≡ one_post
+  pub options : options_of rows ≡ []
+  pub active : active_of rows ≡ codes "marks" ∷ []

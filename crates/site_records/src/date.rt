@@ -1,0 +1,139 @@
+//! Dates of posts.
+
+ghost use Rattle.std.specs.Prelude.{◌≡◌, ◌<◌, ◌≤◌, ◌^◌, is_some, length, IfSome, IsTrue, Ok};
+ghost use Rattle.site_records.specs.Dates.{number, is_day, is_clock, is_post_date};
+
+use jiff::civil::Date;
+use std::alloc::AllocError;
+use std::marker::Model;
+use std::str;
+
+/// The number that some digits spell, and nothing where another byte stands among them.
+fn number(digits: &[u8]) -> Option<u16>
+    requires { length digits.now ≤ 4 }
+    ensures value { result ≡ number digits.now }
+    ensures within { IfSome result (λ n. n < 10 ^ length digits.now) }
+{
+    let mut n = 0u16;
+    for b in digits {
+        if *b < b'0' || *b > b'9' {
+            return None;
+        }
+        n = 10 * n + (*b - b'0') as u16;
+    }
+    Some(n)
+}
+
+/// Whether the calendar has this day, counted from year 1 on.
+fn is_real(year: u16, month: u16, day: u16) -> bool
+    requires year { year < 10 ^ 4 }
+    requires month { month < 10 ^ 2 }
+    requires day { day < 10 ^ 2 }
+    ensures { result ≡ is_day year month day }
+{
+    year > 0 && Date::new(year as i16, month as i8, day as i8).is_ok()
+}
+
+/// Whether a clock shows this time. Leap seconds are no times here.
+fn is_clock(hour: u16, minute: u16, second: u16) -> bool
+    ensures { result ≡ is_clock hour minute second }
+{
+    hour < 24 && minute < 60 && second < 60
+}
+
+/// Whether the text is the date of a post.
+#[tactic(auto, unfolding(crate::specs::Dates::is_post_date))]
+fn is_post_date(text: &str) -> bool
+    ensures value { result ≡ is_post_date text.now }
+    ensures whole { IsTrue result → length text.now ≡ 19 }
+{
+    let t = text.as_bytes();
+    if t.len() != 19 {
+        return false;
+    }
+    if t[4] != b'-' || t[7] != b'-' || t[10] != b' ' || t[13] != b':' || t[16] != b':' {
+        return false;
+    }
+    let Some(year) = number(&t[0..4]) else {
+        return false;
+    };
+    let Some(month) = number(&t[5..7]) else {
+        return false;
+    };
+    let Some(day) = number(&t[8..10]) else {
+        return false;
+    };
+    let Some(hour) = number(&t[11..13]) else {
+        return false;
+    };
+    let Some(minute) = number(&t[14..16]) else {
+        return false;
+    };
+    let Some(second) = number(&t[17..19]) else {
+        return false;
+    };
+    if !is_real(year, month, day) {
+        return false;
+    }
+    is_clock(hour, minute, second)
+}
+
+/// The date and time of a post, which contracts see as its 19 bytes: `YYYY-MM-DD HH:MM:SS`, as `2024-02-29 10:00:00`
+/// (WordPress, wp_insert_post, `post_date`). The year is 0001 to 9999, the day is one of the Gregorian calendar, hours
+/// are 00 to 23, minutes and seconds 00 to 59. There is no time zone. Of two dates the earlier one is the lesser text.
+#[derive(Debug, Drop)]
+pub struct PostDate {
+    bytes: [u8; 19],
+}
+
+impl Model for PostDate {
+    ghost use Rattle.std.specs.Prelude.{List, ℕ, IsTrue, IsUtf8};
+    ghost use Rattle.site_records.specs.Dates.{is_post_date};
+
+    ghost Value = { List ℕ };
+
+    ghost view = { λ d. d.bytes };
+
+    ghost invariant = { λ d. IsTrue (is_post_date d.bytes) × IsUtf8 d.bytes };
+}
+
+impl PostDate {
+    /// Reads a text as a date, and answers `None` where it isn't one: another length, another byte in place of a digit
+    /// or a mark, or a day or a time that there is not. It takes no memory.
+    pub fn read(text: &str) -> Option<PostDate>
+        ensures some { is_some result ≡ is_post_date text.now }
+        ensures text { IfSome result (λ d. d ≡ text.now) }
+    {
+        if !is_post_date(text) {
+            return None;
+        }
+        let mut bytes = [0u8; 19];
+        bytes.copy_from_slice(text.as_bytes());
+        Some(PostDate { bytes })
+    }
+
+    /// The text that was read.
+    pub fn as_str(&self) -> &str
+        ensures { result.now ≡ self.now }
+    {
+        match str::from_utf8(&self.bytes) {
+            Ok(text) => text,
+            Err(_) => unreachable!(),
+        }
+    }
+}
+
+/// A copy takes no memory and is never refused.
+impl Clone for PostDate {
+    ghost use Rattle.std.specs.Prelude.{⊤};
+
+    ghost is_clone = { λ date copy. copy ≡ date };
+
+    ghost is_infallible = { λ _. ⊤ };
+
+    fn clone(&self) -> Result<Self, AllocError>
+        ensures { result ≡ Ok self.now }
+    {
+        Ok(PostDate { bytes: self.bytes })
+    }
+}

@@ -1,0 +1,44 @@
+//! Posts, and the records of a whole site.
+use crate::date::PostDate;
+use hook_changes::{Listed, Text};
+
+/// The kind of an entry (Theme Handbook, Post Types): posts are listed by date, a page stands on its own.
+#[derive(Clone, Copy, Debug, PartialEq, Eq)]
+pub enum PostKind {
+    Post,
+    Page,
+}
+
+/// Whether a visitor sees an entry (WordPress documentation, Post Status).
+#[derive(Clone, Copy, Debug, PartialEq, Eq)]
+pub enum PostStatus {
+    /// It is shown.
+    Publish,
+    /// It is kept, and shown to nobody.
+    Draft,
+}
+
+/// A stored post or page.
+#[derive(Debug, Drop)]
+pub struct Post {
+    /// From 1 to 2,147,483,647, and never given twice.
+    pub id: u32,
+    pub kind: PostKind,
+    pub status: PostStatus,
+    pub title: Text,
+    /// The text as it was entered, with its shortcodes.
+    pub content: Text,
+    pub date: PostDate,
+}
+
+/// All that a site file holds, to be added to a site at once.
+#[derive(Debug, Drop)]
+pub struct SiteRecords {
+    pub posts: Listed<Post>,
+    /// Names and values. Where a name stands twice, the later value counts.
+    pub options: Listed<(Text, Text)>,
+    /// Names and compact JSON texts. Where a name stands twice, the later text counts.
+    pub templates: Listed<(Text, Text)>,
+    /// The names of the plugins that become active.
+    pub active: Listed<Text>,
+}
