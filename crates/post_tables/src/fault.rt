@@ -9,14 +9,19 @@ use thiserror::Error as DeriveError;
 /// Why a call was refused. A refused call leaves every row as it was.
 #[derive(Clone, Copy, Debug, PartialEq, Eq, Drop, DeriveError)]
 pub enum TablesFault {
+    /// No post has the ID.
     #[error("no such post")]
     NoSuchPost,
+    /// The ID of a post to be imported stands twice among these, or is there already.
     #[error("an ID stands twice")]
     DuplicateId,
+    /// The greatest ID was given: 2,147,483,647.
     #[error("the IDs are used up")]
     IdsUsedUp,
+    /// There was not enough memory.
     #[error("out of memory")]
     OutOfMemory,
+    /// The database refused for a reason of its own.
     #[error("the database refused")]
     Store,
 }

@@ -46,11 +46,12 @@ use sqlite::{Connection, MemStore};
 use std::alloc::Global;
 use std::marker::Model;
 
+// The greatest ID that a client with signed 32-bit numbers can name, as the table's CHECK says.
 const GREATEST_ID: u32 = 2_147_483_647;
 
-/// What a site stores: posts and pages, options, templates, and the names of the active plugins, in
-/// a database in memory. Contracts see its rows as a record of lists and maps. A call that is refused
-/// leaves each of them as it was.
+/// What a site stores: posts and pages, options, templates, and the names of the active plugins,
+/// in a database in memory. Contracts see its rows as a record of lists and maps. A call that is
+/// refused leaves each of them as it was.
 #[derive(Drop)]
 pub struct Tables {
     conn: Connection<MemStore>,
@@ -177,9 +178,9 @@ impl Tables {
         Ok(read_found(&rows)?)
     }
 
-    /// The published entries of a kind that are dated `from` one moment `to` another, both included:
-    /// newest first, and of one date the greater ID first (WP_Query, `orderby`). The first `offset` of
-    /// them are left out, and of the others at most `limit` are given.
+    /// The published entries of a kind, dated `from` one moment `to` another, both included:
+    /// newest first, and of one date the greater ID first (WP_Query, `orderby`). The first `offset`
+    /// of them are left out, and of the others at most `limit` are given.
     pub fn posts_of(
         &mut self,
         kind: PostKind,
@@ -274,9 +275,9 @@ impl Tables {
         Ok(Listed::new(read_pairs(self.alloc, &rows)?))
     }
 
-    /// Adds all records of a site file, or none: the posts first, and then the options, the templates
-    /// and the active names in the order of their lists. It is refused as `DuplicateId` where the ID of
-    /// a post stands twice among these, or is there already.
+    /// Adds all records of a site file, or none: the posts first, and then the options, the
+    /// templates and the active names in the order of their lists. It is refused as `DuplicateId`
+    /// where the ID of a post stands twice among these, or is there already.
     pub fn import(&mut self, records: &SiteRecords) -> Result<(), TablesFault>
         requires { All (λ p. (1 ≤ p.id) × (p.id ≤ 2147483647)) records.now.posts }
         ensures ok { OnOk result (self.new ≡ with_records records.now self.old) }

@@ -27,8 +27,8 @@ ghost use Rattle.post_tables.specs.Worked.{
   some_names,
 };
 
-/// What a few calls leave and answer. `post n day` is a published post, `draft n day` one that isn't
-/// published, and `page n day` a page. The call itself does nothing: it carries these facts.
+/// What a few calls leave and answer. `post n day` is a published post, `draft n day` one that
+/// isn't published, and `page n day` a page. The call itself does nothing: it carries these facts.
 pub fn worked_rows()
     // A deleted post takes its ID along: the largest one given stays.
     ensures put { two_posts.posts ≡ post 1 monday ∷ post 2 monday ∷ [] }
