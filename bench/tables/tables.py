@@ -10,15 +10,14 @@ timed beside one with the pages behind it; the difference is what the pages took
 must be, so a program that answers wrongly isn't timed.
 """
 
-import os
-import subprocess
 import sys
-import tempfile
-import time
+from pathlib import Path
+
+sys.path.insert(0, str(Path(__file__).resolve().parent.parent))
+from measured import best, program_named
 
 SIZES = (10, 1_000, 10_000)
 PAGES = 2_000
-RUNS = 3
 SHOWN = 10
 
 
@@ -36,55 +35,16 @@ def page(posts):
     return f"page 200 {len(body)}\n{body}\n"
 
 
-def peak_of(pid, program):
-    """Peak memory in kilobytes of the program so far, or 0 before it has taken this process over."""
-    try:
-        if os.readlink(f"/proc/{pid}/exe") != os.path.realpath(program):
-            return 0
-        with open(f"/proc/{pid}/status", encoding="ascii") as status:
-            return next((int(line.split()[1]) for line in status if line.startswith("VmHWM:")), 0)
-    except OSError:
-        return 0
-
-
-def run(program, given_text, expected):
-    """Seconds and peak memory in kilobytes of one run."""
-    with tempfile.TemporaryFile() as given, tempfile.TemporaryFile() as written:
-        given.write(given_text.encode())
-        given.seek(0)
-        begin = time.perf_counter()
-        child = subprocess.Popen([program], stdin=given, stdout=written)
-        peak = 0
-        while child.poll() is None:
-            peak = max(peak, peak_of(child.pid, program))
-            time.sleep(0.001)
-        seconds = time.perf_counter() - begin
-        if child.returncode != 0:
-            sys.exit(f"{program} ended with status {child.returncode}")
-        written.seek(0)
-        if written.read() != expected.encode():
-            sys.exit(f"{program} answered wrongly")
-        return seconds, peak
-
-
-def best(program, given_text, expected):
-    """The fastest of some runs, and the greatest peak."""
-    runs = [run(program, given_text, expected) for _ in range(RUNS)]
-    return min(seconds for seconds, _ in runs), max(memory for _, memory in runs)
-
-
 def main():
-    top = os.path.dirname(os.path.dirname(os.path.dirname(os.path.abspath(__file__))))
-    program = sys.argv[1] if len(sys.argv) > 1 else os.path.join(top, "crates/site/out/site")
-    if not os.access(program, os.X_OK):
-        sys.exit(f"{program} isn't built: run ./site once, or give another program")
+    program = program_named(sys.argv[1:])
     costs = []
     for posts in SIZES:
         site = "".join(put(number) for number in range(1, posts + 1))
         replies = "".join(f"ok {number}\n" for number in range(1, posts + 1))
-        filling, _ = best(program, site, replies)
+        filling, _ = best(program, site.encode(), replies.encode())
         pages = '{"cmd":"get","path":"/"}\n' * PAGES
-        whole, peak = best(program, site + pages, replies + page(posts) * PAGES)
+        given, expected = site + pages, replies + page(posts) * PAGES
+        whole, peak = best(program, given.encode(), expected.encode())
         cost = max(whole - filling, 1e-9) / PAGES
         costs.append(cost)
         print(
