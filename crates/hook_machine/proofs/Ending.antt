@@ -175,11 +175,11 @@ module _ (inv : Invocation) where
   unfolding follow
   follow_answer w k call text = refl
 
-  pub follow_on : (w : World) (k : ℕ) (call : Call) (ask : Ask) (w' : World) (r : Answer) (again : Call) → end_of (answered inv w ask) ≡ Ended w' r
-      → again ≡ record call { answers = call.answers ++ r ∷ [] } → (x : Result Text RunFault) (v : World) → Ends (inv w' k again) x v → Ends (follow inv w k call (next.Ask ask)) x v
+  pub follow_asked : (w : World) (k : ℕ) (call : Call) (ask : Ask) (w' : World) (r : Answer) (again : Call) → end_of (answered inv w ask) ≡ Ended w' r
+      → again ≡ record call { answers = call.answers ++ r ∷ [] } → end_of (follow inv w k call (next.Ask ask)) ≡ end_of (inv w' k again)
   unfolding follow
-  follow_on w k call ask w' r again h e x v y =
-      ends_alike (inv w' k again) (and_then (answered inv w ask) (λ later reply. inv later k (record call { answers = call.answers ++ reply ∷ [] }))) x v (ap (λ (c : Call). end_of (inv w' k c)) e ∙ sym (end_then (answered inv w ask) (λ later reply. inv later k (record call { answers = call.answers ++ reply ∷ [] })) w' r h)) y
+  follow_asked w k call ask w' r again h e =
+      end_then (answered inv w ask) (λ later reply. inv later k (record call { answers = call.answers ++ reply ∷ [] })) w' r h ∙ ap (λ (c : Call). end_of (inv w' k c)) (sym e)
 
   pub follow_err : (w : World) (k : ℕ) (call : Call) (ask : Ask) (f : RunFault) (w' : World) → Ends (answered inv w ask) (Err f) w' → Ends (follow inv w k call (next.Ask ask)) (Err f) w'
   unfolding follow
@@ -187,13 +187,12 @@ module _ (inv : Invocation) where
 
 module _ (engine : Engine) where
   pub invoke_on : (w taken : World) (k : ℕ) (call : Call) (reply : Reply) (w' : World) → 0 < w.calls → (k == 0) ≡ false → taken ≡ record w { calls = w.calls - 1 } → reply ≡ said engine k call → w' ≡ replied engine taken reply
-      → (x : Result Text RunFault) (v : World) → Ends (follow (invoke engine) w' k call reply.next) x v → Ends (invoke engine w k call) x v
-  invoke_on w taken k call reply w' h n t r e x v y =
-      ends_alike (follow (invoke engine) w' k call reply.next) (invoke engine w k call) x v
-      (sym (ap end_of (invoke_some engine w k call h) ∙ invoked_stated engine (invoke engine) (record w { calls = w.calls - 1 }) k call n
+      → end_of (invoke engine w k call) ≡ end_of (follow (invoke engine) w' k call reply.next)
+  invoke_on w taken k call reply w' h n t r e =
+      ap end_of (invoke_some engine w k call h) ∙ invoked_stated engine (invoke engine) (record w { calls = w.calls - 1 }) k call n
       ∙ ap (λ (q : Reply). end_of (follow (invoke engine) (replied engine (record w { calls = w.calls - 1 }) q) k call q.next)) (sym r)
       ∙ ap (λ (u : World). end_of (follow (invoke engine) (replied engine u reply) k call reply.next)) (sym t)
-      ∙ ap (λ (u : World). end_of (follow (invoke engine) u k call reply.next)) (sym e))) y
+      ∙ ap (λ (u : World). end_of (follow (invoke engine) u k call reply.next)) (sym e)
 
 drop_end : {A : Type 0} (xs : List A) (i : ℕ) → length xs ≤ i → drop i xs ≡ []
 drop_end [] zero h = refl

@@ -1,11 +1,12 @@
 // Passes, invocations, asks and shortcodes, which run one another: each invocation takes one of the calls that are
 // left, and so their recursion ends.
-ghost use Rattle.std.specs.Prelude.{◌≡◌, ◌≤◌, ◌<◌, ◌++◌, ◌&&◌, ◌∷◌, [], IfOk, None};
+ghost use Rattle.std.specs.Prelude.{◌≡◌, ◌≤◌, ◌<◌, ◌==◌, ◌++◌, ◌&&◌, ◌∷◌, [], false, Err, IfOk, IfErr, OnOk, None};
 ghost use Rattle.std.specs.List.{AllByRecursion};
 ghost use Rattle.callback_store.specs.Shape.{shapes_of};
 ghost use Rattle.hook_registry.specs.Table.{next_priority};
 ghost use Rattle.shortcode_scan.specs.Spans.{HasSpansOf, IsSpanOf, unescaped};
 ghost use Rattle.hook_machine.specs.Meaning.{handler_call, bracket, group_pass, priorities_pass, pass, filter_pass, action_pass, piece_pass, pieces_pass, shortcodes_pass, answered, follow, first_or_empty, said, invoke};
+ghost use Rattle.hook_machine.specs.Trace.{end_of};
 ghost use Rattle.hook_machine.specs.Ends.{Ends, engine_with};
 
 use crate::fault::RunFault;
@@ -319,28 +320,6 @@ fn with_answer(call: Call, answer: Answer) -> Result<Call, AllocError>
     Ok(call)
 }
 
-/// How a callback goes on.
-#[cycle(machine)]
-fn go_on<S: Stated>(
-    plugins: &Plugins<S>,
-    state: &mut State,
-    callback: CallbackId,
-    call: Call,
-    next: Then,
-) -> Result<Text, RunFault>
-    ensures ends { Ends (follow (invoke (engine_with S.says (shapes_of S.number plugins.now))) state.old callback call next) result state.new }
-    ensures fewer { state.new.calls ≤ state.old.calls }
-{
-    match next {
-        Then::Answer(text) => Ok(text),
-        Then::Ask(ask) => {
-            let answer = answer_ask(plugins, state, ask)?;
-            let call = with_answer(call, answer)?;
-            invoke(plugins, state, callback, call)
-        }
-    }
-}
-
 /// The reply of a callback; a number that no plugin has says nothing.
 fn reply_of<S: Stated>(
     plugins: &Plugins<S>,
@@ -370,7 +349,56 @@ fn first_argument(alloc: Global, call: &Call) -> Result<Text, AllocError>
     }
 }
 
-/// Invokes a callback.
+/// Invokes core's own callback, which replaces the shortcodes of its first argument.
+#[cycle(machine)]
+fn invoke_core<S: Stated>(
+    plugins: &Plugins<S>,
+    state: &mut State,
+    callback: CallbackId,
+    call: &Call,
+) -> Result<Text, RunFault>
+    requires { callback ≡ 0 }
+    ensures ends { Ends (invoke (engine_with S.says (shapes_of S.number plugins.now)) state.old callback call.now) result state.new }
+    ensures fewer { state.new.calls ≤ state.old.calls }
+{
+    if state.calls() == 0 {
+        return Err(RunFault::TooManyCalls);
+    }
+    state.take_call();
+    if state.depth() >= DEEPEST {
+        return Err(RunFault::TooDeep);
+    }
+    let text = first_argument(state.alloc(), call)?;
+    state.deepen();
+    let replaced = run_shortcodes(plugins, state, text.as_str())?;
+    state.rise();
+    Ok(replaced)
+}
+
+/// Takes a call for a plugin's callback, and carries out what it replies: how it goes on is left.
+fn take_reply<S: Stated>(
+    plugins: &Plugins<S>,
+    state: &mut State,
+    callback: CallbackId,
+    call: &Call,
+) -> Result<Then, RunFault>
+    requires { (callback == 0) ≡ false }
+    ensures goes_on { IfOk result (λ next. end_of (invoke (engine_with S.says (shapes_of S.number plugins.now)) state.old callback call.now)
+        ≡ end_of (follow (invoke (engine_with S.says (shapes_of S.number plugins.now))) state.new callback call.now next)) }
+    ensures fault { IfErr result (λ fault. Ends (invoke (engine_with S.says (shapes_of S.number plugins.now)) state.old callback call.now) (Err fault) state.new) }
+    ensures taken { OnOk result (state.new.calls < state.old.calls) }
+    ensures fewer { state.new.calls ≤ state.old.calls }
+{
+    if state.calls() == 0 {
+        return Err(RunFault::TooManyCalls);
+    }
+    state.take_call();
+    let reply = reply_of(plugins, state.alloc(), callback, call)?;
+    state.carry_out(plugins, &reply)?;
+    Ok(reply.next)
+}
+
+/// Invokes a callback, and invokes it again with each answer to what it asks.
 #[cycle(machine)]
 fn invoke<S: Stated>(
     plugins: &Plugins<S>,
@@ -381,21 +409,19 @@ fn invoke<S: Stated>(
     ensures ends { Ends (invoke (engine_with S.says (shapes_of S.number plugins.now)) state.old callback call) result state.new }
     ensures fewer { state.new.calls ≤ state.old.calls }
 {
-    if state.calls() == 0 {
-        return Err(RunFault::TooManyCalls);
-    }
-    state.take_call();
     if callback.number() == 0 {
-        if state.depth() >= DEEPEST {
-            return Err(RunFault::TooDeep);
-        }
-        let text = first_argument(state.alloc(), &call)?;
-        state.deepen();
-        let replaced = run_shortcodes(plugins, state, text.as_str())?;
-        state.rise();
-        return Ok(replaced);
+        return invoke_core(plugins, state, callback, &call);
     }
-    let reply = reply_of(plugins, state.alloc(), callback, &call)?;
-    state.carry_out(plugins, &reply)?;
-    go_on(plugins, state, callback, call, reply.next)
+    let mut call = call;
+    let mut next = take_reply(plugins, state, callback, &call)?;
+    'asks: loop {
+        match next {
+            Then::Answer(text) => return Ok(text),
+            Then::Ask(ask) => {
+                let answer = answer_ask(plugins, state, ask)?;
+                call = with_answer(call, answer)?;
+                next = take_reply(plugins, state, callback, &call)?;
+            }
+        }
+    }
 }

@@ -14,6 +14,3 @@ pub use fault::TablesFault;
 pub use site_records::{Post, PostDate, PostKind, PostStatus, SiteRecords};
 pub use tables::Tables;
 pub use worked::worked_rows;
-
-#[cfg(test)]
-mod tests;

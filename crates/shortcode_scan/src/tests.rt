@@ -82,7 +82,7 @@ fn texts_are_cut(rt: HostRuntime) -> Result<(), Fail> {
             "plain 0..2;match 2..5 name 3..4 atts 4..4 content 5..5;plain 5..8;",
         ),
     ] {
-        assert_eq!(rt; printed(rt.alloc(), &live, text)?.as_str(), want, "{text}");
+        assert!(rt; printed(rt.alloc(), &live, text)?.as_str() == want);
     }
     Ok(())
 }
@@ -98,12 +98,12 @@ fn names_are_live(rt: HostRuntime) -> Result<(), Fail> {
         ("[show\u{a0}a]", 0),
         ("[b][show][i]", 3),
     ] {
-        assert_eq!(rt; live(rt.alloc(), &all, text)?.len(), want, "{text}");
+        assert!(rt; live(rt.alloc(), &all, text)?.len() == want);
     }
     let found = live(rt.alloc(), &all, "[i][b]")?;
-    assert_eq!(rt; found.len(), 2);
-    assert_eq!(rt; found[0].as_str(), "b");
-    assert_eq!(rt; found[1].as_str(), "i");
+    assert!(rt; found.len() == 2);
+    assert!(rt; found[0].as_str() == "b");
+    assert!(rt; found[1].as_str() == "i");
     Ok(())
 }
 
@@ -119,7 +119,7 @@ fn pieces_are_parts(rt: HostRuntime) -> Result<(), Fail> {
             Piece::Match { content, .. } => out.push_str(part(text, content))?,
         }
     }
-    assert_eq!(rt; out.as_str(), "\u{e9}x");
+    assert!(rt; out.as_str() == "\u{e9}x");
     one_cut();
     pieces_join();
     Ok(())

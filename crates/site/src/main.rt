@@ -1,10 +1,13 @@
 //! The program `site`: it serves lines of JSON from standard input to standard output.
 #![tactic(auto)]
 
-use callback_store::{Plugin, PluginFault, Plugins};
+ghost use Rattle.std.specs.Prelude.{◌≡◌, ◌≤◌, map};
+ghost use Rattle.bundled_plugins.specs.Bundle.{numbers};
+
+use callback_store::{PluginFault, Plugins, Stated};
 use hook_changes::{Call, CallbackId, Listed, Reply};
 use site_program::{
-    ArgsAnswer, Function, Reading, Site, StoreFault, Stored, Writing, bundled_reply, marks,
+    ArgsAnswer, NUMBERS, Reading, Site, StoreFault, Stored, Writing, bundle, bundled_reply,
     read_args,
 };
 use std::alloc::{AllocError, Global};
@@ -12,56 +15,73 @@ use std::fmt::Display;
 use std::process::ExitCode;
 use std::{env, io};
 
-// A bundled callback: a closure that passes each call on to `bundled_reply`. It stands in `main`, where it is made.
-macro_rules! stored {
-    ($alloc:expr, $number:expr) => {
-        match Box::new(
-            $alloc,
-            |alloc: Global, call: &Call| -> Result<Reply, AllocError> {
-                bundled_reply(alloc, CallbackId::new($number), call)
-            },
-        ) {
-            Ok(function) => {
-                let function: Function = function;
-                Ok(Stored::new(CallbackId::new($number), function))
-            }
-            Err(_) => Err(AllocError),
-        }
-    };
-}
-
 fn main(rt: HostRuntime) -> ExitCode {
     let alloc = rt.alloc();
-    let Ok(words) = words(&rt) else {
-        return failed(&rt, StoreFault::OutOfMemory);
+    let mut callbacks = Vec::new(alloc);
+    for number in NUMBERS {
+        let id = CallbackId::new(number);
+        // Each callback passes its call on. The closures stand in `main`, where they are made.
+        let Ok(function) = Box::new(
+            alloc,
+            move |alloc: Global, call: &Call| -> Result<Reply, AllocError> {
+                bundled_reply(alloc, id, call)
+            },
+        ) else {
+            return failed(&rt, StoreFault::OutOfMemory);
+        };
+        if callbacks.push(Stored::new(id, function)).is_err() {
+            return failed(&rt, StoreFault::OutOfMemory);
+        }
+    }
+    run(&rt, Listed::new(callbacks))
+}
+
+/// Does what the words behind the program's name ask for.
+fn run(rt: &HostRuntime, callbacks: Listed<Stored>) -> ExitCode
+    requires { map ⟦<Stored as Stated>⟧.number callbacks ≡ numbers }
+{
+    let alloc = rt.alloc();
+    let words = match words(rt) {
+        Ok(words) => words,
+        Err(error) if error.kind() == io::ErrorKind::InvalidData => {
+            let _ = eprintln!(rt; "error: a word behind the program's name is not UTF-8");
+            return ExitCode::from(2);
+        }
+        Err(_) => return failed(rt, StoreFault::OutOfMemory),
     };
-    let (calls, cache) = match read_args(alloc, &words) {
-        ArgsAnswer::Run { calls, cache } => (calls, cache),
+    match read_args(alloc, &words) {
+        ArgsAnswer::Run { calls, cache } => serve(rt, callbacks, calls, cache),
         ArgsAnswer::Help(text) => {
             let _ = print!(rt; "{text}");
-            return ExitCode::SUCCESS;
+            ExitCode::SUCCESS
         }
         ArgsAnswer::Bad(text) => {
             let _ = eprint!(rt; "{text}");
-            return ExitCode::from(2);
+            ExitCode::from(2)
         }
-        ArgsAnswer::OutOfMemory => return failed(&rt, StoreFault::OutOfMemory),
-    };
-    let (Ok(first), Ok(second)) = (stored!(alloc, 1), stored!(alloc, 2)) else {
-        return failed(&rt, StoreFault::OutOfMemory);
-    };
-    let Ok(plugins) = plugins(alloc, first, second) else {
-        return failed(&rt, StoreFault::OutOfMemory);
+        ArgsAnswer::OutOfMemory => failed(rt, StoreFault::OutOfMemory),
+    }
+}
+
+/// Serves a site over the bundle, from standard input to standard output.
+fn serve(rt: &HostRuntime, callbacks: Listed<Stored>, calls: u32, cache: u32) -> ExitCode
+    requires callbacks { map ⟦<Stored as Stated>⟧.number callbacks ≡ numbers }
+    requires calls { (1 ≤ calls) × (calls ≤ 100000) }
+    requires cache { (1 ≤ cache) × (cache ≤ 4096) }
+{
+    let alloc = rt.alloc();
+    let Ok(plugins) = plugins(alloc, callbacks) else {
+        return failed(rt, StoreFault::OutOfMemory);
     };
     let mut site = match Site::new(alloc, &plugins, calls, cache) {
         Ok(site) => site,
-        Err(fault) => return failed(&rt, fault),
+        Err(fault) => return failed(rt, fault),
     };
     let mut reader = Reading::new(rt.reader());
-    let mut writer = Writing::new(io::writer(&rt));
+    let mut writer = Writing::new(io::writer(rt));
     match site.serve(&mut reader, &mut writer) {
         Ok(()) => ExitCode::SUCCESS,
-        Err(fault) => failed(&rt, fault),
+        Err(fault) => failed(rt, fault),
     }
 }
 
@@ -75,25 +95,13 @@ fn words(rt: &HostRuntime) -> io::Result<Vec<String>> {
 }
 
 /// The bundle, over its callbacks.
-fn plugins(alloc: Global, first: Stored, second: Stored) -> Result<Plugins<Stored>, PluginFault> {
-    let Ok(list) = listed(alloc, first, second) else {
+fn plugins(alloc: Global, callbacks: Listed<Stored>) -> Result<Plugins<Stored>, PluginFault>
+    requires { map ⟦<Stored as Stated>⟧.number callbacks ≡ numbers }
+{
+    let Ok(list) = bundle(alloc, callbacks) else {
         return Err(PluginFault::OutOfMemory);
     };
     Plugins::new(alloc, list)
-}
-
-/// The plugins of the bundle, by name.
-fn listed(
-    alloc: Global,
-    first: Stored,
-    second: Stored,
-) -> Result<Listed<Plugin<Stored>>, AllocError> {
-    let mut callbacks = Listed::empty(alloc);
-    callbacks.push(first)?;
-    callbacks.push(second)?;
-    let mut list = Listed::empty(alloc);
-    list.push(marks(alloc, callbacks)?)?;
-    Ok(list)
 }
 
 /// Says on standard error why nothing is served any more.

@@ -4,8 +4,6 @@
 
 mod answer;
 mod options;
-#[cfg(test)]
-mod tests;
 mod worked;
 
 pub use answer::{ArgsAnswer, read_args};

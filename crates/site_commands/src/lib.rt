@@ -5,8 +5,6 @@
 
 mod command;
 mod line;
-#[cfg(test)]
-mod tests;
 mod values;
 mod worked;
 

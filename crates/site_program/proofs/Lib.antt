@@ -1,7 +1,6 @@
 pub mod LineLists
 pub mod Streams
 pub mod Endings
-pub mod Traces
 pub mod Machine
 pub mod Pages
 pub mod Refusals

@@ -4,21 +4,27 @@ use Rattle.std.specs.Fmt.{digits}
 use Rattle.std.specs.Str.{is_utf8, chars}
 use Rattle.hook_machine.specs.World.{Text, loaded}
 use Rattle.hook_machine.specs.Trace.{end_of}
-use Rattle.hook_machine.specs.Meaning.{deeper, group_pass, priorities_pass, pass, filter_pass, action_pass, handled, piece_pass, pieces_pass, shortcodes_pass, answered, follow, invoked, invoked_with, invoke_within, invoke, filtered}
+use Rattle.hook_machine.specs.Meaning.{deeper, group_pass, priorities_pass, pass, filter_pass, action_pass, handled, piece_pass, pieces_pass, shortcodes_pass, answered, follow, invoked, invoked_with, invoke_within, invoke, filtered, acted}
 use Rattle.post_tables.specs.Rows.{Rows}
 use Rattle.site_program.specs.declared.reply.Refusal.TheVariants.{TooManyCalls}
-use Rattle.site_program.specs.Bundled.{bundled}
-use Rattle.site_program.specs.FrontPage.{each, title_pass, post_pass, posts_pass, page_pass, found_posts, status_of, shown, request}
+use Rattle.shortcode_scan.specs.Places.{first_place}
+use Rattle.shortcode_scan.specs.Matches.{match_at, name_start, name_at, core_of, with_extras}
+use Rattle.shortcode_scan.specs.Pieces.{match_from, pieces_within}
+use Rattle.shortcode_scan.specs.Live.{has_opening}
+use Rattle.bundled_plugins.specs.Replies.{says}
+use Rattle.template_parts.specs.Pages as template
+use Rattle.template_parts.specs.Pages.{each, title_pass, content_pass, tag_pass, item_pass, items_pass, loop_pass, node_pass, nodes_pass}
+use Rattle.site_program.specs.Requests.{page_pass, found_posts, status_of, shown, request}
 use Rattle.serde_json.proofs.OnLiterals.{serde_json_on_literals}
 use Rattle.site_commands.specs.Tree.{tree_of}
 use Rattle.site_commands.specs.Asked.{command_of, get_of}
 use Rattle.site_program.specs.Step.{step, got}
 use Rattle.site_program.specs.Reply.{Answer, refused, page, bytes_of}
-use Rattle.site_program.specs.Worked.{IsMarked, one_post}
+use Rattle.site_program.specs.Worked.{bundled, IsMarked, one_post}
 
 -- what computes in the pages below
 computes : ℕ
-unfolding loaded deeper group_pass priorities_pass pass filter_pass action_pass handled piece_pass pieces_pass shortcodes_pass answered follow invoked invoked_with invoke_within invoke filtered each title_pass post_pass posts_pass page_pass bytes_of digits
+unfolding loaded deeper group_pass priorities_pass pass filter_pass action_pass handled piece_pass pieces_pass shortcodes_pass answered follow invoked invoked_with invoke_within invoke filtered acted has_opening first_place match_at name_start name_at core_of with_extras match_from pieces_within each title_pass content_pass says template.action_pass tag_pass item_pass items_pass loop_pass node_pass nodes_pass template.page_pass page_pass bytes_of digits
 computes = 0
 
 -- the posts that the front of the worked site shows, and the answer that they give
@@ -60,19 +66,19 @@ nothing_page = refl
 pub missing_page : (rows : Rows) → IsMarked rows → request bundled 10000 rows (codes "/x") ≡ page 404 (codes "<p>Nothing found.</p>")
 missing_page rows marked = nothing_is rows marked ∙ nothing_page
 
-page_of_two : front 2 ≡ page 200 (codes "<h2>TX1Y</h2>")
+page_of_three : front 3 ≡ page 200 (codes "<h2>TX1Y</h2>")
+unfolding computes
+page_of_three = refl
+
+pub three_calls : (rows : Rows) → IsMarked rows → request bundled 3 rows (codes "/") ≡ page 200 (codes "<h2>TX1Y</h2>")
+three_calls rows marked = front_is 3 rows marked ∙ page_of_three
+
+page_of_two : front 2 ≡ refused TooManyCalls
 unfolding computes
 page_of_two = refl
 
-pub two_calls : (rows : Rows) → IsMarked rows → request bundled 2 rows (codes "/") ≡ page 200 (codes "<h2>TX1Y</h2>")
+pub two_calls : (rows : Rows) → IsMarked rows → request bundled 2 rows (codes "/") ≡ refused TooManyCalls
 two_calls rows marked = front_is 2 rows marked ∙ page_of_two
-
-page_of_one : front 1 ≡ refused TooManyCalls
-unfolding computes
-page_of_one = refl
-
-pub one_call : (rows : Rows) → IsMarked rows → request bundled 1 rows (codes "/") ≡ refused TooManyCalls
-one_call rows marked = front_is 1 rows marked ∙ page_of_one
 
 -- from a line of JSON
 line_is : (rows : Rows) → step bundled 10000 rows (codes "{\"cmd\":\"get\",\"path\":\"/\"}") ≡ (rows, request bundled 10000 rows (codes "/"))

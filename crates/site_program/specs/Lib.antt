@@ -1,11 +1,9 @@
 pub mod Reply
 pub mod Site
-pub mod FrontPage
+pub mod Requests
 pub mod Edits
 pub mod Step
 pub mod Lines
 pub mod Serving
 pub mod Stream
-pub mod Bundled
-pub mod Tested
 pub mod Worked

@@ -10,7 +10,7 @@ use Rattle.site_commands.specs.Asked as asked
 use Rattle.site_program.specs.declared.reply.Refusal.TheVariants.{BadCommand, BadImport, BadDate, UnknownPlugin, BadTemplate, TooLarge, OutOfMemory, Store, NoSuchPage, TooManyPages}
 use Rattle.site_program.specs.declared.setup.Setup.{Setup}
 use Rattle.site_program.specs.Site.{engine_of, calls_of}
-use Rattle.site_program.specs.FrontPage.{request}
+use Rattle.site_program.specs.Requests.{request}
 use Rattle.site_program.specs.Edits.{put, edit, delete, set_option, set_active}
 use Rattle.site_program.specs.Reply.{Answer, refused}
 

@@ -1,10 +1,17 @@
--- The site of the worked pages.
+-- The bundle and the site of the worked pages.
 use Rattle.std.specs.Prelude.{◌≡◌, List, [], ◌∷◌, codes}
 use Rattle.site_records.specs.declared.post.Post.{Post}
 use Rattle.site_records.specs.declared.post.PostKind.TheVariants as kind
 use Rattle.site_records.specs.declared.post.PostStatus.TheVariants as status
 use Rattle.post_tables.specs.Rows.{Rows}
-use Rattle.site_program.specs.FrontPage.{options_of, active_of}
+use Rattle.hook_machine.specs.Meaning.{Engine}
+use Rattle.bundled_plugins.specs.Replies.{says}
+use Rattle.bundled_plugins.specs.Bundle.{bundle}
+use Rattle.site_program.specs.Requests.{options_of, active_of}
+
+-- the bundled plugins, as pages take them
+abbrev pub bundled : Engine
+bundled = record { says = says; plugins = bundle }
 
 abbrev pub one_post : List Post
 one_post = record { id = 1; kind = kind.Post; status = status.Publish; title = codes "T"; content = []; date = codes "2024-05-01 10:00:00" } ∷ []

@@ -5,7 +5,6 @@
 //! [`bundled_reply`].
 #![tactic(auto)]
 
-mod bundle;
 mod edits;
 mod fault;
 mod page;
@@ -13,11 +12,9 @@ mod reply;
 mod serve;
 mod setup;
 mod site;
-#[cfg(test)]
-mod tests;
 mod worked;
 
-pub use bundle::{Function, Stored, bundled_reply, marks};
+pub use bundled_plugins::{Function, NUMBERS, Stored, bundle, bundled_reply};
 pub use ends::{EndFault, Reading, Sink, Source, Writing};
 pub use fault::{ServeFault, StoreFault};
 pub use reply::{Refusal, SiteReply};

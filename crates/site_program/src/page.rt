@@ -1,8 +1,7 @@
 //! The pages of a site.
-ghost use Rattle.std.specs.Prelude.{◌≡◌, [], ◌∷◌, None, IfOk, OnOk, OnErr, IfErr, decimal, false};
-ghost use Rattle.hook_machine.specs.Runs.{world_of, fault_of, engine_of as run_engine};
+ghost use Rattle.std.specs.Prelude.{◌≡◌, IfOk, OnErr, IfErr, false};
 ghost use Rattle.site_program.specs.Reply.{answer_of};
-ghost use Rattle.site_program.specs.FrontPage.{title_pass, post_pass, posts_pass, page_pass, found_posts, status_of, first_date, last_date, EndsIn, IsPage, IsRefusedBy};
+ghost use Rattle.site_program.specs.Requests.{page_pass, found_posts, status_of, first_date, last_date, IsPage, IsRefusedBy};
 
 use crate::fault::StoreFault;
 use crate::reply::{Refusal, SiteReply};
@@ -10,9 +9,9 @@ use crate::setup::Setup;
 use callback_store::Stated;
 use hook_changes::{Listed, Text};
 use hook_machine::{Run, RunFault};
-use itoa::Buffer;
 use post_tables::{Post, PostDate, PostKind, Tables};
-use std::alloc::{AllocError, Global};
+use std::alloc::Global;
+use template_parts::{default_index, print_page};
 
 // The most bytes that a path may have.
 const MAX_PATH: usize = 8_192;
@@ -62,9 +61,12 @@ impl<'p, S: Stated> Setup<'p, S> {
         ensures err { IfErr result (IsRefusedBy (page_pass (engine_of S.says S.number self.now)
             (calls_of self.now) options.now active.now posts.now)) }
     {
+        let Ok(index) = default_index(self.alloc) else {
+            return Err(RunFault::OutOfMemory);
+        };
         let mut run = Run::new(self.alloc, self.plugins, active, options, self.calls)?;
         run.load()?;
-        print_posts(self.alloc, &mut run, posts)?;
+        print_page(self.alloc, &mut run, index.as_slice(), posts)?;
         run.take_output()
     }
 }
@@ -104,68 +106,4 @@ fn found_posts(alloc: Global, tables: &mut Tables, path: &str) -> Result<Listed<
         return Ok(Listed::empty(alloc));
     }
     Ok(tables.posts_of(PostKind::Post, &first_date(), &last_date(), FRONT_POSTS, 0)?)
-}
-
-fn print_posts<S: Stated>(
-    alloc: Global,
-    run: &mut Run<'_, S>,
-    posts: &[Post],
-) -> Result<(), RunFault>
-    requires { fault_of run.old ≡ None }
-    ensures ok { OnOk result (EndsIn
-        (posts_pass (run_engine S.says S.number run.old) (world_of run.old) posts.now) (world_of run.new)) }
-    ensures err { IfErr result (IsRefusedBy
-        (posts_pass (run_engine S.says S.number run.old) (world_of run.old) posts.now)) }
-    ensures sound { OnOk result (fault_of run.new ≡ None) }
-{
-    if posts.is_empty() {
-        return run.print("<p>Nothing found.</p>");
-    }
-    for post in posts {
-        print_post(alloc, run, post)?;
-    }
-    Ok(())
-}
-
-fn print_post<S: Stated>(alloc: Global, run: &mut Run<'_, S>, post: &Post) -> Result<(), RunFault>
-    requires { fault_of run.old ≡ None }
-    ensures ok { OnOk result (EndsIn
-        (post_pass (run_engine S.says S.number run.old) (world_of run.old) post.now) (world_of run.new)) }
-    ensures err { IfErr result (IsRefusedBy
-        (post_pass (run_engine S.says S.number run.old) (world_of run.old) post.now)) }
-    ensures sound { OnOk result (fault_of run.new ≡ None) }
-    ensures engine { run_engine S.says S.number run.new ≡ run_engine S.says S.number run.old }
-{
-    run.print("<h2>")?;
-    print_title(alloc, run, post)?;
-    run.print("</h2>")
-}
-
-fn print_title<S: Stated>(alloc: Global, run: &mut Run<'_, S>, post: &Post) -> Result<(), RunFault>
-    requires { fault_of run.old ≡ None }
-    ensures ok { OnOk result (EndsIn
-        (title_pass (run_engine S.says S.number run.old) (world_of run.old) post.now) (world_of run.new)) }
-    ensures err { IfErr result (IsRefusedBy
-        (title_pass (run_engine S.says S.number run.old) (world_of run.old) post.now)) }
-    ensures sound { OnOk result (fault_of run.new ≡ None) }
-    ensures engine { run_engine S.says S.number run.new ≡ run_engine S.says S.number run.old }
-{
-    let Ok((title, args)) = title_call(alloc, post) else {
-        return Err(RunFault::OutOfMemory);
-    };
-    let title = run.apply_filters("the_title", title, &args)?;
-    run.print(title.as_str())
-}
-
-/// What the filter `the_title` is called with: the title, and behind it the post's number.
-fn title_call(alloc: Global, post: &Post) -> Result<(Text, Listed<Text>), AllocError>
-    ensures value { IfOk result (λ call. call.0 ≡ post.now.title) }
-    ensures args { IfOk result (λ call. call.1 ≡ decimal post.now.id ∷ []) }
-{
-    let title = post.title.clone()?;
-    let mut digits = Buffer::new();
-    let id = Text::copied(alloc, digits.format(post.id))?;
-    let mut args = Listed::empty(alloc);
-    args.push(id)?;
-    Ok((title, args))
 }

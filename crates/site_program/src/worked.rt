@@ -1,10 +1,9 @@
 //! Worked pages and edits that are theorems: each clause below is computed from the definitions.
 ghost use Rattle.std.specs.Prelude.{◌≡◌, codes};
 ghost use Rattle.site_program.specs.declared.reply.Refusal.{Refusal};
-ghost use Rattle.site_program.specs.Bundled.{bundled};
-ghost use Rattle.site_program.specs.FrontPage.{request};
+ghost use Rattle.site_program.specs.Requests.{request};
 ghost use Rattle.site_program.specs.Reply.{refused, page, bytes_of};
-ghost use Rattle.site_program.specs.Worked.{IsMarked};
+ghost use Rattle.site_program.specs.Worked.{IsMarked, bundled};
 ghost use Rattle.site_program.specs.Step.{step};
 
 /// What the bundled plugin `marks` makes of a site with one post. The call itself does nothing: it carries these facts.
@@ -20,9 +19,9 @@ pub fn worked_pages()
     ensures missing { (rows : _) → IsMarked rows
         → request bundled 10000 rows (codes "/x") ≡ page 404 (codes "<p>Nothing found.</p>") }
 
-    // Two callbacks run, so two calls are enough and one is not.
+    // Two callbacks run on the title and core's own one on the content, so three calls are enough and two are not.
     ensures enough { (rows : _) → IsMarked rows
-        → request bundled 2 rows (codes "/") ≡ page 200 (codes "<h2>TX1Y</h2>") }
+        → request bundled 3 rows (codes "/") ≡ page 200 (codes "<h2>TX1Y</h2>") }
     ensures too_few { (rows : _) → IsMarked rows
-        → request bundled 1 rows (codes "/") ≡ refused Refusal.TooManyCalls }
+        → request bundled 2 rows (codes "/") ≡ refused Refusal.TooManyCalls }
 {}

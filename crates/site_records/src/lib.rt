@@ -3,8 +3,6 @@
 
 mod date;
 mod post;
-#[cfg(test)]
-mod tests;
 mod worked;
 
 pub use date::PostDate;

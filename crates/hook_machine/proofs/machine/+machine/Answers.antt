@@ -1,14 +1,14 @@
-use Rattle.std.proofs.Common.{◌≡◌, [], ◌++◌, ◌-◌, None, Ok, Err, refl, sym, ap, ◌∙◌, arith, eq-eqb}
-use Rattle.std.proofs.lemmas.Bool.{ne_eqb}
+use Rattle.std.proofs.Common.{[], ◌++◌, ◌-◌, None, Ok, Err, refl, sym, ap, ◌∙◌, arith, eq-eqb}
 use Rattle.std.proofs.lemmas.Result.{err_from_is_err_and}
 use Rattle.callback_store.specs.Shape.{shapes_of}
 use Rattle.hook_registry.specs.Table.{next_priority}
 use Rattle.hook_machine.specs.declared.fault.RunFault.TheVariants.{TooDeep}
 use Rattle.hook_machine.specs.World.{World}
 use Rattle.hook_machine.specs.Trace.{end_of}
-use Rattle.hook_machine.specs.Meaning.{first_or_empty, group_pass, priorities_pass, pieces_pass, invoke}
+use Rattle.hook_machine.specs.Meaning.{first_or_empty, group_pass, priorities_pass, pieces_pass, follow, invoke}
 use Rattle.hook_machine.specs.Ends.{engine_with}
-use Rattle.hook_machine.proofs.Ending.{apply_beyond, apply_on, apply_err, act_beyond, act_on, act_err, shortcodes_beyond, shortcodes_on, shortcodes_err, did_on, current_on, doing_on, has_on, tag_on, option_on, follow_err, follow_answer, follow_on, invoke_none, core_ends, core_beyond, core_err, core_on, invoke_on, not_false, ok_not_err, none_of, action_on, action_unnamed, filter_on, filter_unnamed, group_err, group_on, group_done, pass_err, pass_on, priorities_out, priorities_fault, priorities_step, priorities_done, piece_plain, piece_escaped, piece_unhandled, match_err, match_on, pieces_err, pieces_on, pieces_done, scan_on}
+use Rattle.hook_changes.specs.declared.reply.Then.TheVariants as next
+use Rattle.hook_machine.proofs.Ending.{ends_alike, follow_asked, apply_beyond, apply_on, apply_err, act_beyond, act_on, act_err, shortcodes_beyond, shortcodes_on, shortcodes_err, did_on, current_on, doing_on, has_on, tag_on, option_on, follow_err, follow_answer, invoke_none, core_ends, core_beyond, core_err, core_on, not_false, ok_not_err, none_of, action_on, action_unnamed, filter_on, filter_unnamed, group_err, group_on, group_done, pass_err, pass_on, priorities_out, priorities_fault, priorities_step, priorities_done, piece_plain, piece_escaped, piece_unhandled, match_err, match_on, pieces_err, pieces_on, pieces_done, scan_on}
 use Rattle.hook_machine.proofs.machine.+machine.Goals as goal
 
 pub answer_ask-returns-then-depth-ge-DEEPEST-clause-ends : goal.answer_ask-returns-then-depth-ge-DEEPEST-clause-ends
@@ -74,43 +74,26 @@ pub answer_ask-returns-in_ok-option-in-GetOption-clause-ends : goal.answer_ask-r
 answer_ask-returns-in_ok-option-in-GetOption-clause-ends g t c =
     rw (c.in-GetOption.is, c.in_ok-option-in-GetOption.ensures, c.as_str-in-GetOption.ensures) (option_on (invoke (engine_with g.S.Stated.says (shapes_of g.S.Stated.number c.args.plugins.now))) c.args.state.now c.in-GetOption.name)
 
-pub go_on-returns-in_err-answer-in-Ask-clause-ends : goal.go_on-returns-in_err-answer-in-Ask-clause-ends
-go_on-returns-in_err-answer-in-Ask-clause-ends g t c =
-    let p = err_from_is_err_and c.from_residual.result c.from_residual.ensures.1 in
-    rw (c.in-Ask.is, p.1, p.2) (follow_err (invoke (engine_with g.S.Stated.says (shapes_of g.S.Stated.number c.args.plugins.now))) c.args.state.now c.args.callback c.args.call c.in-Ask.ask _ _ c.in_err-answer-in-Ask.ensures.ends)
+pub invoke_core-returns-then-calls-eq0-clause-ends : goal.invoke_core-returns-then-calls-eq0-clause-ends
+invoke_core-returns-then-calls-eq0-clause-ends g t c =
+    ap end_of (invoke_none (engine_with g.S.Stated.says (shapes_of g.S.Stated.number c.args.plugins.now)) c.args.state.now c.args.callback c.args.call.now (omega arith))
 
-pub go_on-returns-in-Answer-clause-ends : goal.go_on-returns-in-Answer-clause-ends
-go_on-returns-in-Answer-clause-ends g t c =
-    rw c.in-Answer.is (follow_answer (invoke (engine_with g.S.Stated.says (shapes_of g.S.Stated.number c.args.plugins.now))) c.args.state.now c.args.callback c.args.call c.in-Answer.text)
+pub invoke_core-returns-then-depth-ge-DEEPEST-clause-ends : goal.invoke_core-returns-then-depth-ge-DEEPEST-clause-ends
+invoke_core-returns-then-depth-ge-DEEPEST-clause-ends g t c =
+    core_ends (engine_with g.S.Stated.says (shapes_of g.S.Stated.number c.args.plugins.now)) c.args.state.now c.take_call.new.self c.args.callback c.args.call.now (omega arith) (eq-eqb c.args.callback 0 c.requires) c.take_call.ensures (Err TooDeep) c.take_call.new.self
+    (core_beyond (invoke (engine_with g.S.Stated.says (shapes_of g.S.Stated.number c.args.plugins.now))) c.take_call.new.self (first_or_empty c.args.call.now.args) (first_or_empty c.args.call.now.args) [] [] refl (omega arith))
 
-pub go_on-returns-in_ok-call-in-Ask-clause-ends : goal.go_on-returns-in_ok-call-in-Ask-clause-ends
-go_on-returns-in_ok-call-in-Ask-clause-ends g t c =
-    rw c.in-Ask.is (follow_on (invoke (engine_with g.S.Stated.says (shapes_of g.S.Stated.number c.args.plugins.now))) c.args.state.now c.args.callback c.args.call c.in-Ask.ask _ c.in_ok-answer-in-Ask.answer c.in_ok-call-in-Ask.call c.in_ok-answer-in-Ask.ensures.ends c.in_ok-call-in-Ask.ensures _ _ c.invoke.ensures.ends)
-
-pub invoke-returns-then-calls-eq0-clause-ends : goal.invoke-returns-then-calls-eq0-clause-ends
-invoke-returns-then-calls-eq0-clause-ends g t c =
-    ap end_of (invoke_none (engine_with g.S.Stated.says (shapes_of g.S.Stated.number c.args.plugins.now)) c.args.state.now c.args.callback c.args.call (omega arith))
-
-pub invoke-returns-then-depth-ge-DEEPEST-clause-ends : goal.invoke-returns-then-depth-ge-DEEPEST-clause-ends
-invoke-returns-then-depth-ge-DEEPEST-clause-ends g t c =
-    core_ends (engine_with g.S.Stated.says (shapes_of g.S.Stated.number c.args.plugins.now)) c.args.state.now c.take_call.new.self c.args.callback c.args.call (omega arith) (eq-eqb c.args.callback 0 (omega arith)) c.take_call.ensures (Err TooDeep) c.take_call.new.self
-    (core_beyond (invoke (engine_with g.S.Stated.says (shapes_of g.S.Stated.number c.args.plugins.now))) c.take_call.new.self (first_or_empty c.args.call.args) (first_or_empty c.args.call.args) [] [] refl (omega arith))
-
-pub invoke-returns-in_err-replaced-clause-ends : goal.invoke-returns-in_err-replaced-clause-ends
-invoke-returns-in_err-replaced-clause-ends g t c =
+pub invoke_core-returns-in_err-replaced-clause-ends : goal.invoke_core-returns-in_err-replaced-clause-ends
+invoke_core-returns-in_err-replaced-clause-ends g t c =
     let p = err_from_is_err_and c.from_residual-in_err-replaced.result c.from_residual-in_err-replaced.ensures.1 in
-    rw (p.1, p.2) (core_ends (engine_with g.S.Stated.says (shapes_of g.S.Stated.number c.args.plugins.now)) c.args.state.now c.take_call.new.self c.args.callback c.args.call (omega arith) (eq-eqb c.args.callback 0 (omega arith)) c.take_call.ensures (Err c.in_err-replaced.field-0.0) c.run_shortcodes.new.state
-    (core_err (invoke (engine_with g.S.Stated.says (shapes_of g.S.Stated.number c.args.plugins.now))) c.take_call.new.self (first_or_empty c.args.call.args) c.as_str.result.now [] [] (c.as_str.ensures ∙ c.in_ok-text.ensures) c.deepen.new.self (omega arith) c.deepen.ensures _ _ c.in_err-replaced.ensures.ends))
+    rw (p.1, p.2) (core_ends (engine_with g.S.Stated.says (shapes_of g.S.Stated.number c.args.plugins.now)) c.args.state.now c.take_call.new.self c.args.callback c.args.call.now (omega arith) (eq-eqb c.args.callback 0 c.requires) c.take_call.ensures (Err c.in_err-replaced.field-0.0) c.run_shortcodes.new.state
+    (core_err (invoke (engine_with g.S.Stated.says (shapes_of g.S.Stated.number c.args.plugins.now))) c.take_call.new.self (first_or_empty c.args.call.now.args) c.as_str.result.now [] [] (c.as_str.ensures ∙ c.in_ok-text.ensures) c.deepen.new.self (omega arith) c.deepen.ensures _ _ c.in_err-replaced.ensures.ends))
 
-pub invoke-returns-then-number-eq0-clause-ends : goal.invoke-returns-then-number-eq0-clause-ends
-invoke-returns-then-number-eq0-clause-ends g t c =
+pub invoke_core-returns-clause-ends : goal.invoke_core-returns-clause-ends
+invoke_core-returns-clause-ends g t c =
     let risen : World = record c.run_shortcodes.new.state { depth = c.run_shortcodes.new.state.depth - 1 } in
-    rw c.rise.ensures (core_ends (engine_with g.S.Stated.says (shapes_of g.S.Stated.number c.args.plugins.now)) c.args.state.now c.take_call.new.self c.args.callback c.args.call (omega arith) (eq-eqb c.args.callback 0 (omega arith)) c.take_call.ensures (Ok c.in_ok-replaced.replaced) risen
-    (core_on (invoke (engine_with g.S.Stated.says (shapes_of g.S.Stated.number c.args.plugins.now))) c.take_call.new.self (first_or_empty c.args.call.args) c.as_str.result.now [] [] (c.as_str.ensures ∙ c.in_ok-text.ensures) c.deepen.new.self (omega arith) c.deepen.ensures _ _ c.in_ok-replaced.ensures.ends))
-
-pub invoke-returns-clause-ends : goal.invoke-returns-clause-ends
-invoke-returns-clause-ends g t c =
-    invoke_on (engine_with g.S.Stated.says (shapes_of g.S.Stated.number c.args.plugins.now)) c.args.state.now c.take_call.new.self c.args.callback c.args.call c.in_ok-reply.reply c.carry_out.new.self (omega arith) (ne_eqb c.args.callback 0 (λ e. c.if-number-eq0.false (c.number.ensures ∙ e))) c.take_call.ensures c.in_ok-reply.ensures c.in_ok-carry_out.ensures.ok _ _ c.go_on.ensures.ends
+    rw c.rise.ensures (core_ends (engine_with g.S.Stated.says (shapes_of g.S.Stated.number c.args.plugins.now)) c.args.state.now c.take_call.new.self c.args.callback c.args.call.now (omega arith) (eq-eqb c.args.callback 0 c.requires) c.take_call.ensures (Ok c.in_ok-replaced.replaced) risen
+    (core_on (invoke (engine_with g.S.Stated.says (shapes_of g.S.Stated.number c.args.plugins.now))) c.take_call.new.self (first_or_empty c.args.call.now.args) c.as_str.result.now [] [] (c.as_str.ensures ∙ c.in_ok-text.ensures) c.deepen.new.self (omega arith) c.deepen.ensures _ _ c.in_ok-replaced.ensures.ends))
 
 pub run_action-returns-in_ok-fire-in-Ok-clause-ends : goal.run_action-returns-in_ok-fire-in-Ok-clause-ends
 run_action-returns-in_ok-fire-in-Ok-clause-ends g t c =
@@ -215,3 +198,41 @@ run_priorities-returns-clause-ends g t c =
 pub run_shortcodes-returns-clause-ends : goal.run_shortcodes-returns-clause-ends
 run_shortcodes-returns-clause-ends g t c =
     scan_on (invoke (engine_with g.S.Stated.says (shapes_of g.S.Stated.number c.args.plugins.now))) c.args.state.now c.args.text.now c.as_slice.result.now (c.as_slice.ensures.value ∙ c.in_ok-pieces.ensures.pieces) _ _ c.run_pieces.ensures.ends
+
+-- the callback answered
+pub invoke-returns-in-Answer-clause-ends : goal.invoke-returns-in-Answer-clause-ends
+invoke-returns-in-Answer-clause-ends g t c =
+    let inv = invoke (engine_with g.S.Stated.says (shapes_of g.S.Stated.number c.args.plugins.now)) in
+    sym c.asks.invariant.ends ∙ ap (λ n. end_of (follow inv c.asks.state c.args.callback c.asks.call n)) c.in-Answer.is
+    ∙ follow_answer inv c.asks.state c.args.callback c.asks.call c.in-Answer.text
+
+-- what it asked was refused
+pub invoke-returns-in_err-answer-in-Ask-clause-ends : goal.invoke-returns-in_err-answer-in-Ask-clause-ends
+invoke-returns-in_err-answer-in-Ask-clause-ends g t c =
+    let inv = invoke (engine_with g.S.Stated.says (shapes_of g.S.Stated.number c.args.plugins.now)) in
+    let p = err_from_is_err_and c.from_residual-in_err-answer-in-Ask.result c.from_residual-in_err-answer-in-Ask.ensures.1 in
+    rw (p.1, p.2)
+    (ends_alike (follow inv c.asks.state c.args.callback c.asks.call (next.Ask c.in-Ask.ask)) (inv c.args.state.now c.args.callback c.args.call) (Err c.in_err-answer-in-Ask.field-0.0) c.answer_ask.new.state
+    (sym (ap (λ n. end_of (follow inv c.asks.state c.args.callback c.asks.call n)) c.in-Ask.is) ∙ c.asks.invariant.ends)
+    (follow_err inv c.asks.state c.args.callback c.asks.call c.in-Ask.ask _ _ c.in_err-answer-in-Ask.ensures.ends))
+
+-- its next call was refused
+pub invoke-returns-in_err-next-in-Ask-clause-ends : goal.invoke-returns-in_err-next-in-Ask-clause-ends
+invoke-returns-in_err-next-in-Ask-clause-ends g t c =
+    let inv = invoke (engine_with g.S.Stated.says (shapes_of g.S.Stated.number c.args.plugins.now)) in
+    let p = err_from_is_err_and c.from_residual-in_err-next-in-Ask.result c.from_residual-in_err-next-in-Ask.ensures.1 in
+    let asked = follow_asked inv c.asks.state c.args.callback c.asks.call c.in-Ask.ask c.answer_ask.new.state c.in_ok-answer-in-Ask.answer c.in_ok-call-in-Ask.call c.in_ok-answer-in-Ask.ensures.ends c.in_ok-call-in-Ask.ensures in
+    rw (p.1, p.2)
+    (ends_alike (inv c.answer_ask.new.state c.args.callback c.in_ok-call-in-Ask.call) (inv c.args.state.now c.args.callback c.args.call) (Err c.in_err-next-in-Ask.field-0.0) c.take_reply-in-Ask.new.state
+    (sym asked ∙ sym (ap (λ n. end_of (follow inv c.asks.state c.args.callback c.asks.call n)) c.in-Ask.is) ∙ c.asks.invariant.ends)
+    c.in_err-next-in-Ask.ensures.fault)
+
+-- it asked, and was called again with the answer
+pub invoke-asks-preserved : goal.invoke-asks-preserved
+invoke-asks-preserved g t c =
+    let inv = invoke (engine_with g.S.Stated.says (shapes_of g.S.Stated.number c.args.plugins.now)) in
+    let asked = follow_asked inv c.asks.state c.args.callback c.asks.call c.in-Ask.ask c.answer_ask.new.state c.in_ok-answer-in-Ask.answer c.in_ok-call-in-Ask.call c.in_ok-answer-in-Ask.ensures.ends c.in_ok-call-in-Ask.ensures in
+    record {
+      ends = sym c.in_ok-next-in-Ask.ensures.goes_on ∙ sym asked ∙ sym (ap (λ n. end_of (follow inv c.asks.state c.args.callback c.asks.call n)) c.in-Ask.is) ∙ c.asks.invariant.ends;
+      fewer = omega (arith, c.asks.invariant.fewer, c.in_ok-answer-in-Ask.ensures.fewer, c.in_ok-next-in-Ask.ensures.taken);
+    }

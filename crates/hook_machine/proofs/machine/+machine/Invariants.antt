@@ -1,8 +1,8 @@
-use Rattle.std.proofs.Common.{◌≡◌, ◌≤◌, ◌+◌, ◌*◌, None, [], drop}
+use Rattle.std.proofs.Common.{◌≡◌, ◌≤◌, ◌<◌, ◌+◌, ◌*◌, None, [], drop}
 use Rattle.callback_store.specs.Shape.{shapes_of}
 use Rattle.hook_registry.specs.Table.{next_priority}
 use Rattle.hook_machine.specs.Trace.{end_of}
-use Rattle.hook_machine.specs.Meaning.{group_pass, priorities_pass, pieces_pass, invoke}
+use Rattle.hook_machine.specs.Meaning.{group_pass, priorities_pass, pieces_pass, follow, invoke}
 use Rattle.hook_machine.specs.Ends.{engine_with}
 use Rattle.hook_machine.proofs.machine.+machine.Given as goal
 
@@ -37,8 +37,20 @@ decreases-run_shortcodes g l = l.state.now.calls * 16 + 8
 abbrev pub decreases-answer_ask : goal.decreases-answer_ask
 decreases-answer_ask g l = l.state.now.calls * 16 + 9
 
-abbrev pub decreases-go_on : goal.decreases-go_on
-decreases-go_on g l = l.state.now.calls * 16 + 10
+abbrev pub decreases-invoke_core : goal.decreases-invoke_core
+decreases-invoke_core g l = l.state.now.calls * 16
+
+-- the callback goes on as it began
+abbrev pub invariant-invoke-asks : goal.invariant-invoke-asks
+invariant-invoke-asks g l =
+    let invocation = invoke (engine_with g.S.Stated.says (shapes_of g.S.Stated.number l.plugins)) in
+    record {
+      ends : end_of (follow invocation l.state l.callback l.call l.next) ≡ end_of (invocation l.fn.state l.callback l.fn.call);
+      fewer : l.state.calls < l.fn.state.calls;
+    }
+
+abbrev pub decreases-invoke-asks : goal.decreases-invoke-asks
+decreases-invoke-asks g l = l.state.calls
 
 -- the entries left end as the group does
 abbrev pub invariant-run_group-loop-entry : goal.invariant-run_group-loop-entry

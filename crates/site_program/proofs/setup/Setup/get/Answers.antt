@@ -1,7 +1,7 @@
 use Rattle.std.proofs.Common.{rules, ◌≡◌, ◌≢◌, ◌≤◌, ◌∙◌, sym, ap, length}
 use Rattle.hook_machine.specs.declared.fault.RunFault.TheVariants as fault
 use Rattle.site_program.specs.Reply.{page}
-use Rattle.site_program.specs.FrontPage.{refusal_of, options_of, active_of, found_posts}
+use Rattle.site_program.specs.Requests.{refusal_of, options_of, active_of, found_posts}
 use Rattle.site_program.specs.Step.{max_path}
 use Rattle.site_program.specs.Site.{engine_of, calls_of}
 use Rattle.site_program.proofs.Pages.{request-page, request-refused, got-short, got-late, of_every_fault}

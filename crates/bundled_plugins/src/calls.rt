@@ -1,0 +1,152 @@
+//! What a callback reads of its call, and the forms of its reply.
+ghost use Rattle.std.specs.Prelude.{◌≡◌, ◌++◌, ◌∷◌, [], IfOk, OnOk, codes, flat_map};
+ghost use Rattle.bundled_plugins.specs.Calls.{first_argument, second_argument, text_in, shown, listed, answers_text, changes_and_answers, prints_and_answers, changes_and_asks, asks};
+
+use hook_changes::{Answer, Ask, Call, Change, Listed, Reply, Text, Then};
+use itoa::Buffer;
+use std::alloc::{AllocError, Global};
+
+/// The first argument, or empty text where there is none.
+pub fn first_argument(call: &Call) -> &str
+    ensures { result.now ≡ first_argument call.entry.now.args }
+{
+    match call.args.as_slice() {
+        [] => "",
+        [first, ..] => first.as_str(),
+    }
+}
+
+/// The second argument, or empty text where there is none.
+pub fn second_argument(call: &Call) -> &str
+    ensures { result.now ≡ second_argument call.entry.now.args }
+{
+    match call.args.as_slice() {
+        [_, second, ..] => second.as_str(),
+        _ => "",
+    }
+}
+
+/// The text of an answer, or empty text where it is another one.
+pub fn text_in(answer: &Answer) -> &str
+    ensures { result.now ≡ text_in answer.entry.now }
+{
+    match answer {
+        Answer::Text(text) => text.as_str(),
+        _ => "",
+    }
+}
+
+/// Puts these texts behind a text.
+pub fn push_all(text: &mut Text, parts: &[&str]) -> Result<(), AllocError>
+    ensures { OnOk result (text.new ≡ text.old ++ flat_map (λ part. part.now) parts.now) }
+{
+    for part in parts {
+        text.push_str(part)?;
+    }
+    Ok(())
+}
+
+/// These texts, joined.
+fn joined(alloc: Global, parts: &[&str]) -> Result<Text, AllocError>
+    ensures { IfOk result (λ text. text ≡ flat_map (λ part. part.now) parts.now) }
+{
+    let mut text = Text::empty(alloc);
+    push_all(&mut text, parts)?;
+    Ok(text)
+}
+
+/// Puts an answer behind a text, as it is shown: a text as it is, a number in decimal, a flag as `1` or `0`, and the
+/// answer to an action as `-`.
+pub fn show(text: &mut Text, answer: &Answer) -> Result<(), AllocError>
+    ensures { OnOk result (text.new ≡ text.old ++ shown answer.now) }
+{
+    match answer {
+        Answer::Text(shown) => text.push_str(shown.as_str()),
+        Answer::Number(number) => text.push_str(Buffer::new().format(*number)),
+        Answer::Flag(flag) => text.push_str(if *flag { "1" } else { "0" }),
+        Answer::Nothing => text.push_str("-"),
+    }
+}
+
+/// Answers as they are shown, with commas between them.
+pub fn listed(alloc: Global, answers: &[Answer]) -> Result<Text, AllocError>
+    ensures { IfOk result (λ text. text ≡ listed answers.now) }
+{
+    let mut text = Text::empty(alloc);
+    if let Some((first, more)) = answers.split_first() {
+        show(&mut text, first)?;
+        show_more(&mut text, more)?;
+    }
+    Ok(text)
+}
+
+/// Puts further answers behind a text, each with a comma before it.
+fn show_more(text: &mut Text, answers: &[Answer]) -> Result<(), AllocError>
+    ensures { OnOk result (text.new ≡ text.old ++ flat_map (λ next. codes "," ++ shown next) answers.now) }
+{
+    for answer in answers {
+        text.push_str(",")?;
+        show(text, answer)?;
+    }
+    Ok(())
+}
+
+/// The reply that answers these texts, joined, and does nothing else.
+pub fn answer(alloc: Global, parts: &[&str]) -> Result<Reply, AllocError>
+    ensures { IfOk result (λ reply. reply ≡ answers_text (flat_map (λ part. part.now) parts.now)) }
+{
+    change_and_answer(alloc, Listed::empty(alloc), parts)
+}
+
+/// The reply that carries out changes and answers these texts, joined.
+pub fn change_and_answer(
+    alloc: Global,
+    changes: Listed<Change>,
+    parts: &[&str],
+) -> Result<Reply, AllocError>
+    ensures { IfOk result (λ reply. reply ≡ changes_and_answers changes (flat_map (λ part. part.now) parts.now)) }
+{
+    Ok(Reply {
+        changes,
+        echo: Text::empty(alloc),
+        next: Then::Answer(joined(alloc, parts)?),
+    })
+}
+
+/// The reply that prints these texts, joined, and answers a text.
+pub fn print_and_answer(alloc: Global, printed: &[&str], text: &str) -> Result<Reply, AllocError>
+    ensures { IfOk result (λ reply. reply ≡ prints_and_answers (flat_map (λ part. part.now) printed.now) text.now) }
+{
+    Ok(Reply {
+        changes: Listed::empty(alloc),
+        echo: joined(alloc, printed)?,
+        next: Then::Answer(Text::copied(alloc, text)?),
+    })
+}
+
+/// The reply that carries out changes and asks. It takes no memory.
+pub fn change_and_ask(alloc: Global, changes: Listed<Change>, ask: Ask) -> Reply
+    ensures { result ≡ changes_and_asks changes ask }
+{
+    Reply {
+        changes,
+        echo: Text::empty(alloc),
+        next: Then::Ask(ask),
+    }
+}
+
+/// The reply that asks. It takes no memory.
+pub fn ask(alloc: Global, ask: Ask) -> Reply
+    ensures { result ≡ asks ask }
+{
+    change_and_ask(alloc, Listed::empty(alloc), ask)
+}
+
+/// A list of one change.
+pub fn one_change(alloc: Global, change: Change) -> Result<Listed<Change>, AllocError>
+    ensures { IfOk result (λ changes. changes ≡ change ∷ []) }
+{
+    let mut changes = Listed::empty(alloc);
+    changes.push(change)?;
+    Ok(changes)
+}

@@ -1,0 +1,25 @@
+-- Text that is safe in its place: behind the closing mark of a CDATA section, and in HTML.
+use Rattle.std.specs.Prelude.{ℕ, ◌==◌, ◌&&◌, List, [], ◌∷◌, ◌++◌, codes, flat_map, if◌then◌else◌}
+
+-- a text behind these two bytes, in which each `>` behind `]]` is `&gt;`
+abbrev pub ends_escaped_behind : ℕ → ℕ → List ℕ → List ℕ
+ends_escaped_behind before last [] = []
+ends_escaped_behind before last (b ∷ rest) =
+    (if before == 93 && last == 93 && b == 62 then codes "&gt;" else b ∷ []) ++ ends_escaped_behind last b rest
+
+-- each `]]>` as `]]&gt;`
+abbrev pub ends_escaped : List ℕ → List ℕ
+ends_escaped text = ends_escaped_behind 0 0 text
+
+-- & &amp;  < &lt;  > &gt;  " &quot;  ' &#039;
+abbrev pub entity : ℕ → List ℕ
+entity b =
+    if b == 38 then codes "&amp;"
+    else (if b == 60 then codes "&lt;"
+    else (if b == 62 then codes "&gt;"
+    else (if b == 34 then codes "&quot;"
+    else (if b == 39 then codes "&#039;"
+    else b ∷ []))))
+
+abbrev pub html_escaped : List ℕ → List ℕ
+html_escaped text = flat_map entity text
