@@ -1,11 +1,13 @@
 -- Which plugin has a callback or a name, by the plugins themselves.
-use Rattle.std.proofs.Common.{◌≡◌, ℕ, Bool, true, false, ◌==◌, List, [], ◌∷◌, map, refl, ap, sym, ◌∙◌, Option, Some, None, bytes_eq}
+use Rattle.std.proofs.Common.{◌≡◌, ℕ, Bool, true, false, ◌==◌, ◌||◌, List, [], ◌∷◌, map, refl, ap, sym, ◌∙◌, Option, Some, None, bytes_eq, slice_get, zero, suc, Result, Ok, Err, IfOk, subst}
 use Rattle.std.proofs.lemmas.Bool.{eqb-true}
 use Rattle.std.specs.Prelude.{find, is_some, option_map, if◌then◌else◌, IfSome}
 use Rattle.std.specs.Option.{option_copied}
 use Rattle.std.specs.Borrow.{Bor}
 use Rattle.std.specs.List.{list_any}
+use Rattle.callback_store.specs.declared.fault.PluginFault.{PluginFault}
 use Rattle.callback_store.specs.declared.plugins.Plugin.{Plugin}
+use Rattle.callback_store.specs.declared.plugins.Plugins.{Plugins}
 use Rattle.callback_store.specs.Shape.{shape_of, has_callback, is_held, owner, load_of}
 use Rattle.callback_store.proofs.Mapped.{list_any-map, find-map, is_some-find}
 
@@ -14,7 +16,7 @@ module _ {S : Type 0} (number : S → ℕ) where
   abbrev pub has : ℕ → Plugin S → Bool
   has id plugin = list_any (λ c. number c == id) plugin.callbacks
 
-  has-shape_of : (id : ℕ) (plugin : Plugin S) → has_callback id (shape_of number plugin) ≡ has id plugin
+  pub has-shape_of : (id : ℕ) (plugin : Plugin S) → has_callback id (shape_of number plugin) ≡ has id plugin
   has-shape_of id plugin = list_any-map (λ c. c == id) number plugin.callbacks
 
   find_same : {X : Type 0} (p q : X → Bool) → ((x : X) → p x ≡ q x) → (xs : List X) → find p xs ≡ find q xs
@@ -72,3 +74,23 @@ module _ {S : Type 0} (number : S → ℕ) where
       copied : (o : Option (Bor S)) → is_some o ≡ is_some (option_copied o)
       copied None = refl
       copied (Some c) = refl
+
+-- what stands at a place and passes
+any_at : {X : Type 0} (test : X → Bool) (xs : List X) (i : ℕ) (x : X) → slice_get xs i ≡ Some x → test x ≡ true → list_any test xs ≡ true
+any_at test [] zero x e t = cc
+any_at test [] (suc i) x e t = cc
+any_at test (y ∷ ys) zero x e t = let same : y ≡ x = cc in rw (same, t) refl
+any_at test (y ∷ ys) (suc i) x e t = elim (test y) as (λ b. (b || list_any test ys) ≡ true) [ true ↦ refl | false ↦ any_at test ys i x e t ]
+
+module _ {S : Type 0} (number : S → ℕ) where
+  -- the callback at a place of the plugin at a place is held
+  pub held_at : (id : ℕ) (ps : List (Plugin S)) (i j : ℕ) (p : Plugin S) (s : S) → slice_get ps i ≡ Some p → slice_get p.callbacks j ≡ Some s → (number s == id) ≡ true
+      → is_held (map (shape_of number) ps) id ≡ true
+  held_at id ps i j p s e f t =
+      list_any-map (has_callback id) (shape_of number) ps
+      ∙ any_at (λ q. has_callback id (shape_of number q)) ps i p e (has-shape_of number id p ∙ any_at (λ c. number c == id) p.callbacks j s f t)
+
+  -- what holds of a list holds of the plugins that keep it
+  pub kept : (P : List (Plugin S) → Type 0) (list : List (Plugin S)) (r : Result (Plugins S) PluginFault) → IfOk r (λ plugins. plugins.list ≡ list) → P list → IfOk r (λ plugins. P plugins.list)
+  kept P list (Ok plugins) e h = subst P (sym e) h
+  kept P list (Err fault) e h = tt

@@ -4,8 +4,6 @@
 mod fault;
 mod plugins;
 mod stated;
-#[cfg(test)]
-mod tests;
 
 pub use fault::PluginFault;
 pub use plugins::{Plugin, Plugins};

@@ -1,5 +1,5 @@
 // Plugins, with their load lists and callbacks.
-ghost use Rattle.std.specs.Prelude.{◌≡◌, ◌≢◌, ◌++◌, map, IfOk, IfErr, OnOk, IsTrue, IfSome, None, Some, option_map, is_some, find, bytes_eq, ◌==◌, ◌||◌, not, nat_lt, length};
+ghost use Rattle.std.specs.Prelude.{◌≡◌, ◌≢◌, ◌++◌, map, IfOk, IfErr, OnOk, IsTrue, IfSome, None, Some, option_map, is_some, find, bytes_eq, ◌==◌, ◌||◌, not, nat_lt, length, slice_get};
 ghost use Rattle.std.specs.List.{list_any};
 ghost use Rattle.std.specs.List.Sorted.{IsPermutation, IsSortedByKey};
 ghost use Rattle.std.specs.Ordering.{nat_cmp};
@@ -12,7 +12,7 @@ ghost use Rattle.callback_store.specs.Faults.{has_repeat, is_large, has_same_cal
 use crate::fault::PluginFault;
 use crate::stated::Stated;
 use hook_changes::{Call, CallbackId, Change, Listed, Reply, Text, is_tag_name};
-use indexmap::IndexSet;
+use indexmap::{IndexMap, IndexSet};
 use std::alloc::{AllocError, Global};
 
 const MOST_PLUGINS: usize = 64;
@@ -46,6 +46,12 @@ impl<S: Stated> Plugin<S> {
         callbacks.iter().any(|callback| callback.id() == id)
     }
 
+    fn callback_at(&self, place: usize) -> Option<&S>
+        ensures { option_copied result ≡ slice_get self.entry.now.callbacks place }
+    {
+        self.callbacks.as_slice().get(place)
+    }
+
     fn callback(&self, id: CallbackId) -> Option<&S>
         ensures { option_copied result ≡ find (λ c. S.number c == id) self.entry.now.callbacks }
     {
@@ -58,7 +64,11 @@ impl<S: Stated> Plugin<S> {
 #[derive(Drop)]
 pub struct Plugins<S> {
     list: Listed<Plugin<S>>,
+    places: Places,
 }
+
+/// Where each callback stands, by its number: the place of its plugin, and its own place there.
+type Places = IndexMap<u32, (usize, usize)>;
 
 impl<S: Stated> Plugins<S> {
     /// Takes a list of plugins and puts them in the order of their names by bytes, in which load lists are carried
@@ -79,9 +89,7 @@ impl<S: Stated> Plugins<S> {
             return Err(PluginFault::SameName);
         }
         match has_same_callback(alloc, list.as_slice()) {
-            Ok(false) => Ok(Plugins {
-                list: sorted_by_name(list),
-            }),
+            Ok(false) => with_places(alloc, sorted_by_name(list)),
             Ok(true) => Err(PluginFault::SameCallback),
             Err(AllocError) => Err(PluginFault::OutOfMemory),
         }
@@ -128,8 +136,40 @@ impl<S: Stated> Plugins<S> {
         }
     }
 
-    /// The callback with a number, where a plugin has it.
+    fn plugin_at(&self, place: usize) -> Option<&Plugin<S>>
+        ensures { option_copied result ≡ slice_get self.entry.now.list place }
+    {
+        let plugins = self.list.as_slice();
+        plugins.get(place)
+    }
+
+    /// The callback at the place that is kept for a number.
+    fn at_place(&self, id: CallbackId) -> Option<&S>
+        ensures number { IfSome result (λ callback. S.number callback.now ≡ id) }
+        ensures held { IfSome result (λ callback. IsTrue (is_held (shapes_of S.number self.entry.now) id)) }
+    {
+        let (plugin, place) = *self.places.get(&id.number())?;
+        let callback = self.plugin_at(plugin)?.callback_at(place)?;
+        if callback.id() == id {
+            Some(callback)
+        } else {
+            None
+        }
+    }
+
+    /// The callback with a number, where a plugin has it. It takes as long in a bundle of many callbacks as in a small
+    /// one; a number that none has is looked for among all.
     pub fn callback(&self, id: CallbackId) -> Option<&S>
+        ensures number { IfSome result (λ callback. S.number callback.now ≡ id) }
+        ensures held { is_some result ≡ is_held (shapes_of S.number self.entry.now) id }
+    {
+        match self.at_place(id) {
+            Some(callback) => Some(callback),
+            None => self.among_all(id),
+        }
+    }
+
+    fn among_all(&self, id: CallbackId) -> Option<&S>
         ensures number { IfSome result (λ callback. S.number callback.now ≡ id) }
         ensures held { is_some result ≡ is_held (shapes_of S.number self.entry.now) id }
     {
@@ -215,6 +255,35 @@ fn all_numbers<S: Stated>(alloc: Global, list: &[Plugin<S>]) -> Result<Vec<u32>,
         push_numbers(&mut all, plugin.callbacks.as_slice())?;
     }
     Ok(all)
+}
+
+fn put_places<S: Stated>(
+    places: &mut Places,
+    plugin: usize,
+    callbacks: &[S],
+) -> Result<(), AllocError> {
+    for (place, callback) in callbacks.iter().enumerate() {
+        places.insert(callback.id().number(), (plugin, place))?;
+    }
+    Ok(())
+}
+
+fn places_of<S: Stated>(alloc: Global, list: &[Plugin<S>]) -> Result<Places, AllocError> {
+    let mut places = IndexMap::new(alloc);
+    for (place, plugin) in list.iter().enumerate() {
+        put_places(&mut places, place, plugin.callbacks.as_slice())?;
+    }
+    Ok(places)
+}
+
+fn with_places<S: Stated>(alloc: Global, list: Listed<Plugin<S>>) -> Result<Plugins<S>, PluginFault>
+    ensures ok { IfOk result (λ plugins. plugins.list ≡ list) }
+    ensures err { IfErr result (λ fault. fault ≡ PluginFault.OutOfMemory) }
+{
+    match places_of(alloc, list.as_slice()) {
+        Ok(places) => Ok(Plugins { list, places }),
+        Err(AllocError) => Err(PluginFault::OutOfMemory),
+    }
 }
 
 fn has_repeat(alloc: Global, numbers: &[u32]) -> Result<bool, AllocError>

@@ -6,8 +6,6 @@ mod callback;
 mod kept;
 mod names;
 mod reply;
-#[cfg(test)]
-mod tests;
 
 pub use callback::CallbackId;
 pub use kept::{Listed, Text};

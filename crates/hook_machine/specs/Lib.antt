@@ -3,4 +3,5 @@ pub mod Trace
 pub mod Meaning
 pub mod Ends
 pub mod Runs
+pub mod Folding
 pub mod Worked

@@ -4,6 +4,7 @@
 mod asks;
 mod changes;
 mod fault;
+mod laws;
 mod machine;
 mod pass;
 mod run;
@@ -11,5 +12,6 @@ mod state;
 mod worked;
 
 pub use fault::RunFault;
+pub use laws::plain_callbacks_fold;
 pub use run::Run;
 pub use worked::worked_passes;

@@ -8,8 +8,6 @@ mod list;
 mod named;
 mod registration;
 mod registry;
-#[cfg(test)]
-mod tests;
 mod worked;
 
 pub use laws::{changes_behind, one_list};

@@ -13,8 +13,6 @@ use std::marker::Model;
 
 mod items;
 mod name_byte;
-#[cfg(test)]
-mod tests;
 mod values;
 
 use items::{Found, item_at, skip_white};

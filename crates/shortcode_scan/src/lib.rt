@@ -17,8 +17,6 @@ mod ahead;
 mod live_names;
 mod matches;
 mod places;
-#[cfg(test)]
-mod tests;
 
 /// A stretch of a text, from `start` up to and without `end`, in bytes counted from 0.
 #[derive(Clone, Copy, Debug, PartialEq, Eq)]

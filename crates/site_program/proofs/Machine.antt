@@ -1,5 +1,5 @@
 -- What the machine's contracts say of how a call ended.
-use Rattle.std.proofs.Common.{◌≡◌, Err, refl}
+use Rattle.std.proofs.Common.{Err, refl}
 use Rattle.hook_machine.specs.World.{World}
 use Rattle.hook_machine.specs.declared.fault.RunFault.{RunFault}
 use Rattle.hook_machine.specs.declared.fault.RunFault.TheVariants.{TooManyCalls, TooDeep, OutOfMemory}

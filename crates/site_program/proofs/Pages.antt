@@ -1,12 +1,11 @@
 -- Lemmas on what a page prints.
-use Rattle.std.proofs.Common.{arith, ◌≡◌, ◌≢◌, ◌<◌, ◌≤◌, ℕ, ◌+◌, List, [], ◌∷◌, ◌++◌, ◌∙◌, Ok, Err, false, refl, sym, ap, subst, length, drop, get_or, codes, decimal}
-use Rattle.std.proofs.lemmas.List.{drop_more}
+use Rattle.std.proofs.Common.{◌≡◌, ◌≢◌, ◌≤◌, ℕ, List, ◌∙◌, Ok, Err, false, refl, sym, ap, subst, length}
 use Rattle.std.proofs.lemmas.Bool.{le-leb}
 use Rattle.hook_machine.specs.World.{Text, World, fresh, loaded}
 use Rattle.hook_machine.specs.declared.fault.RunFault.{RunFault}
 use Rattle.hook_machine.specs.declared.fault.RunFault.TheVariants as fault
-use Rattle.hook_machine.specs.Trace.{Trace, End, Ended, Fault, end_of}
-use Rattle.hook_machine.specs.Meaning.{Engine, filtered}
+use Rattle.hook_machine.specs.Trace.{End, Ended, Fault, end_of}
+use Rattle.hook_machine.specs.Meaning.{Engine}
 use Rattle.hook_machine.specs.Ends.{Ends}
 use Rattle.site_records.specs.declared.post.Post.{Post}
 use Rattle.post_tables.specs.Rows.{Rows}
@@ -15,7 +14,7 @@ use Rattle.site_program.specs.Step.{got, max_path, comes_before_store}
 use Rattle.template_parts.specs.Pages as template
 use Rattle.template_parts.specs.Pages.{Work}
 use Rattle.template_parts.specs.declared.template.Node.{Node}
-use Rattle.site_program.specs.Requests.{page_pass, options_of, active_of, found_posts, status_of, shown, refusal_of, request, IsPage, IsRefusedBy}
+use Rattle.site_program.specs.Requests.{page_pass, options_of, active_of, found_by, shown, refusal_of, request, IsPage, IsRefusedBy}
 use Rattle.std.specs.Prelude.{Result, IfErr}
 use Rattle.site_program.specs.declared.fault.StoreFault.{StoreFault}
 use Rattle.site_program.specs.declared.fault.StoreFault.TheVariants as store
@@ -50,21 +49,21 @@ module _ (engine : Engine) (calls : ℕ) (rows : Rows) (path : Text) where
   abbrev the_pass : List (Text × Text) → List Text → List Post → Work
   the_pass options active posts = page_pass engine calls options active posts
 
-  same_pass : (options : List (Text × Text)) (active : List Text) (posts : List Post) → options ≡ options_of rows → active ≡ active_of rows → posts ≡ found_posts rows path
-      → the_pass options active posts ≡ the_pass (options_of rows) (active_of rows) (found_posts rows path)
+  same_pass : (options : List (Text × Text)) (active : List Text) (posts : List Post) → options ≡ options_of rows → active ≡ active_of rows → posts ≡ (found_by rows path).posts
+      → the_pass options active posts ≡ the_pass (options_of rows) (active_of rows) ((found_by rows path).posts)
   same_pass options active posts o a p = rw (o, a, p) refl
 
-  pub request-page : (options : List (Text × Text)) (active : List Text) (posts : List Post) (text : Text) → options ≡ options_of rows → active ≡ active_of rows → posts ≡ found_posts rows path
-      → IsPage (page_pass engine calls options active posts) text → request engine calls rows path ≡ page (status_of path) text
+  pub request-page : (options : List (Text × Text)) (active : List Text) (posts : List Post) (text : Text) → options ≡ options_of rows → active ≡ active_of rows → posts ≡ (found_by rows path).posts
+      → IsPage (page_pass engine calls options active posts) text → request engine calls rows path ≡ page (found_by rows path).status text
   unfolding request
   request-page options active posts text o a p made =
-      ap (λ t. shown (status_of path) (end_of t)) (sym (same_pass options active posts o a p)) ∙ ap (shown (status_of path)) made.made ∙ ap (page (status_of path)) (sym made.whole)
+      ap (λ t. shown (found_by rows path).status (end_of t)) (sym (same_pass options active posts o a p)) ∙ ap (shown (found_by rows path).status) made.made ∙ ap (page (found_by rows path).status) (sym made.whole)
 
-  pub request-refused : (options : List (Text × Text)) (active : List Text) (posts : List Post) (why : RunFault) → options ≡ options_of rows → active ≡ active_of rows → posts ≡ found_posts rows path
+  pub request-refused : (options : List (Text × Text)) (active : List Text) (posts : List Post) (why : RunFault) → options ≡ options_of rows → active ≡ active_of rows → posts ≡ (found_by rows path).posts
       → IsRefusedBy (page_pass engine calls options active posts) why → why ≢ fault.OutOfMemory → request engine calls rows path ≡ refusal_of why
   unfolding request
   request-refused options active posts why o a p refused other =
-      ap (λ t. shown (status_of path) (end_of t)) (sym (same_pass options active posts o a p)) ∙ ap (shown (status_of path)) (refused other)
+      ap (λ t. shown (found_by rows path).status (end_of t)) (sym (same_pass options active posts o a p)) ∙ ap (shown (found_by rows path).status) (refused other)
 
   -- a path that isn't too long
   pub got-short : (new : Rows) (answer : Answer) → length path ≤ max_path → new ≡ rows → request engine calls rows path ≡ answer → (new, answer) ≡ got engine calls rows path
@@ -80,7 +79,7 @@ module _ (engine : Engine) (calls : ℕ) (rows : Rows) (path : Text) where
   -- the answer to a request is never settled before the database is asked
   pub got-late : length path ≤ max_path → comes_before_store (got engine calls rows path).1 ≡ false
   unfolding got request
-  got-late short = rw (le-leb _ _ short) (shown-late (status_of path) _)
+  got-late short = rw (le-leb _ _ short) (shown-late (found_by rows path).status _)
 
 -- where something holds anyway, it holds of every fault
 pub of_every_fault : {A X : Type 0} (r : Result A StoreFault) → X → IfErr r (λ fault. fault ≡ store.Store → X)

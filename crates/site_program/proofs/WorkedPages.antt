@@ -1,8 +1,8 @@
 -- Worked pages, computed.
-use Rattle.std.proofs.Common.{◌≡◌, ◌∙◌, ℕ, List, [], ◌∷◌, codes, refl, ap}
+use Rattle.std.proofs.Common.{◌≡◌, ◌∙◌, ℕ, [], ◌∷◌, codes, refl, ap}
 use Rattle.std.specs.Fmt.{digits}
 use Rattle.std.specs.Str.{is_utf8, chars}
-use Rattle.hook_machine.specs.World.{Text, loaded}
+use Rattle.hook_machine.specs.World.{loaded}
 use Rattle.hook_machine.specs.Trace.{end_of}
 use Rattle.hook_machine.specs.Meaning.{deeper, group_pass, priorities_pass, pass, filter_pass, action_pass, handled, piece_pass, pieces_pass, shortcodes_pass, answered, follow, invoked, invoked_with, invoke_within, invoke, filtered, acted}
 use Rattle.post_tables.specs.Rows.{Rows}
@@ -14,7 +14,10 @@ use Rattle.shortcode_scan.specs.Live.{has_opening}
 use Rattle.bundled_plugins.specs.Replies.{says}
 use Rattle.template_parts.specs.Pages as template
 use Rattle.template_parts.specs.Pages.{each, title_pass, content_pass, tag_pass, item_pass, items_pass, loop_pass, node_pass, nodes_pass}
-use Rattle.site_program.specs.Requests.{page_pass, found_posts, status_of, shown, request}
+use Rattle.site_program.specs.Requests.{page_pass, found_by, shown, request}
+use Rattle.form_urlencoded.proofs.OnLiterals.{form_urlencoded_on_literals}
+use Rattle.permalink_query.specs.declared.found.FoundKind.TheVariants.{Front}
+use Rattle.permalink_query.specs.Found.{showing}
 use Rattle.serde_json.proofs.OnLiterals.{serde_json_on_literals}
 use Rattle.site_commands.specs.Tree.{tree_of}
 use Rattle.site_commands.specs.Asked.{command_of, get_of}
@@ -31,12 +34,13 @@ computes = 0
 abbrev front : ℕ → Answer
 front calls = shown 200 (end_of (page_pass bundled calls [] (codes "marks" ∷ []) one_post))
 
-front_posts : (rows : Rows) → IsMarked rows → found_posts rows (codes "/") ≡ one_post
-front_posts rows marked = rw (marked.posts) refl
+front_found : (rows : Rows) → IsMarked rows → found_by rows (codes "/") ≡ showing Front one_post
+unfolding form_urlencoded_on_literals
+front_found rows marked = rw (marked.posts, marked.options) refl
 
 front_is : (calls : ℕ) (rows : Rows) → IsMarked rows → request bundled calls rows (codes "/") ≡ front calls
 unfolding request
-front_is calls rows marked = rw (front_posts rows marked, marked.options, marked.active) refl
+front_is calls rows marked = rw (front_found rows marked, marked.options, marked.active) refl
 
 marked_page : front 10000 ≡ page 200 (codes "<h2>TX1Y</h2>")
 unfolding computes

@@ -1,6 +1,5 @@
 -- What a request of a path is answered.
-use Rattle.std.specs.Prelude.{◌≡◌, ◌≢◌, ℕ, List, [], codes, if◌then◌else◌}
-use Rattle.std.specs.Str.{bytes_eq}
+use Rattle.std.specs.Prelude.{◌≡◌, ◌≢◌, ℕ, List}
 use Rattle.std.specs.FinMap.{entries, keys}
 use Rattle.hook_machine.specs.World.{Text, World, fresh, loaded}
 use Rattle.hook_machine.specs.Trace.{End, Ended, Fault, end_of}
@@ -8,27 +7,14 @@ use Rattle.hook_machine.specs.Meaning.{Engine}
 use Rattle.hook_machine.specs.declared.fault.RunFault.{RunFault}
 use Rattle.hook_machine.specs.declared.fault.RunFault.TheVariants as fault
 use Rattle.site_records.specs.declared.post.Post.{Post}
-use Rattle.site_records.specs.declared.post.PostKind.TheVariants as kind
 use Rattle.post_tables.specs.Rows.{Rows}
-use Rattle.post_tables.specs.Page.{page_of}
+use Rattle.permalink_query.specs.declared.found.Found.{Found}
+use Rattle.permalink_query.specs.Paths.{query_of}
+use Rattle.permalink_query.specs.Found.{found}
 use Rattle.template_parts.specs.Pages as template
 use Rattle.template_parts.specs.Pages.{Work}
 use Rattle.site_program.specs.declared.reply.Refusal.TheVariants.{TooManyCalls, TooDeep, OutOfMemory}
 use Rattle.site_program.specs.Reply.{Answer, refused, page}
-
--- the first and the last moment that a post may be dated to
-abbrev pub first_date : Text
-first_date = codes "0001-01-01 00:00:00"
-
-abbrev pub last_date : Text
-last_date = codes "9999-12-31 23:59:59"
-
--- the posts that a path finds: the front finds the ten newest published posts, and every other path none
-abbrev pub found_posts : Rows → Text → List Post
-found_posts rows path = if bytes_eq path (codes "/") then page_of kind.Post first_date last_date 10 0 rows.posts else []
-
-abbrev pub status_of : Text → ℕ
-status_of path = if bytes_eq path (codes "/") then 200 else 404
 
 abbrev pub refusal_of : RunFault → Answer
 refusal_of fault.TooManyCalls = refused TooManyCalls
@@ -47,6 +33,10 @@ options_of rows = entries rows.options
 abbrev pub active_of : Rows → List Text
 active_of rows = keys rows.active
 
+-- what a path finds in a site
+abbrev pub found_by : Rows → Text → Found
+found_by rows path = found rows.posts (options_of rows) (query_of path)
+
 -- a page's work: the active plugins load into a fresh world, and then the page is printed over the posts that were found
 unfoldable pub page_pass : Engine → ℕ → List (Text × Text) → List Text → List Post → Work
 page_pass engine calls options active posts =
@@ -55,7 +45,7 @@ page_pass engine calls options active posts =
 -- the answer to a request of a path
 unfoldable pub request : Engine → ℕ → Rows → Text → Answer
 request engine calls rows path =
-    shown (status_of path) (end_of (page_pass engine calls (options_of rows) (active_of rows) (found_posts rows path)))
+    shown (found_by rows path).status (end_of (page_pass engine calls (options_of rows) (active_of rows) (found_by rows path).posts))
 
 -- the page was made, and this is its text
 pub record IsPage (work : Work) (text : Text) : Type 0 where

@@ -1,6 +1,7 @@
 //! What stops a command, or serving.
 ghost use Rattle.std.specs.Prelude.{◌≡◌};
 
+use permalink_query::FindFault;
 use post_tables::TablesFault;
 use std::alloc::AllocError;
 use thiserror::Error;
@@ -31,6 +32,15 @@ impl From<TablesFault> for StoreFault {
         match fault {
             TablesFault::OutOfMemory => StoreFault::OutOfMemory,
             _ => StoreFault::Store,
+        }
+    }
+}
+
+impl From<FindFault> for StoreFault {
+    fn from(fault: FindFault) -> StoreFault {
+        match fault {
+            FindFault::OutOfMemory => StoreFault::OutOfMemory,
+            FindFault::Store => StoreFault::Store,
         }
     }
 }

@@ -1,23 +1,23 @@
 //! The pages of a site.
 ghost use Rattle.std.specs.Prelude.{◌≡◌, IfOk, OnErr, IfErr, false};
 ghost use Rattle.site_program.specs.Reply.{answer_of};
-ghost use Rattle.site_program.specs.Requests.{page_pass, found_posts, status_of, first_date, last_date, IsPage, IsRefusedBy};
+ghost use Rattle.permalink_query.specs.Paths.{query_of};
+ghost use Rattle.permalink_query.specs.Found.{found};
+ghost use Rattle.site_program.specs.Requests.{page_pass, IsPage, IsRefusedBy};
 
 use crate::fault::StoreFault;
 use crate::reply::{Refusal, SiteReply};
 use crate::setup::Setup;
 use callback_store::Stated;
-use hook_changes::{Listed, Text};
+use hook_changes::Text;
 use hook_machine::{Run, RunFault};
-use post_tables::{Post, PostDate, PostKind, Tables};
+use permalink_query::{Found, find, read};
+use post_tables::{Post, Tables};
 use std::alloc::Global;
 use template_parts::{default_index, print_page};
 
 // The most bytes that a path may have.
 const MAX_PATH: usize = 8_192;
-
-// How many posts the front shows.
-const FRONT_POSTS: u32 = 10;
 
 impl<'p, S: Stated> Setup<'p, S> {
     ghost use Rattle.site_program.specs.Site.{engine_of, calls_of};
@@ -35,12 +35,16 @@ impl<'p, S: Stated> Setup<'p, S> {
         if path.len() > MAX_PATH {
             return Ok(SiteReply::Refused(Refusal::TooLarge));
         }
-        let posts = found_posts(self.alloc, tables, path)?;
         let options = tables.options()?;
+        let found = found_by(self.alloc, tables, path, options.as_slice())?;
         let active = tables.active()?;
-        match self.page(options.as_slice(), active.as_slice(), posts.as_slice()) {
+        match self.page(
+            options.as_slice(),
+            active.as_slice(),
+            found.posts.as_slice(),
+        ) {
             Ok(text) => Ok(SiteReply::Page {
-                status: status_of(path),
+                status: found.status,
                 body: text.into_string().into_bytes(),
             }),
             Err(RunFault::TooManyCalls) => Ok(SiteReply::Refused(Refusal::TooManyCalls)),
@@ -71,39 +75,17 @@ impl<'p, S: Stated> Setup<'p, S> {
     }
 }
 
-fn status_of(path: &str) -> u16
-    ensures { result ≡ status_of path.now }
-{
-    if path == "/" { 200 } else { 404 }
-}
-
-#[tactic(auto, unfolding(site_records::specs::Dates::is_post_date))]
-fn first_date() -> PostDate
-    ensures { result ≡ first_date }
-{
-    match PostDate::read("0001-01-01 00:00:00") {
-        Some(date) => date,
-        None => unreachable!(),
-    }
-}
-
-#[tactic(auto, unfolding(site_records::specs::Dates::is_post_date))]
-fn last_date() -> PostDate
-    ensures { result ≡ last_date }
-{
-    match PostDate::read("9999-12-31 23:59:59") {
-        Some(date) => date,
-        None => unreachable!(),
-    }
-}
-
-/// The posts that a path finds.
-fn found_posts(alloc: Global, tables: &mut Tables, path: &str) -> Result<Listed<Post>, StoreFault>
-    ensures posts { IfOk result (λ posts. posts ≡ found_posts tables.old path.now) }
+/// What a path finds in a site with these options.
+fn found_by(
+    alloc: Global,
+    tables: &mut Tables,
+    path: &str,
+    options: &[(Text, Text)],
+) -> Result<Found, StoreFault>
+    ensures found { IfOk result (λ f.
+        f ≡ found tables.old.posts options.now (query_of path.now)) }
     ensures same { tables.new ≡ tables.old }
 {
-    if path != "/" {
-        return Ok(Listed::empty(alloc));
-    }
-    Ok(tables.posts_of(PostKind::Post, &first_date(), &last_date(), FRONT_POSTS, 0)?)
+    let query = read(alloc, path)?;
+    Ok(find(alloc, tables, &query, options)?)
 }

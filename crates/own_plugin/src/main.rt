@@ -1,0 +1,26 @@
+//! A site with a plugin of its own in place of the bundle: it serves lines of JSON from standard input to standard
+//! output, as the program `site` does. docs/PLUGINS.md goes through it.
+#![tactic(auto)]
+
+mod notices;
+
+use anyhow::Result;
+use callback_store::Plugins;
+use site_program::{Reading, Site, Writing};
+use std::io;
+
+// How many calls of its callbacks a page may make.
+const CALLS: u32 = 10_000;
+
+// The size of the cache, which has no effect yet.
+const CACHE: u32 = 64;
+
+fn main(rt: HostRuntime) -> Result<()> {
+    let alloc = rt.alloc();
+    let plugins = Plugins::new(alloc, notices::listed(alloc)?)?;
+    let mut site = Site::new(alloc, &plugins, CALLS, CACHE)?;
+    let mut reader = Reading::new(rt.reader());
+    let mut writer = Writing::new(io::writer(&rt));
+    site.serve(&mut reader, &mut writer)?;
+    Ok(())
+}

@@ -1,0 +1,2 @@
+pub mod LossyLemmas
+pub mod MonthLemmas

@@ -1,0 +1,5 @@
+pub mod Faults
+pub mod Numbers
+pub mod Paths
+pub mod Months
+pub mod Found

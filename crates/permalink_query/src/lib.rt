@@ -1,0 +1,19 @@
+//! Plain permalinks: which posts the path of a request asks for, and those of them that a site has
+//! (WordPress documentation, Customize Permalinks, 'Plain permalinks').
+#![tactic(auto)]
+
+mod fault;
+mod found;
+mod lookup;
+mod month;
+mod number;
+mod query;
+#[cfg(test)]
+mod tests;
+mod worked;
+
+pub use fault::FindFault;
+pub use found::{Found, FoundKind};
+pub use lookup::find;
+pub use query::{Query, read};
+pub use worked::{worked_finds, worked_queries};

@@ -1,0 +1,181 @@
+//! Finding what a site has for a query.
+ghost use Rattle.std.specs.Prelude.{codes, ◌≡◌, ◌≤◌, IfOk, option_map};
+ghost use Rattle.permalink_query.specs.Found.{
+  option_value,
+  posts_per_page,
+  part_of_posts,
+  published_with,
+  unless_empty,
+  front_of,
+  nothing,
+  found,
+};
+
+use crate::fault::FindFault;
+use crate::found::{Found, FoundKind};
+use crate::month::month_span;
+use crate::number::whole_number;
+use crate::query::Query;
+use hook_changes::{Listed, Text};
+use post_tables::Tables;
+use site_records::{Post, PostDate, PostKind, PostStatus};
+use std::alloc::{AllocError, Global};
+
+/// How many posts make a part where the option doesn't say.
+const DEFAULT_SIZE: u32 = 10;
+
+/// What a site has for a query: published posts and pages alone, and of a list the part that the
+/// query names, newest first (class WP_Query). A part has as many posts as the first option named
+/// `posts_per_page` says, where that is a number from 1 to 100, and else 10. Nothing is found where
+/// there is no such post or page, and where a part is empty, but for the first part of the front.
+/// A month that the calendar doesn't have finds nothing.
+pub fn find(
+    alloc: Global,
+    tables: &mut Tables,
+    query: &Query,
+    options: &[(Text, Text)],
+) -> Result<Found, FindFault>
+    ensures ok { IfOk result (λ f. f ≡ found tables.old.posts options.now query.now) }
+    ensures same { tables.new ≡ tables.old }
+{
+    match *query {
+        Query::Front { part } => {
+            let posts = front_part(tables, posts_per_page(options), part)?;
+            Ok(front(alloc, part, posts))
+        }
+        Query::Single { id } => {
+            let posts = published(alloc, tables, PostKind::Post, id)?;
+            Ok(unless_empty(alloc, FoundKind::Single, posts))
+        }
+        Query::Page { id } => {
+            let posts = published(alloc, tables, PostKind::Page, id)?;
+            Ok(unless_empty(alloc, FoundKind::Page, posts))
+        }
+        Query::Month { year, month, part } => {
+            let Some((from, to)) = month_span(alloc, year, month)? else {
+                return Ok(nothing(alloc));
+            };
+            let posts = part_of(tables, &from, &to, posts_per_page(options), part)?;
+            Ok(unless_empty(alloc, FoundKind::Month, posts))
+        }
+        Query::Nothing => Ok(nothing(alloc)),
+    }
+}
+
+fn front_part(tables: &mut Tables, size: u32, part: u32) -> Result<Listed<Post>, FindFault>
+    requires { size ≤ 100 }
+    ensures ok { IfOk result (λ posts. posts
+        ≡ part_of_posts (codes "0001-01-01 00:00:00") (codes "9999-12-31 23:59:59") size part
+        tables.old.posts) }
+    ensures same { tables.new ≡ tables.old }
+{
+    let (from, to) = all_dates();
+    part_of(tables, &from, &to, size, part)
+}
+
+/// The first and the last moment that a post can have.
+#[tactic(auto, unfolding(site_records::specs::Dates::is_post_date))]
+fn all_dates() -> (PostDate, PostDate)
+    ensures from { result.0 ≡ codes "0001-01-01 00:00:00" }
+    ensures to { result.1 ≡ codes "9999-12-31 23:59:59" }
+{
+    match (
+        PostDate::read("0001-01-01 00:00:00"),
+        PostDate::read("9999-12-31 23:59:59"),
+    ) {
+        (Some(from), Some(to)) => (from, to),
+        _ => unreachable!(),
+    }
+}
+
+fn part_of(
+    tables: &mut Tables,
+    from: &PostDate,
+    to: &PostDate,
+    size: u32,
+    part: u32,
+) -> Result<Listed<Post>, FindFault>
+    requires { size ≤ 100 }
+    ensures ok { IfOk result (λ posts. posts
+        ≡ part_of_posts from.now to.now size part tables.old.posts) }
+    ensures same { tables.new ≡ tables.old }
+{
+    let offset = u64::from(part.saturating_sub(1)) * u64::from(size);
+    Ok(tables.posts_of(PostKind::Post, from, to, size, offset)?)
+}
+
+/// The published entry of a kind with the ID, if there is one.
+fn published(
+    alloc: Global,
+    tables: &mut Tables,
+    kind: PostKind,
+    id: u32,
+) -> Result<Listed<Post>, FindFault>
+    ensures ok { IfOk result (λ posts. posts ≡ published_with kind id tables.old.posts) }
+    ensures same { tables.new ≡ tables.old }
+{
+    let mut posts = Listed::empty(alloc);
+    if let Some(post) = tables.post(id)? {
+        if post.kind == kind && post.status == PostStatus::Publish {
+            posts.push(post).map_err(AllocError::from)?;
+        }
+    }
+    Ok(posts)
+}
+
+fn front(alloc: Global, part: u32, posts: Listed<Post>) -> Found
+    ensures { result ≡ front_of part posts }
+{
+    if part <= 1 {
+        Found {
+            kind: FoundKind::Front,
+            posts,
+            status: 200,
+        }
+    } else {
+        unless_empty(alloc, FoundKind::Front, posts)
+    }
+}
+
+fn unless_empty(alloc: Global, kind: FoundKind, posts: Listed<Post>) -> Found
+    ensures { result ≡ unless_empty kind posts }
+{
+    if posts.as_slice().is_empty() {
+        nothing(alloc)
+    } else {
+        Found {
+            kind,
+            posts,
+            status: 200,
+        }
+    }
+}
+
+fn nothing(alloc: Global) -> Found
+    ensures { result ≡ nothing }
+{
+    Found {
+        kind: FoundKind::NotFound,
+        posts: Listed::empty(alloc),
+        status: 404,
+    }
+}
+
+/// How many posts make a part.
+fn posts_per_page(options: &[(Text, Text)]) -> u32
+    ensures value { result ≡ posts_per_page options.now }
+    ensures few { result ≤ 100 }
+{
+    match option_value(options, "posts_per_page").and_then(whole_number) {
+        Some(size) if (1..=100).contains(&size) => size,
+        _ => DEFAULT_SIZE,
+    }
+}
+
+/// The first value of an option.
+fn option_value<'o>(options: &'o [(Text, Text)], name: &str) -> Option<&'o str>
+    ensures { option_map (λ s. s.now) result ≡ option_value name.now options.now }
+{
+    let (_, value) = options.iter().find(|(other, _)| other.as_str() == name)?;
+    Some(value.as_str())
+}

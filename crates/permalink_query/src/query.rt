@@ -1,0 +1,146 @@
+//! Queries, and how the path of a request says one.
+ghost use Rattle.std.specs.Prelude.{◌≡◌, true, codes, IfOk, option_map, nat_lt};
+ghost use Rattle.std.specs.Cow.{cow_str_bytes};
+ghost use Rattle.std.specs.List.{before_first, after_first, list_all};
+ghost use Rattle.std.specs.Str.Lossy.{utf8_lossy};
+ghost use Rattle.form_urlencoded.specs.Form.{parse};
+ghost use Rattle.permalink_query.specs.Numbers.{whole_number, year_and_month};
+ghost use Rattle.permalink_query.specs.Paths.{
+  is_question_mark,
+  last_value,
+  part_number,
+  part_of,
+  asks,
+  query_by,
+  query_of,
+};
+
+use crate::number::{whole_number, year_and_month};
+use std::alloc::{AllocError, Global};
+use std::borrow::CowStr;
+
+/// What a request asks for (class WP_Query). Parts are counted from 1; part 0 is the first too.
+#[derive(Clone, Copy, Debug, PartialEq, Eq)]
+pub enum Query {
+    /// A part of all posts, newest first.
+    Front { part: u32 },
+    /// One post.
+    Single { id: u32 },
+    /// One page.
+    Page { id: u32 },
+    /// A part of the posts of a month, newest first. Months are counted from 1.
+    Month { year: u16, month: u8, part: u32 },
+    /// What no post or page answers to.
+    Nothing,
+}
+
+/// Reads the path of a request: `/` or `/index.php`, and after its first `?` the pairs of a form
+/// (URL Standard, `application/x-www-form-urlencoded`). The first of `p`, `page_id` and `m` that is
+/// there decides alone, by its last value; `paged` counts with `m` and with the front, which is
+/// asked for where none of the three is there. Any other path asks for nothing, and so does a value
+/// that is not of its form. The one refusal is for want of memory.
+pub fn read(alloc: Global, path: &str) -> Result<Query, AllocError>
+    ensures { IfOk result (λ query. query ≡ query_of path.now) }
+{
+    let (script, form) = split_path(path);
+    match script {
+        "/" | "/index.php" => read_form(alloc, form),
+        _ => Ok(Query::Nothing),
+    }
+}
+
+/// The path up to its first `?`, and what comes after it.
+fn split_path(path: &str) -> (&str, &str)
+    ensures before { result.0.now ≡ before_first is_question_mark path.now }
+    ensures after { result.1.now ≡ after_first is_question_mark path.now }
+{
+    path.split_once('?').unwrap_or((path, ""))
+}
+
+fn read_form(alloc: Global, form: &str) -> Result<Query, AllocError>
+    ensures { IfOk result (λ query. query ≡ query_by (parse form.now)) }
+{
+    if let Some(id) = last_value(alloc, form, "p")? {
+        return Ok(single(id.as_str()));
+    }
+    if let Some(id) = last_value(alloc, form, "page_id")? {
+        return Ok(page(id.as_str()));
+    }
+    let part = read_part(alloc, form)?;
+    match last_value(alloc, form, "m")? {
+        Some(text) => Ok(month(text.as_str(), part)),
+        None => Ok(front(part)),
+    }
+}
+
+fn single(id: &str) -> Query
+    ensures { result ≡ asks Query.Single (whole_number id.now) }
+{
+    match whole_number(id) {
+        Some(id) => Query::Single { id },
+        None => Query::Nothing,
+    }
+}
+
+fn page(id: &str) -> Query
+    ensures { result ≡ asks Query.Page (whole_number id.now) }
+{
+    match whole_number(id) {
+        Some(id) => Query::Page { id },
+        None => Query::Nothing,
+    }
+}
+
+fn month(text: &str, part: Option<u32>) -> Query
+    ensures { result ≡ asks (λ m. asks (Query.Month m.0 m.1) part) (year_and_month text.now) }
+{
+    match (year_and_month(text), part) {
+        (Some((year, month)), Some(part)) => Query::Month { year, month, part },
+        _ => Query::Nothing,
+    }
+}
+
+fn front(part: Option<u32>) -> Query
+    ensures { result ≡ asks Query.Front part }
+{
+    match part {
+        Some(part) => Query::Front { part },
+        None => Query::Nothing,
+    }
+}
+
+/// The part that `paged` asks for, or nothing where it is no number.
+fn read_part(alloc: Global, form: &str) -> Result<Option<u32>, AllocError>
+    ensures { IfOk result (λ part. part ≡ part_of (last_value (codes "paged") (parse form.now))) }
+{
+    match last_value(alloc, form, "paged")? {
+        Some(text) => Ok(part_number(text.as_str())),
+        None => Ok(Some(1)),
+    }
+}
+
+fn part_number(text: &str) -> Option<u32>
+    ensures { result ≡ part_number text.now }
+{
+    whole_number(text).map(|n| n.max(1))
+}
+
+/// The last value under a name, with U+FFFD for what is not UTF-8 in it.
+fn last_value<'a>(
+    alloc: Global,
+    form: &'a str,
+    name: &str,
+) -> Result<Option<CowStr<'a>>, AllocError>
+    requires { list_all (λ b. nat_lt b 128) name.now ≡ true }
+    ensures { IfOk result (λ value. option_map cow_str_bytes value
+        ≡ option_map utf8_lossy (last_value name.now (parse form.now))) }
+{
+    let mut last = None;
+    for pair in form_urlencoded::parse(alloc, form.as_bytes()) {
+        let (other, value) = pair?;
+        if other.as_str() == name {
+            last = Some(value);
+        }
+    }
+    Ok(last)
+}
