@@ -1,4 +1,4 @@
-use Rattle.std.proofs.Common.{◌≡◌, ◌∙◌, ap, not}
+use Rattle.std.proofs.Common.{◌∙◌, ap, not}
 use Rattle.site.proofs.Numbers.{one_more, where_true}
 use Rattle.site.proofs.main.Goals as goal
 
