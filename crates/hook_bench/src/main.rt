@@ -6,130 +6,114 @@
 #![tactic(auto)]
 
 mod kept;
+mod plugins;
 
-use anyhow::{Context, Result, bail};
-use callback_store::{Plugin, Plugins};
-use hook_changes::{CallbackId, Change, Listed, Text};
-use hook_machine::Run;
-use kept::Kept;
-use std::alloc::{AllocError, Global};
-use std::env;
+use anyhow::{Context, Result};
+use callback_store::{Plugins, Stated};
+use hook_changes::{Listed, Text};
+use hook_machine::{Run, RunFault};
+use plugins::{HOOK, Spread, active, plugins};
+use std::alloc::Global;
 use std::rt::Env;
+use std::{env, io};
 
-const HOOK: &str = "the_title";
-
-/// The names of the plugins of a bundle, by bytes.
-const NAMES: [&str; 4] = ["p1", "p2", "p3", "p4"];
-
-/// How many callbacks each plugin has at most.
-const EACH: u32 = 250;
-
-/// Where callbacks are registered.
+/// Passes over so many callbacks.
 #[derive(Clone, Copy)]
-enum Spread {
-    /// All at one priority.
-    One,
-    /// Each at its own.
-    Many,
+struct Work {
+    spread: Spread,
+    count: u16,
+    times: u32,
 }
 
-/// A plugin of some callbacks in a row.
-fn plugin(
-    alloc: Global,
-    name: &str,
-    first: u32,
-    count: u32,
-    spread: Spread,
-) -> Result<Plugin<Kept>, AllocError> {
-    let mut load = Listed::empty(alloc);
-    let mut callbacks = Listed::empty(alloc);
-    for place in 0..count {
-        let number = first.saturating_add(place);
-        let callback = CallbackId::new(number);
-        load.push(Change::Add {
-            hook: Text::copied(alloc, HOOK)?,
-            priority: match spread {
-                Spread::One => 10,
-                Spread::Many => i32::try_from(number).unwrap_or(10),
-            },
-            callback,
-            accepted: 1,
-        })?;
-        callbacks.push(Kept::new(callback))?;
+/// What is done with no arguments.
+const SHORT: [Work; 2] = [
+    Work {
+        spread: Spread::One,
+        count: 3,
+        times: 1,
+    },
+    Work {
+        spread: Spread::Many,
+        count: 3,
+        times: 1,
+    },
+];
+
+fn spread_of(word: &str) -> Option<Spread> {
+    match word {
+        "one" => Some(Spread::One),
+        "many" => Some(Spread::Many),
+        _ => None,
     }
-    Ok(Plugin {
-        name: Text::copied(alloc, name)?,
-        load,
-        callbacks,
+}
+
+fn work_of(words: &[String]) -> Option<Work> {
+    let [spread, count, times] = words else {
+        return None;
+    };
+    Some(Work {
+        spread: spread_of(spread.as_str())?,
+        count: count.as_str().parse().ok()?,
+        times: times.as_str().parse().ok()?,
     })
 }
 
-/// A bundle of so many callbacks, and the names of its plugins.
-fn bundle(
-    alloc: Global,
-    count: u32,
-    spread: Spread,
-) -> Result<(Listed<Plugin<Kept>>, Vec<Text>), AllocError> {
-    let mut list = Listed::empty(alloc);
-    let mut names = Vec::new(alloc);
-    let mut left = count;
-    let mut first = 1u32;
-    for name in &NAMES {
-        let taken = left.min(EACH);
-        list.push(plugin(alloc, name, first, taken, spread)?)?;
-        names.push(Text::copied(alloc, name)?)?;
-        left -= taken;
-        first = first.saturating_add(taken);
+/// The words behind the program's name.
+fn words<R: AllocGlobal + Env>(rt: &R) -> io::Result<Vec<String>> {
+    let mut words = Vec::new(rt.alloc());
+    for word in env::args(rt)?.skip(1) {
+        words.push(word)?;
     }
-    Ok((list, names))
+    Ok(words)
 }
 
-/// The length of a value behind its last pass.
-fn passes(alloc: Global, plugins: &Plugins<Kept>, active: &[Text], times: u32) -> Result<usize> {
-    let mut run = Run::new(alloc, plugins, active, &[], u32::MAX)?;
-    run.load()?;
+/// The length of the value behind one pass.
+fn pass<S: Stated>(alloc: Global, run: &mut Run<'_, S>) -> Result<usize, RunFault> {
+    let value = Text::copied(alloc, "value")?;
+    let value = run.apply_filters(HOOK, value, &Listed::empty(alloc))?;
+    Ok(value.as_str().len())
+}
+
+/// The length of the value behind the last pass.
+fn passes<S: Stated>(alloc: Global, run: &mut Run<'_, S>, times: u32) -> Result<usize, RunFault> {
     let mut length = 0;
     for _ in 0..times {
-        let value = Text::copied(alloc, "value")?;
-        length = run
-            .apply_filters(HOOK, value, &Listed::empty(alloc))?
-            .as_str()
-            .len();
+        length = pass(alloc, run)?;
     }
     Ok(length)
 }
 
-fn run<R: AllocGlobal + Print>(rt: &R, spread: Spread, count: u32, times: u32) -> Result<()> {
-    let (list, active) = bundle(rt.alloc(), count, spread)?;
-    let plugins = Plugins::new(rt.alloc(), list)?;
-    let length = passes(rt.alloc(), &plugins, &active, times)?;
-    let spread = match spread {
-        Spread::One => "one",
-        Spread::Many => "many",
-    };
+/// The same in a request of its own, with the load lists of all plugins carried out.
+fn passes_over<S: Stated>(
+    alloc: Global,
+    plugins: &Plugins<S>,
+    times: u32,
+) -> Result<usize, RunFault> {
+    let active = active(alloc)?;
+    let mut run = Run::new(alloc, plugins, &active, &[], u32::MAX)?;
+    run.load()?;
+    passes(alloc, &mut run, times)
+}
+
+fn run<R: AllocGlobal + Print>(rt: &R, work: Work) -> Result<()> {
+    let count = work.count;
+    let plugins = plugins(rt.alloc(), work.spread, count)?;
+    let length = passes_over(rt.alloc(), &plugins, work.times)?;
+    let spread = work.spread.name();
     println!(rt; "{spread}: {count} callbacks, a value of {length} bytes")?;
     Ok(())
 }
 
-fn run_args<R: AllocGlobal + Print + Env>(rt: &R) -> Result<()> {
-    let mut args = env::args(rt)?.skip(1);
-    let Some(spread) = args.next() else {
-        run(rt, Spread::One, 3, 1)?;
-        return run(rt, Spread::Many, 3, 1);
-    };
-    let (Some(count), Some(times)) = (args.next(), args.next()) else {
-        bail!("hook_bench SPREAD COUNT TIMES");
-    };
-    let spread = match spread.as_str() {
-        "one" => Spread::One,
-        "many" => Spread::Many,
-        _ => bail!("SPREAD is one or many"),
-    };
-    let count = count.as_str().parse::<u32>().context("reading COUNT")?;
-    let times = times.as_str().parse::<u32>().context("reading TIMES")?;
-    run(rt, spread, count, times)
-}
-
 fn main(rt: HostRuntime) -> Result<()> {
-    run_args(&rt)
+    let words = words(&rt)?;
+    if words.is_empty() {
+        for work in SHORT {
+            run(&rt, work)?;
+        }
+        return Ok(());
+    }
+    run(
+        &rt,
+        work_of(&words).context("hook_bench one|many COUNT TIMES")?,
+    )
 }

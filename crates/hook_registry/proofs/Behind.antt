@@ -20,15 +20,21 @@ module _ (test : ℤ → Bool) where
   fails_at : (q : ℤ) (r : Registration) → test q ≡ false → is_at q r ≡ true → test r.priority ≡ false
   fails_at q r f e = subst (λ z. test z ≡ false) (sym ((Decides-int_eq r.priority q).0 e)) f
 
+  -- before r, or behind it
+  passing-placed : (new r : Registration) (rs behind : List Registration) → test new.priority ≡ false → passing behind ≡ passing rs → passing (cond (int_lt new.priority r.priority) (new ∷ r ∷ rs) (r ∷ behind)) ≡ passing (r ∷ rs)
+  passing-placed new r rs behind f e =
+      elim (int_lt new.priority r.priority) as (λ b. passing (cond b (new ∷ r ∷ rs) (r ∷ behind)) ≡ passing (r ∷ rs))
+      [ true ↦ rw f refl | false ↦ ap (λ rest. cond (test r.priority) (r ∷ rest) rest) e ]
+
   passing-with_added : (rs : List Registration) (new : Registration) → test new.priority ≡ false → passing (with_added rs new) ≡ passing rs
   passing-with_added [] new f = rw f refl
   passing-with_added (r ∷ rs) new f =
-      elim (is_at new.priority r) as (λ b. is_at new.priority r ≡ b → passing (cond (b && (r.callback == new.callback)) (record r { accepted = new.accepted } ∷ rs) (r ∷ with_added rs new)) ≡ passing (r ∷ rs)) [
+      let further = passing-placed new r rs (with_added rs new) f (passing-with_added rs new f) in
+      elim (is_at new.priority r) as (λ b. is_at new.priority r ≡ b → passing (cond (b && (r.callback == new.callback)) (record r { accepted = new.accepted } ∷ rs) (cond (int_lt new.priority r.priority) (new ∷ r ∷ rs) (r ∷ with_added rs new))) ≡ passing (r ∷ rs)) [
         | true ↦ λ e.
-            let away : test r.priority ≡ false = fails_at new.priority r f e in
-            elim (r.callback == new.callback) as (λ b. passing (cond b (record r { accepted = new.accepted } ∷ rs) (r ∷ with_added rs new)) ≡ passing (r ∷ rs))
-            [ true ↦ rw away refl | false ↦ rw away (passing-with_added rs new f) ]
-        | false ↦ λ e. ap (λ rest. cond (test r.priority) (r ∷ rest) rest) (passing-with_added rs new f)
+            elim (r.callback == new.callback) as (λ b. passing (cond b (record r { accepted = new.accepted } ∷ rs) (cond (int_lt new.priority r.priority) (new ∷ r ∷ rs) (r ∷ with_added rs new))) ≡ passing (r ∷ rs))
+            [ true ↦ rw (fails_at new.priority r f e) refl | false ↦ further ]
+        | false ↦ λ e. further
       ] refl
 
   passing-filter : (passes : Registration → Bool) → ((r : Registration) → test r.priority ≡ true → passes r ≡ true) → (rs : List Registration) → passing (filter passes rs) ≡ passing rs

@@ -1,10 +1,13 @@
 -- A map of names, seen as pairs of bytes and values.
-use Rattle.std.proofs.Common.{◌≡◌, ℕ, zero, suc, true, false, cond, List, [], ◌∷◌, map, String, string_bytes, refl, ap, Some}
+use Rattle.std.proofs.Common.{◌≡◌, ℕ, zero, suc, true, false, Bool, cond, List, [], ◌∷◌, map, String, string_bytes, refl, ap, Some}
 use Rattle.std.specs.Prelude.{bytes_eq, string_eq, slice_get}
 use Rattle.std.specs.Map.{lookup}
 use Rattle.indexmap.specs.IndexMap.{insert_entry, shift_remove_entry}
 use Rattle.hook_registry.specs.Named.{value_of, set_value, remove_value}
-use Rattle.hook_registry.proofs.Hooks.{named}
+
+-- whether a key is the name
+abbrev pub named : {Y : Type 0} → List ℕ → String Y → Bool
+named name key = bytes_eq name (string_bytes key)
 
 module _ {Y X : Type 0} where
   abbrev pub pairs : List (String Y × X) → List (List ℕ × X)

@@ -1,4 +1,4 @@
--- The table and the one list have the same registrations of each hook.
+-- The table has the registrations of the one list.
 use Rattle.std.proofs.Common.{◌≡◌, ℕ, ℤ, true, false, Bool, cond, not, ◌&&◌, ◌||◌, List, [], ◌∷◌, map, filter, refl, ap, sym, subst, ◌∙◌, Option, Some}
 use Rattle.std.specs.Prelude.{bytes_eq, fold, unwrap_or}
 use Rattle.std.specs.Map.{lookup}
@@ -6,7 +6,9 @@ use Rattle.std.proofs.lemmas.Slice.Eq.{bytes_eq-Decides}
 use Rattle.hook_registry.specs.declared.registration.Registration.{Registration}
 use Rattle.hook_registry.specs.Named.{set_value}
 use Rattle.hook_registry.specs.Table as table
-use Rattle.hook_registry.specs.Table.{Table, registrations, is_of, is_other, with_added, keeping}
+use Rattle.hook_registry.specs.Order.{by_priority}
+use Rattle.hook_registry.specs.Table.{Table, registrations, is_at, is_of, is_other, is_above, entry_of, with_added, keeping, group, next_priority, least_priority}
+use Rattle.hook_registry.proofs.RunOrder.{appended, added-by_priority, filter-by_priority, group-by_priority, least_priority-by_priority}
 use Rattle.hook_registry.specs.OneList.{Listed, is_in, add, remove, registrations_in, TableChange, Added, Removed, RemovedAll, changed, list_changed, table_after, list_after}
 
 pub same_name : (a b : List ℕ) → bytes_eq a b ≡ true → a ≡ b
@@ -62,14 +64,14 @@ with_first b r rs = cond b (r ∷ rs) rs
 first_in : (l : Listed) (ls : List Listed) (hook : List ℕ) → registrations_in (l ∷ ls) hook ≡ with_first (is_in hook l) l.registration (registrations_in ls hook)
 first_in l ls hook = elim (is_in hook l) as (λ b. map (λ m. m.registration) (cond b (l ∷ filter (is_in hook) ls) (filter (is_in hook) ls)) ≡ with_first b l.registration (registrations_in ls hook)) [ true ↦ refl | false ↦ refl ]
 
-registrations_in-add : (list : List Listed) (hook : List ℕ) (new : Registration) → registrations_in (add list hook new) hook ≡ with_added (registrations_in list hook) new
+registrations_in-add : (list : List Listed) (hook : List ℕ) (new : Registration) → registrations_in (add list hook new) hook ≡ appended (registrations_in list hook) new
 registrations_in-add [] hook new = rw (own_name hook) refl
 registrations_in-add (l ∷ ls) hook new =
     elim (is_in hook l) as (λ b. is_in hook l ≡ b → registrations_in (cond (b && is_of new.priority new.callback l.registration) (record l { registration = record l.registration { accepted = new.accepted } } ∷ ls) (l ∷ add ls hook new)) hook
-    ≡ with_added (map (λ m. m.registration) (cond b (l ∷ filter (is_in hook) ls) (filter (is_in hook) ls))) new) [
+    ≡ appended (map (λ m. m.registration) (cond b (l ∷ filter (is_in hook) ls) (filter (is_in hook) ls))) new) [
       | true ↦ λ e.
           elim (is_of new.priority new.callback l.registration) as (λ b. registrations_in (cond b (record l { registration = record l.registration { accepted = new.accepted } } ∷ ls) (l ∷ add ls hook new)) hook
-          ≡ cond b (record l.registration { accepted = new.accepted } ∷ registrations_in ls hook) (l.registration ∷ with_added (registrations_in ls hook) new))
+          ≡ cond b (record l.registration { accepted = new.accepted } ∷ registrations_in ls hook) (l.registration ∷ appended (registrations_in ls hook) new))
           [ true ↦ rw e refl | false ↦ rw e (ap (λ rs. l.registration ∷ rs) (registrations_in-add ls hook new)) ]
       | false ↦ λ e. rw e (registrations_in-add ls hook new)
     ] refl
@@ -123,38 +125,54 @@ remove-kept (l ∷ ls) hook priority callback =
       | false ↦ ap (λ rest. l ∷ rest) (remove-kept ls hook priority callback)
     ]
 
--- the same registrations of each hook
+-- the same registrations of each hook, which the table has in the order in which they run
 abbrev Agree : Table → List Listed → Type 0
-Agree t list = (hook : List ℕ) → registrations t hook ≡ registrations_in list hook
+Agree t list = (hook : List ℕ) → registrations t hook ≡ by_priority (registrations_in list hook)
 
 agree-add : (t : Table) (list : List Listed) (hook : List ℕ) (new : Registration) → Agree t list → Agree (table.add t hook new) (add list hook new)
 agree-add t list hook new a other =
-    elim (bytes_eq other hook) as (λ b. bytes_eq other hook ≡ b → registrations (table.add t hook new) other ≡ registrations_in (add list hook new) other) [
+    elim (bytes_eq other hook) as (λ b. bytes_eq other hook ≡ b → registrations (table.add t hook new) other ≡ by_priority (registrations_in (add list hook new) other)) [
       | true ↦ λ e.
-          subst (λ k. registrations (table.add t hook new) k ≡ registrations_in (add list hook new) k) (sym (same_name other hook e))
-          (registrations-set t hook (with_added (registrations t hook) new) ∙ ap (λ rs. with_added rs new) (a hook) ∙ sym (registrations_in-add list hook new))
+          subst (λ k. registrations (table.add t hook new) k ≡ by_priority (registrations_in (add list hook new) k)) (sym (same_name other hook e))
+          (registrations-set t hook (with_added (registrations t hook) new)
+          ∙ ap (λ rs. with_added rs new) (a hook)
+          ∙ added-by_priority new (registrations_in list hook)
+          ∙ ap by_priority (sym (registrations_in-add list hook new)))
       | false ↦ λ n.
-          registrations-set_other t hook other (with_added (registrations t hook) new) n ∙ a other ∙ sym (registrations_in-add_other list hook other new n)
+          registrations-set_other t hook other (with_added (registrations t hook) new) n ∙ a other ∙ ap by_priority (sym (registrations_in-add_other list hook other new n))
     ] refl
 
 agree-kept : (passes : Registration → Bool) (t : Table) (list : List Listed) (hook : List ℕ) → Agree t list → Agree (keeping passes t hook) (kept passes list hook)
 agree-kept passes t list hook a other =
-    elim (bytes_eq other hook) as (λ b. bytes_eq other hook ≡ b → registrations (keeping passes t hook) other ≡ registrations_in (kept passes list hook) other) [
+    elim (bytes_eq other hook) as (λ b. bytes_eq other hook ≡ b → registrations (keeping passes t hook) other ≡ by_priority (registrations_in (kept passes list hook) other)) [
       | true ↦ λ e.
-          subst (λ k. registrations (keeping passes t hook) k ≡ registrations_in (kept passes list hook) k) (sym (same_name other hook e))
-          (registrations-keeping passes t hook ∙ ap (filter passes) (a hook) ∙ sym (registrations_in-kept passes list hook))
-      | false ↦ λ n. registrations-keeping_other passes t hook other n ∙ a other ∙ sym (registrations_in-kept_other passes list hook other n)
+          subst (λ k. registrations (keeping passes t hook) k ≡ by_priority (registrations_in (kept passes list hook) k)) (sym (same_name other hook e))
+          (registrations-keeping passes t hook
+          ∙ ap (filter passes) (a hook)
+          ∙ filter-by_priority passes (registrations_in list hook)
+          ∙ ap by_priority (sym (registrations_in-kept passes list hook)))
+      | false ↦ λ n.
+          registrations-keeping_other passes t hook other n ∙ a other ∙ ap by_priority (sym (registrations_in-kept_other passes list hook other n))
     ] refl
 
 agree-changed : (t : Table) (list : List Listed) (change : TableChange) → Agree t list → Agree (changed t change) (list_changed list change)
 agree-changed t list (Added hook new) a = agree-add t list hook new a
 agree-changed t list (Removed hook priority callback) a = λ other.
-    agree-kept (λ r. not (is_of priority callback r)) t list hook a other ∙ ap (λ ls. registrations_in ls other) (sym (remove-kept list hook priority callback))
+    agree-kept (λ r. not (is_of priority callback r)) t list hook a other ∙ ap (λ ls. by_priority (registrations_in ls other)) (sym (remove-kept list hook priority callback))
 agree-changed t list (RemovedAll hook priority) a = agree-kept (is_other priority) t list hook a
 
 agree-after : (t : Table) (list : List Listed) (changes : List TableChange) → Agree t list → Agree (fold changed t changes) (fold list_changed list changes)
 agree-after t list [] a = a
 agree-after t list (c ∷ cs) a = agree-after (changed t c) (list_changed list c) cs (agree-changed t list c a)
 
-pub registrations-after : (changes : List TableChange) (hook : List ℕ) → registrations (table_after changes) hook ≡ registrations_in (list_after changes) hook
+pub registrations-after : (changes : List TableChange) (hook : List ℕ) → registrations (table_after changes) hook ≡ by_priority (registrations_in (list_after changes) hook)
 registrations-after changes = agree-after [] [] changes (λ hook. refl)
+
+pub group-after : (changes : List TableChange) (hook : List ℕ) (priority : ℤ) → group (table_after changes) hook priority ≡ map entry_of (filter (is_at priority) (registrations_in (list_after changes) hook))
+group-after changes hook priority =
+    ap (λ rs. map entry_of (filter (is_at priority) rs)) (registrations-after changes hook)
+    ∙ ap (map entry_of) (group-by_priority priority (registrations_in (list_after changes) hook))
+
+pub next-after : (changes : List TableChange) (hook : List ℕ) (above : Option ℤ) → next_priority (table_after changes) hook above ≡ least_priority (is_above above) (registrations_in (list_after changes) hook)
+next-after changes hook above =
+    ap (least_priority (is_above above)) (registrations-after changes hook) ∙ least_priority-by_priority (is_above above) (registrations_in (list_after changes) hook)

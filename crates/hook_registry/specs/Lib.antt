@@ -1,4 +1,5 @@
 pub mod Named
 pub mod OneList
+pub mod Order
 pub mod Table
 pub mod Worked

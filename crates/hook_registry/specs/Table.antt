@@ -8,7 +8,8 @@ use Rattle.hook_registry.specs.declared.registration.Registration.{Registration}
 use Rattle.hook_registry.specs.declared.registration.Entry.{Entry}
 use Rattle.hook_registry.specs.Named.{value_of, set_value}
 
--- for each hook its registrations, in the order of adding
+-- for each hook its registrations in the order in which they run: by ascending priority, and those of one priority in the
+-- order of adding
 abbrev pub Table : Type 0
 Table = List (List ℕ × List Registration)
 
@@ -22,10 +23,14 @@ is_at priority r = int_eq r.priority priority
 abbrev pub is_of : ℤ → ℕ → Registration → Bool
 is_of priority callback r = is_at priority r && r.callback == callback
 
--- a registration that is there keeps its place and takes the new accepted count; another one goes last
+-- a registration that is there keeps its place and takes the new accepted count; another one goes before the first of a
+-- greater priority
 abbrev pub with_added : List Registration → Registration → List Registration
 with_added [] new = new ∷ []
-with_added (r ∷ rs) new = if is_of new.priority new.callback r then record r { accepted = new.accepted } ∷ rs else r ∷ with_added rs new
+with_added (r ∷ rs) new =
+    if is_of new.priority new.callback r then record r { accepted = new.accepted } ∷ rs
+    else if int_lt new.priority r.priority then new ∷ r ∷ rs
+    else r ∷ with_added rs new
 
 abbrev pub add : Table → List ℕ → Registration → Table
 add table hook new = set_value table hook (with_added (registrations table hook) new)
@@ -60,6 +65,9 @@ least xs = reduce int_min xs
 abbrev pub is_above : Option ℤ → Registration → Bool
 is_above None r = true
 is_above (Some other) r = int_lt other r.priority
+
+abbrev pub is_below : ℤ → Registration → Bool
+is_below other r = int_lt r.priority other
 
 abbrev pub least_priority : (Registration → Bool) → List Registration → Option ℤ
 least_priority passes rs = least (map (λ r. r.priority) (filter passes rs))

@@ -2,20 +2,21 @@
 ghost use Rattle.std.specs.Prelude.{◌≡◌, ◌≤◌, [], List, IfOk, IfErr, OnOk, OnErr, unwrap_or, map, min, ◌+◌, Option, None};
 ghost use Rattle.std.specs.List.{list_any};
 ghost use Rattle.hook_registry.specs.Named.{value_of, set_value, remove_value};
+ghost use Rattle.hook_registry.specs.Order.{IsAscending};
 ghost use Rattle.hook_registry.specs.Table.{Table, registrations, add, remove, remove_all, group, next_priority, has, is_of, priority_of};
 
-use crate::list;
+use crate::list::{self, HookList};
 use crate::registration::{Entry, Priority, Registration};
 use hook_changes::{CallbackId, HookName};
 use indexmap::IndexMap;
 use std::alloc::{AllocError, Global};
 use std::marker::Model;
 
-/// The registrations of every hook, each hook's in the order of adding.
+/// The registrations of every hook, each hook's in the order in which they run.
 #[derive(Drop)]
 pub struct HookTable {
     alloc: Global,
-    hooks: IndexMap<String, Vec<Registration>>,
+    hooks: IndexMap<String, HookList>,
 }
 
 impl Model for HookTable {
@@ -24,7 +25,7 @@ impl Model for HookTable {
 
     ghost Value = { Table };
 
-    ghost view = { λ r. map (λ e. (string_bytes e.0, e.1.items)) r.hooks.entries };
+    ghost view = { λ r. map (λ e. (string_bytes e.0, e.1)) r.hooks.entries };
 }
 
 impl HookTable {
@@ -39,7 +40,8 @@ impl HookTable {
     }
 
     fn list(&self, hook: &str) -> &[Registration]
-        ensures { result.now ≡ registrations self.entry.now hook.entry.now }
+        ensures value { result.now ≡ registrations self.entry.now hook.entry.now }
+        ensures ascending { IsAscending result.now }
     {
         match self.hooks.get(hook) {
             Some(list) => list.as_slice(),
@@ -63,7 +65,7 @@ impl HookTable {
     {
         match self.hooks.get_index_of(hook.as_str()) {
             Some(at) => match self.hooks.get_index_mut(at) {
-                Some(list) => list::add_to(list, Priority::new(priority), callback, accepted),
+                Some(list) => list.add(Priority::new(priority), callback, accepted),
                 None => unreachable!(),
             },
             None => self.add_first(hook, Priority::new(priority), callback, accepted),
@@ -84,8 +86,8 @@ impl HookTable {
         ensures err { OnErr result (self.new ≡ self.old) }
     {
         let name = String::from_str(self.alloc, hook.as_str())?;
-        let mut list = Vec::new(self.alloc);
-        list::add_to(&mut list, priority, callback, accepted)?;
+        let mut list = HookList::new(self.alloc);
+        list.add(priority, callback, accepted)?;
         self.hooks.insert(name, list)?;
         Ok(())
     }
@@ -97,7 +99,7 @@ impl HookTable {
     {
         match self.hooks.get_index_of(hook.as_str()) {
             Some(at) => match self.hooks.get_index_mut(at) {
-                Some(list) => list::remove_from(list, Priority::new(priority), callback),
+                Some(list) => list.remove(Priority::new(priority), callback),
                 None => unreachable!(),
             },
             None => false,
@@ -110,7 +112,7 @@ impl HookTable {
     {
         match self.hooks.get_index_of(hook.as_str()) {
             Some(at) => match self.hooks.get_index_mut(at) {
-                Some(list) => list::remove_all_from(list, priority),
+                Some(list) => list.remove_all(priority),
                 None => unreachable!(),
             },
             None => {}

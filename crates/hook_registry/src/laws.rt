@@ -1,14 +1,32 @@
 //! Laws of the table. Each call does nothing: it carries the facts of its clauses.
-ghost use Rattle.std.specs.Prelude.{◌≡◌, ◌<ℤ◌, ◌≤ℤ◌, List, ℕ, ℤ, Some};
-ghost use Rattle.hook_registry.specs.Table.{Table, registrations, group, after};
+ghost use Rattle.std.specs.Prelude.{◌≡◌, ◌<ℤ◌, ◌≤ℤ◌, List, ℕ, ℤ, Option, Some, map, filter};
+ghost use Rattle.hook_registry.specs.Order.{by_priority};
+ghost use Rattle.hook_registry.specs.Table.{
+  Table,
+  registrations,
+  group,
+  after,
+  next_priority,
+  least_priority,
+  is_at,
+  is_above,
+  entry_of,
+};
 ghost use Rattle.hook_registry.specs.OneList.{TableChange, changed, table_after, list_after};
 ghost use Rattle.hook_registry.specs.OneList.{registrations_in, priority_changed};
 
-/// A law: after any changes from an empty registry, the table has under each hook what one list of
-/// all registrations, in the order of adding, has of that hook.
+/// A law: after any changes from an empty registry, the table has under each hook what one list of all registrations, in
+/// the order of adding, has of that hook, by ascending priority and those of one priority in their order. So at each
+/// priority it has the callbacks of the one list, and the least priority above any is the one list's.
 pub fn one_list()
-    ensures { (changes : List TableChange) (hook : List ℕ)
-        → registrations (table_after changes) hook ≡ registrations_in (list_after changes) hook }
+    ensures registrations { (changes : List TableChange) (hook : List ℕ)
+        → registrations (table_after changes) hook ≡ by_priority (registrations_in (list_after changes) hook) }
+    ensures groups { (changes : List TableChange) (hook : List ℕ) (priority : ℤ)
+        → group (table_after changes) hook priority
+        ≡ map entry_of (filter (is_at priority) (registrations_in (list_after changes) hook)) }
+    ensures next { (changes : List TableChange) (hook : List ℕ) (above : Option ℤ)
+        → next_priority (table_after changes) hook above
+        ≡ least_priority (is_above above) (registrations_in (list_after changes) hook) }
 {}
 
 /// A law: a change at a priority, under whichever hook, leaves every hook's callbacks at each greater

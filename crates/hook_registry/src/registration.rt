@@ -1,5 +1,5 @@
 // One registration, and what a pass takes of it.
-ghost use Rattle.std.specs.Prelude.{◌≡◌, ℤ};
+ghost use Rattle.std.specs.Prelude.{◌≡◌, ℤ, Some};
 
 use hook_changes::CallbackId;
 use std::marker::Model;
@@ -52,7 +52,7 @@ pub struct Entry {
 }
 
 impl Registration {
-    ghost use Rattle.hook_registry.specs.Table.{is_at, is_of, is_above, entry_of};
+    ghost use Rattle.hook_registry.specs.Table.{is_at, is_of, is_above, is_below, entry_of};
 
     pub(crate) fn is_at(&self, priority: Priority) -> bool
         ensures { result ≡ is_at priority self.now }
@@ -66,13 +66,16 @@ impl Registration {
         self.is_at(priority) && self.callback == callback
     }
 
-    pub(crate) fn is_above(&self, above: Option<i32>) -> bool
-        ensures { result ≡ is_above above self.now }
+    pub(crate) fn is_above(&self, other: Priority) -> bool
+        ensures { result ≡ is_above (Some other) self.now }
     {
-        match above {
-            None => true,
-            Some(other) => other < self.priority.number(),
-        }
+        other.number() < self.priority.number()
+    }
+
+    pub(crate) fn is_below(&self, other: Priority) -> bool
+        ensures { result ≡ is_below other self.now }
+    {
+        self.priority.number() < other.number()
     }
 
     pub(crate) fn entry(&self) -> Entry

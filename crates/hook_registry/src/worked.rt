@@ -24,10 +24,10 @@ pub fn worked_table()
         (with_title (at (pos 10) 7 1 ∷ at (pos 10) 3 2 ∷ at (pos 10) 7 5 ∷ [])) the_title
         ≡ at (pos 10) 7 5 ∷ at (pos 10) 3 2 ∷ [] }
 
-    // At another priority it is another registration, and the first one stays.
+    // At another priority it is another registration, in its own place, and the first one stays.
     ensures other_priority { registrations
         (with_title (at (pos 10) 7 1 ∷ at (pos 10) 3 2 ∷ at (pos 9) 7 5 ∷ [])) the_title
-        ≡ at (pos 10) 7 1 ∷ at (pos 10) 3 2 ∷ at (pos 9) 7 5 ∷ [] }
+        ≡ at (pos 9) 7 5 ∷ at (pos 10) 7 1 ∷ at (pos 10) 3 2 ∷ [] }
 
     // Priorities are signed: those below zero come first, from the least number to the greatest.
     ensures least_first { first far_apart the_title ≡ Some (negsuc 2147483647) }

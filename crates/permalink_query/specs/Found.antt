@@ -11,9 +11,9 @@ use Rattle.permalink_query.specs.Numbers.{is_within, whole_number}
 use Rattle.permalink_query.specs.Months.{is_month, month_start, month_end}
 use Rattle.permalink_query.specs.declared.query.Query.{Query}
 use Rattle.permalink_query.specs.declared.query.Query.TheVariants as query
-use Rattle.permalink_query.specs.declared.found.Found.{Found}
-use Rattle.permalink_query.specs.declared.found.FoundKind.{FoundKind}
-use Rattle.permalink_query.specs.declared.found.FoundKind.TheVariants.{Front, Single, Page, Month, NotFound}
+use Rattle.site_records.specs.declared.found.Found.{Found}
+use Rattle.site_records.specs.declared.found.FoundKind.{FoundKind}
+use Rattle.site_records.specs.declared.found.FoundKind.TheVariants.{Front, Single, Page, Month, NotFound}
 
 -- the first option of a name counts (get_option)
 abbrev pub option_value : Text → List (Text × Text) → Option Text

@@ -3,17 +3,14 @@
 #![tactic(auto)]
 
 mod fault;
-mod found;
 mod lookup;
 mod month;
 mod number;
 mod query;
-#[cfg(test)]
-mod tests;
 mod worked;
 
 pub use fault::FindFault;
-pub use found::{Found, FoundKind};
 pub use lookup::find;
 pub use query::{Query, read};
+pub use site_records::{Found, FoundKind};
 pub use worked::{worked_finds, worked_queries};

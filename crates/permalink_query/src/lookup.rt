@@ -12,13 +12,12 @@ ghost use Rattle.permalink_query.specs.Found.{
 };
 
 use crate::fault::FindFault;
-use crate::found::{Found, FoundKind};
 use crate::month::month_span;
 use crate::number::whole_number;
 use crate::query::Query;
 use hook_changes::{Listed, Text};
 use post_tables::Tables;
-use site_records::{Post, PostDate, PostKind, PostStatus};
+use site_records::{Found, FoundKind, Post, PostDate, PostKind, PostStatus};
 use std::alloc::{AllocError, Global};
 
 /// How many posts make a part where the option doesn't say.

@@ -4,8 +4,8 @@ ghost use Rattle.post_tables.specs.Worked.{monday, tuesday, wednesday, post, pag
 ghost use Rattle.permalink_query.specs.Paths.{query_of};
 ghost use Rattle.permalink_query.specs.Found.{found, showing, nothing, posts_per_page};
 
-use crate::found::FoundKind;
 use crate::query::Query;
+use site_records::FoundKind;
 
 /// What some paths ask for. The call itself does nothing: it carries these facts.
 #[tactic(auto, unfolding(form_urlencoded::proofs::OnLiterals::form_urlencoded_on_literals))]

@@ -3,15 +3,17 @@ use Rattle.std.proofs.Common.{◌≡◌, ℕ, None, Some, codes, refl}
 use Rattle.std.specs.Prelude.{replicate}
 use Rattle.std.specs.Str.{is_utf8, chars}
 use Rattle.serde_json.proofs.OnLiterals.{serde_json_on_literals}
+use Rattle.serde_json.specs.Data.{null, string, array, no_items, item, object, no_members}
 use Rattle.site_records.specs.declared.post.PostKind.TheVariants.{Post, Page}
 use Rattle.site_records.specs.declared.post.PostStatus.TheVariants.{Publish, Draft}
 use Rattle.site_commands.specs.Tree.{tree_of}
-use Rattle.site_commands.specs.Asked.{put, edit, delete, option, activate, deactivate, get, option_named, command_of, put_of, edit_of, delete_of, option_of, activate_of, deactivate_of, get_of}
+use Rattle.site_commands.specs.Asked.{put, edit, delete, option, activate, deactivate, template, import, get, command_of, put_of, edit_of, delete_of, option_of, activate_of, deactivate_of, template_of, import_of, get_of}
+use Rattle.site_values.specs.Named.{option_named}
 use Rattle.site_commands.specs.Worked.{line_command}
 
 -- what computes in the lines below
 computes : ℕ
-unfolding tree_of command_of put_of edit_of delete_of option_of activate_of deactivate_of get_of serde_json_on_literals is_utf8 chars
+unfolding tree_of command_of put_of edit_of delete_of option_of activate_of deactivate_of template_of import_of get_of serde_json_on_literals is_utf8 chars
 computes = 0
 
 pub defaults : line_command (codes "{\"cmd\":\"put\",\"date\":\"2024-05-01 10:00:00\"}") ≡ Some (put Post Publish (codes "") (codes "") (codes "2024-05-01 10:00:00"))
@@ -103,6 +105,34 @@ activated = refl
 pub deactivated : line_command (codes "{\"cmd\":\"deactivate\",\"plugin\":\"bold\"}") ≡ Some (deactivate (codes "bold"))
 unfolding computes
 deactivated = refl
+
+pub templated : line_command (codes "{\"cmd\":\"template\",\"name\":\"index\",\"body\":[\"x\"]}") ≡ Some (template (codes "index") (array (item (string (codes "x")) no_items)))
+unfolding computes
+templated = refl
+
+pub null_body : line_command (codes "{\"cmd\":\"template\",\"name\":\"x\",\"body\":null}") ≡ Some (template (codes "x") null)
+unfolding computes
+null_body = refl
+
+pub no_body : line_command (codes "{\"cmd\":\"template\",\"name\":\"index\"}") ≡ None
+unfolding computes
+no_body = refl
+
+pub unnamed_template : line_command (codes "{\"cmd\":\"template\",\"body\":[]}") ≡ None
+unfolding computes
+unnamed_template = refl
+
+pub imported : line_command (codes "{\"cmd\":\"import\",\"site\":{}}") ≡ Some (import (object no_members))
+unfolding computes
+imported = refl
+
+pub null_site : line_command (codes "{\"cmd\":\"import\",\"site\":null}") ≡ Some (import null)
+unfolding computes
+null_site = refl
+
+pub no_site : line_command (codes "{\"cmd\":\"import\"}") ≡ None
+unfolding computes
+no_site = refl
 
 pub asked_for : line_command (codes "{\"cmd\":\"get\",\"path\":\"/?p=1\"}") ≡ Some (get (codes "/?p=1"))
 unfolding computes

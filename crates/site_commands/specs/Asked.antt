@@ -1,13 +1,13 @@
 -- Which command a tree is.
-use Rattle.std.specs.Prelude.{ℕ, List, Option, None, Some, codes, length, nat_le, ◌&&◌, option_and_then, option_map, if◌then◌else◌}
+use Rattle.std.specs.Prelude.{ℕ, List, Option, None, Some, codes, option_and_then, option_map, if◌then◌else◌}
 use Rattle.std.specs.Str.{bytes_eq}
 use Rattle.serde_json.specs.Data.{Data}
 use Rattle.serde_json.specs.Find as find
+use Rattle.serde_json.specs.View.{view}
 use Rattle.site_records.specs.declared.post.PostKind.{PostKind}
-use Rattle.site_records.specs.declared.post.PostKind.TheVariants.{Post, Page}
 use Rattle.site_records.specs.declared.post.PostStatus.{PostStatus}
-use Rattle.site_records.specs.declared.post.PostStatus.TheVariants.{Publish, Draft}
-use Rattle.site_commands.specs.Tree.{text_at, text_or, text_given, if_there, whole_at}
+use Rattle.site_values.specs.Tree.{with_found, text_at, text_or, text_given}
+use Rattle.site_values.specs.Named.{kind_named, status_named, status_given, id_at, option_named}
 use Rattle.site_commands.specs.declared.command.Command.{Command}
 use Rattle.site_commands.specs.declared.command.Command.TheVariants as rust
 
@@ -19,6 +19,8 @@ pub data Asked : Type 0 where
   option : (name value : List ℕ) → Asked
   activate : (plugin : List ℕ) → Asked
   deactivate : (plugin : List ℕ) → Asked
+  template : (name : List ℕ) → Data → Asked
+  import : Data → Asked
   get : (path : List ℕ) → Asked
 
 -- what a command says, wherever its texts lie
@@ -30,31 +32,9 @@ asked_by (rust.Delete id) = delete id
 asked_by (rust.Option name value) = option name.now value.now
 asked_by (rust.Activate plugin) = activate plugin.now
 asked_by (rust.Deactivate plugin) = deactivate plugin.now
+asked_by (rust.Template name body) = template name.now (view body.now)
+asked_by (rust.Import site) = import (view site.now)
 asked_by (rust.Get path) = get path.now
-
--- the kinds by their names (Theme Handbook, Post Types)
-abbrev pub kind_named : List ℕ → Option PostKind
-kind_named name = if bytes_eq name (codes "post") then Some Post else (if bytes_eq name (codes "page") then Some Page else None)
-
--- the statuses by their names (WordPress documentation, Post Status)
-abbrev pub status_named : List ℕ → Option PostStatus
-status_named name = if bytes_eq name (codes "publish") then Some Publish else (if bytes_eq name (codes "draft") then Some Draft else None)
-
--- the status that a value names
-abbrev pub status_of : Data → Option PostStatus
-status_of tree = option_and_then status_named (find.as_str tree)
-
--- the status at its key, if the key is there
-abbrev pub status_given : Data → Option (Option PostStatus)
-status_given tree = if_there status_of (find.get (codes "status") tree)
-
--- the ID of a post: a whole number from 1 to 2,147,483,647
-abbrev pub id_at : Data → Option ℕ
-id_at tree = whole_at (codes "id") 1 2147483647 tree
-
--- what follows from what was found, and nothing where nothing was
-abbrev pub with_found : {A B : Type 0} → Option A → (A → Option B) → Option B
-with_found found next = option_and_then next found
 
 -- `put`: the date has to be there, and the others have defaults
 unfoldable pub put_of : Data → Option Asked
@@ -80,10 +60,6 @@ edit_of tree =
 unfoldable pub delete_of : Data → Option Asked
 delete_of tree = option_map delete (id_at tree)
 
--- the name of an option: 1 to 64 bytes
-abbrev pub option_named : List ℕ → Option (List ℕ)
-option_named name = if nat_le 1 (length name) && nat_le (length name) 64 then Some name else None
-
 -- `option`: its name and its value
 unfoldable pub option_of : Data → Option Asked
 option_of tree =
@@ -98,6 +74,17 @@ activate_of tree = option_map activate (text_at (codes "plugin") tree)
 unfoldable pub deactivate_of : Data → Option Asked
 deactivate_of tree = option_map deactivate (text_at (codes "plugin") tree)
 
+-- `template`: its name and its body, which may be any value
+unfoldable pub template_of : Data → Option Asked
+template_of tree =
+    with_found (text_at (codes "name") tree) (λ name.
+    with_found (find.get (codes "body") tree) (λ body.
+    Some (template name body)))
+
+-- `import`: the site, which may be any value
+unfoldable pub import_of : Data → Option Asked
+import_of tree = option_map import (find.get (codes "site") tree)
+
 -- `get`: the path
 unfoldable pub get_of : Data → Option Asked
 get_of tree = option_map get (text_at (codes "path") tree)
@@ -111,7 +98,9 @@ named_command name tree =
     else (if bytes_eq name (codes "option") then option_of tree
     else (if bytes_eq name (codes "activate") then activate_of tree
     else (if bytes_eq name (codes "deactivate") then deactivate_of tree
-    else (if bytes_eq name (codes "get") then get_of tree else None))))))
+    else (if bytes_eq name (codes "template") then template_of tree
+    else (if bytes_eq name (codes "import") then import_of tree
+    else (if bytes_eq name (codes "get") then get_of tree else None))))))))
 
 -- the command that a tree is: its `cmd` is a text that names one, and each of that command's keys is there, of its kind and in its range, or has a default
 unfoldable pub command_of : Data → Option Asked

@@ -10,14 +10,16 @@ ghost use Rattle.site_commands.specs.Asked.{
   option_of,
   activate_of,
   deactivate_of,
+  template_of,
+  import_of,
   get_of,
 };
 
-use crate::values::{
-    id_at, kind_named, option_named, status_given, status_named, text_at, text_given, text_or,
-};
 use serde_json::Value;
 use site_records::{PostKind, PostStatus};
+use site_values::{
+    id_at, kind_named, option_named, status_given, status_named, text_at, text_given, text_or,
+};
 
 /// A command, over the texts of its tree. Sizes of texts and paths, dates, and whether a post or a
 /// plugin is there, aren't looked at: whoever carries the command out refuses those by name.
@@ -64,6 +66,18 @@ pub enum Command<'v> {
     Deactivate {
         plugin: &'v str,
     },
+    /// Store a template, or remove it.
+    Template {
+        /// Any text: `template_trees::is_template_name` tells which ones are names.
+        name: &'v str,
+        /// `null` removes what is stored. `template_trees::read_template` reads any other value.
+        body: &'v Value,
+    },
+    /// Add all that a site file holds.
+    Import {
+        /// Any value: `site_import::read_site_value` reads it.
+        site: &'v Value,
+    },
     /// Show the page of a path.
     Get {
         path: &'v str,
@@ -85,6 +99,8 @@ pub fn read_command(value: &Value) -> Option<Command<'_>>
         "option" => read_option(value),
         "activate" => read_activate(value),
         "deactivate" => read_deactivate(value),
+        "template" => read_template(value),
+        "import" => read_import(value),
         "get" => read_get(value),
         _ => None,
     }
@@ -157,6 +173,23 @@ fn read_deactivate(value: &Value) -> Option<Command<'_>>
 {
     let plugin = text_at(value, "plugin")?;
     Some(Command::Deactivate { plugin })
+}
+
+#[tactic(auto, unfolding(crate::specs::Asked::template_of))]
+fn read_template(value: &Value) -> Option<Command<'_>>
+    ensures { option_map asked_by result ≡ template_of (view value.now) }
+{
+    let name = text_at(value, "name")?;
+    let body = value.get("body")?;
+    Some(Command::Template { name, body })
+}
+
+#[tactic(auto, unfolding(crate::specs::Asked::import_of))]
+fn read_import(value: &Value) -> Option<Command<'_>>
+    ensures { option_map asked_by result ≡ import_of (view value.now) }
+{
+    let site = value.get("site")?;
+    Some(Command::Import { site })
 }
 
 #[tactic(auto, unfolding(crate::specs::Asked::get_of))]

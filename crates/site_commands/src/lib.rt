@@ -5,7 +5,6 @@
 
 mod command;
 mod line;
-mod values;
 mod worked;
 
 pub use command::{Command, read_command};

@@ -1,5 +1,6 @@
 //! Worked lines that are theorems: each clause below is computed from the definitions.
 ghost use Rattle.std.specs.Prelude.{◌≡◌, codes, Some, None, replicate};
+ghost use Rattle.serde_json.specs.Data.{null, string, array, no_items, item, object, no_members};
 ghost use Rattle.site_records.specs.declared.post.PostKind.{PostKind};
 ghost use Rattle.site_records.specs.declared.post.PostStatus.{PostStatus};
 ghost use Rattle.site_commands.specs.Asked.{
@@ -9,9 +10,11 @@ ghost use Rattle.site_commands.specs.Asked.{
   option,
   activate,
   deactivate,
+  template,
+  import,
   get,
-  option_named,
 };
+ghost use Rattle.site_values.specs.Named.{option_named};
 ghost use Rattle.site_commands.specs.Worked.{line_command};
 
 /// Which commands some lines are. The call itself does nothing: it carries these facts.
@@ -68,6 +71,22 @@ pub fn worked_commands()
         ≡ Some (activate (codes "bold")) }
     ensures deactivated { line_command (codes "{\"cmd\":\"deactivate\",\"plugin\":\"bold\"}")
         ≡ Some (deactivate (codes "bold")) }
+
+    // The body of a template and the site of an import may be any value, but they have to be there.
+    ensures templated { line_command
+        (codes "{\"cmd\":\"template\",\"name\":\"index\",\"body\":[\"x\"]}")
+        ≡ Some (template (codes "index") (array (item (string (codes "x")) no_items))) }
+    ensures null_body { line_command
+        (codes "{\"cmd\":\"template\",\"name\":\"x\",\"body\":null}")
+        ≡ Some (template (codes "x") null) }
+    ensures no_body { line_command (codes "{\"cmd\":\"template\",\"name\":\"index\"}") ≡ None }
+    ensures unnamed_template { line_command (codes "{\"cmd\":\"template\",\"body\":[]}") ≡ None }
+    ensures imported { line_command (codes "{\"cmd\":\"import\",\"site\":{}}")
+        ≡ Some (import (object no_members)) }
+    ensures null_site { line_command (codes "{\"cmd\":\"import\",\"site\":null}")
+        ≡ Some (import null) }
+    ensures no_site { line_command (codes "{\"cmd\":\"import\"}") ≡ None }
+
     ensures asked_for { line_command (codes "{\"cmd\":\"get\",\"path\":\"/?p=1\"}")
         ≡ Some (get (codes "/?p=1")) }
     ensures no_path { line_command (codes "{\"cmd\":\"get\"}") ≡ None }

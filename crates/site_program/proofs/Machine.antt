@@ -4,8 +4,7 @@ use Rattle.hook_machine.specs.World.{World}
 use Rattle.hook_machine.specs.declared.fault.RunFault.{RunFault}
 use Rattle.hook_machine.specs.declared.fault.RunFault.TheVariants.{TooManyCalls, TooDeep, OutOfMemory}
 use Rattle.hook_machine.specs.Ends.{Ends}
-use Rattle.template_parts.specs.Pages.{Work}
-use Rattle.site_program.specs.Requests.{IsRefusedBy}
+use Rattle.template_parts.specs.Pages.{Work, IsRefusedBy}
 
 pub refused_of : (work : Work) (why : RunFault) (world : World) → Ends work (Err why) world → IsRefusedBy work why
 refused_of work TooManyCalls world e = λ other. e

@@ -1,74 +1,47 @@
--- Lemmas on what a page prints.
-use Rattle.std.proofs.Common.{◌≡◌, ◌≢◌, ◌≤◌, ℕ, List, ◌∙◌, Ok, Err, false, refl, sym, ap, subst, length}
+-- Lemmas on what a request is answered.
+use Rattle.std.proofs.Common.{◌≡◌, ◌≢◌, ◌≤◌, ℕ, List, ◌∙◌, Ok, Err, refl, sym, ap, subst, length}
 use Rattle.std.proofs.lemmas.Bool.{le-leb}
+use Rattle.std.specs.Prelude.{Result, IfErr, false}
 use Rattle.hook_machine.specs.World.{Text, World, fresh, loaded}
 use Rattle.hook_machine.specs.declared.fault.RunFault.{RunFault}
 use Rattle.hook_machine.specs.declared.fault.RunFault.TheVariants as fault
 use Rattle.hook_machine.specs.Trace.{End, Ended, Fault, end_of}
 use Rattle.hook_machine.specs.Meaning.{Engine}
-use Rattle.hook_machine.specs.Ends.{Ends}
-use Rattle.site_records.specs.declared.post.Post.{Post}
+use Rattle.site_records.specs.declared.found.Found.{Found}
 use Rattle.post_tables.specs.Rows.{Rows}
+use Rattle.template_parts.specs.Pages as template
+use Rattle.template_parts.specs.Pages.{Work, IsPage, IsRefusedBy}
+use Rattle.template_parts.specs.declared.settings.Settings.{Settings}
 use Rattle.site_program.specs.Reply.{Answer, page}
 use Rattle.site_program.specs.Step.{got, max_path, comes_before_store}
-use Rattle.template_parts.specs.Pages as template
-use Rattle.template_parts.specs.Pages.{Work}
-use Rattle.template_parts.specs.declared.template.Node.{Node}
-use Rattle.site_program.specs.Requests.{page_pass, options_of, active_of, found_by, shown, refusal_of, request, IsPage, IsRefusedBy}
-use Rattle.std.specs.Prelude.{Result, IfErr}
+use Rattle.site_program.specs.Requests.{Texts, settings_for, page_pass, page_of, options_of, templates_of, active_of, found_by, shown, refusal_of, request}
 use Rattle.site_program.specs.declared.fault.StoreFault.{StoreFault}
 use Rattle.site_program.specs.declared.fault.StoreFault.TheVariants as store
-use Rattle.site_program.proofs.Machine.{refused_of}
 
--- ---- the whole page
+-- ---- the page of what was found
 
-module _ (engine : Engine) (calls : ℕ) (options : List (Text × Text)) (active : List Text) where
-  -- the world that a page begins in
-  pub begun_world : (e : Engine) (begun loaded_world : World) → e ≡ engine → begun ≡ fresh calls options active → loaded_world ≡ loaded e.plugins begun → loaded_world ≡ loaded engine.plugins (fresh calls options active)
-  begun_world e begun loaded_world e_is begun_is loaded_is =
-      loaded_is ∙ ap (λ (x : Engine). loaded x.plugins begun) e_is ∙ ap (loaded engine.plugins) begun_is
-
-  pub page-ended : (posts : List Post) (e : Engine) (world last : World) (nodes : List Node) → e ≡ engine → nodes ≡ template.default_index → world ≡ loaded engine.plugins (fresh calls options active)
-      → Ends (template.page_pass e nodes posts world) (Ok tt) last → end_of (page_pass engine calls options active posts) ≡ Ended last tt
+module _ (engine : Engine) (calls : ℕ) (found : Found) (options templates : Texts) (active : List Text) where
+  -- the work that the page went through is the page's work
+  pub work_is : (e ran : Engine) (settings : Settings) (f : Found) (begun world : World) → e ≡ engine → ran ≡ engine → settings ≡ settings_for found.kind options templates → f ≡ found → begun ≡ fresh calls options active
+      → world ≡ loaded ran.plugins begun → template.page_pass e settings f.posts world ≡ page_pass engine calls found options templates active
   unfolding page_pass
-  page-ended posts e world last nodes e_is nodes_are world_is done =
-      subst (λ w. end_of (template.page_pass engine template.default_index posts w) ≡ Ended last tt) world_is
-      (subst (λ n. end_of (template.page_pass engine n posts world) ≡ Ended last tt) nodes_are (subst (λ x. end_of (template.page_pass x nodes posts world) ≡ Ended last tt) e_is done))
+  work_is e ran settings f begun world e_is ran_is settings_are f_is begun_is world_is = rw (e_is, settings_are, f_is, world_is, ran_is, begun_is) refl
 
-  pub page-refused : (posts : List Post) (e : Engine) (world mid : World) (nodes : List Node) (why : RunFault) → e ≡ engine → nodes ≡ template.default_index → world ≡ loaded engine.plugins (fresh calls options active)
-      → Ends (template.page_pass e nodes posts world) (Err why) mid → IsRefusedBy (page_pass engine calls options active posts) why
-  unfolding page_pass
-  page-refused posts e world mid nodes why e_is nodes_are world_is refused =
-      refused_of (template.page_pass engine template.default_index posts (loaded engine.plugins (fresh calls options active))) why mid
-      (subst (λ w. Ends (template.page_pass engine template.default_index posts w) (Err why) mid) world_is
-      (subst (λ n. Ends (template.page_pass engine n posts world) (Err why) mid) nodes_are (subst (λ x. Ends (template.page_pass x nodes posts world) (Err why) mid) e_is refused)))
+  pub page_made : (text : Text) → IsPage (page_pass engine calls found options templates active) text → page found.status text ≡ page_of engine calls found options templates active
+  page_made text made = ap (page found.status) made.whole ∙ ap (shown found.status) (sym made.made)
 
--- ---- the answer
+  pub page_refused : (why : RunFault) → IsRefusedBy (page_pass engine calls found options templates active) why → why ≢ fault.OutOfMemory → refusal_of why ≡ page_of engine calls found options templates active
+  page_refused why refused other = ap (shown found.status) (sym (refused other))
+
+-- ---- the answer to a path
 
 module _ (engine : Engine) (calls : ℕ) (rows : Rows) (path : Text) where
-  abbrev the_pass : List (Text × Text) → List Text → List Post → Work
-  the_pass options active posts = page_pass engine calls options active posts
-
-  same_pass : (options : List (Text × Text)) (active : List Text) (posts : List Post) → options ≡ options_of rows → active ≡ active_of rows → posts ≡ (found_by rows path).posts
-      → the_pass options active posts ≡ the_pass (options_of rows) (active_of rows) ((found_by rows path).posts)
-  same_pass options active posts o a p = rw (o, a, p) refl
-
-  pub request-page : (options : List (Text × Text)) (active : List Text) (posts : List Post) (text : Text) → options ≡ options_of rows → active ≡ active_of rows → posts ≡ (found_by rows path).posts
-      → IsPage (page_pass engine calls options active posts) text → request engine calls rows path ≡ page (found_by rows path).status text
-  unfolding request
-  request-page options active posts text o a p made =
-      ap (λ t. shown (found_by rows path).status (end_of t)) (sym (same_pass options active posts o a p)) ∙ ap (shown (found_by rows path).status) made.made ∙ ap (page (found_by rows path).status) (sym made.whole)
-
-  pub request-refused : (options : List (Text × Text)) (active : List Text) (posts : List Post) (why : RunFault) → options ≡ options_of rows → active ≡ active_of rows → posts ≡ (found_by rows path).posts
-      → IsRefusedBy (page_pass engine calls options active posts) why → why ≢ fault.OutOfMemory → request engine calls rows path ≡ refusal_of why
-  unfolding request
-  request-refused options active posts why o a p refused other =
-      ap (λ t. shown (found_by rows path).status (end_of t)) (sym (same_pass options active posts o a p)) ∙ ap (shown (found_by rows path).status) (refused other)
-
   -- a path that isn't too long
-  pub got-short : (new : Rows) (answer : Answer) → length path ≤ max_path → new ≡ rows → request engine calls rows path ≡ answer → (new, answer) ≡ got engine calls rows path
-  unfolding got
-  got-short new answer short same is = rw (le-leb _ _ short) (rw same (ap (λ a. (rows, a)) (sym is)))
+  pub got-short : (new : Rows) (answer : Answer) (found : Found) (options templates : Texts) (active : List Text) → length path ≤ max_path → new ≡ rows
+      → found ≡ found_by rows path → options ≡ options_of rows → templates ≡ templates_of rows → active ≡ active_of rows
+      → answer ≡ page_of engine calls found options templates active → (new, answer) ≡ got engine calls rows path
+  unfolding got request
+  got-short new answer found options templates active short same f o t a is = rw (le-leb _ _ short, same, is, f, o, t, a) refl
 
   shown-late : (status : ℕ) (end : End (Unit {0})) → comes_before_store (shown status end) ≡ false
   shown-late status (Ended world nothing) = refl

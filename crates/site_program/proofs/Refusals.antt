@@ -1,18 +1,28 @@
 -- A refused command keeps the rows.
-use Rattle.std.proofs.Common.{◌≡◌, ℕ, ◌∙◌, List, Option, Some, None, true, false, cond, refl, sym, ap, length}
+use Rattle.std.proofs.Common.{◌≡◌, ℕ, ◌∙◌, List, Option, Some, None, Result, Ok, Err, true, false, cond, refl, sym, ap, length}
 use Rattle.std.specs.Prelude.{Bool, not, ◌&&◌, nat_le, nat_lt, is_some, option_and_then}
 use Rattle.hook_machine.specs.Meaning.{Engine}
 use Rattle.callback_store.specs.Shape.{Shape, load_of}
 use Rattle.site_records.specs.Dates.{is_post_date}
 use Rattle.site_records.specs.declared.post.PostKind.{PostKind}
 use Rattle.site_records.specs.declared.post.PostStatus.{PostStatus}
-use Rattle.post_tables.specs.Rows.{Rows, Text, PostEdit, has_post}
+use Rattle.site_records.specs.declared.post.SiteRecords.{SiteRecords}
+use Rattle.post_tables.specs.Rows.{Rows, Text, PostEdit, has_post, are_new}
+use Rattle.serde_json.specs.Data.{Data}
+use Rattle.serde_json.specs.Find.{as_null}
+use Rattle.template_trees.specs.Trees.{is_template_name, template_of}
+use Rattle.template_trees.specs.declared.fault.TemplateFault.{TemplateFault}
+use Rattle.template_trees.specs.declared.tree.Template.{Template}
+use Rattle.site_import.specs.Walks.{Read}
+use Rattle.site_import.specs.Site.{site_file_of}
 use Rattle.site_commands.specs.Tree.{tree_of}
 use Rattle.site_commands.specs.Asked.{Asked, command_of}
 use Rattle.site_commands.specs.Asked as asked
 use Rattle.site_program.specs.declared.reply.Refusal.{Refusal}
 use Rattle.site_program.specs.Reply.{Answer, refused}
 use Rattle.site_program.specs.Edits.{put, edit, edited, delete, set_option, set_active, fits, if_given, max_title, max_content, max_value, max_id}
+use Rattle.site_program.specs.Templates.{removed, stored, set_template}
+use Rattle.site_program.specs.Imports.{are_known, added, imported, import}
 use Rattle.site_program.specs.Step.{step, got, carried_out, max_path}
 
 -- what a refusal among these keeps
@@ -60,6 +70,25 @@ got-keeps : (engine : Engine) (calls : ℕ) (rows : Rows) (path : List ℕ) → 
 unfolding got
 got-keeps engine calls rows path = either (nat_le (length path) max_path) rows _ _ (same rows _) (same rows _)
 
+stored-keeps : (rows : Rows) (name : Text) (body : Data) (read : Result Template TemplateFault) → Keeps rows (stored rows name body read)
+stored-keeps rows name body (Ok template) = λ r h. cc
+stored-keeps rows name body (Err why) = same rows _
+
+template-keeps : (rows : Rows) (name : Text) (body : Data) → Keeps rows (set_template rows name body)
+unfolding set_template
+template-keeps rows name body =
+    either (is_some (as_null body)) rows _ _ (either (is_template_name name) rows _ _ (λ r h. cc) (same rows _))
+    (stored-keeps rows name body (template_of name body))
+
+imported-keeps : (plugins : List Shape) (rows : Rows) (read : Read SiteRecords) → Keeps rows (imported plugins rows read)
+imported-keeps plugins rows (Err why) = same rows _
+imported-keeps plugins rows (Ok records) =
+    either (are_known plugins records.active) rows _ _ (either (are_new records.posts rows.posts) rows _ _ (λ r h. cc) (same rows _)) (same rows _)
+
+import-keeps : (plugins : List Shape) (rows : Rows) (site : Data) → Keeps rows (import plugins rows site)
+unfolding import
+import-keeps plugins rows site = imported-keeps plugins rows (site_file_of site)
+
 carried_out-keeps : (engine : Engine) (calls : ℕ) (rows : Rows) (command : Option Asked) → Keeps rows (carried_out engine calls rows command)
 carried_out-keeps engine calls rows None = same rows _
 carried_out-keeps engine calls rows (Some (asked.put kind status title content date)) = put-keeps rows kind status title content date
@@ -68,6 +97,8 @@ carried_out-keeps engine calls rows (Some (asked.delete id)) = delete-keeps rows
 carried_out-keeps engine calls rows (Some (asked.option name value)) = option-keeps rows name value
 carried_out-keeps engine calls rows (Some (asked.activate plugin)) = active-keeps engine.plugins rows plugin true
 carried_out-keeps engine calls rows (Some (asked.deactivate plugin)) = active-keeps engine.plugins rows plugin false
+carried_out-keeps engine calls rows (Some (asked.template name body)) = template-keeps rows name body
+carried_out-keeps engine calls rows (Some (asked.import site)) = import-keeps engine.plugins rows site
 carried_out-keeps engine calls rows (Some (asked.get path)) = got-keeps engine calls rows path
 
 -- a line whose step is a refusal keeps the rows

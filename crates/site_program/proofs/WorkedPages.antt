@@ -3,7 +3,6 @@ use Rattle.std.proofs.Common.{◌≡◌, ◌∙◌, ℕ, [], ◌∷◌, codes, r
 use Rattle.std.specs.Fmt.{digits}
 use Rattle.std.specs.Str.{is_utf8, chars}
 use Rattle.hook_machine.specs.World.{loaded}
-use Rattle.hook_machine.specs.Trace.{end_of}
 use Rattle.hook_machine.specs.Meaning.{deeper, group_pass, priorities_pass, pass, filter_pass, action_pass, handled, piece_pass, pieces_pass, shortcodes_pass, answered, follow, invoked, invoked_with, invoke_within, invoke, filtered, acted}
 use Rattle.post_tables.specs.Rows.{Rows}
 use Rattle.site_program.specs.declared.reply.Refusal.TheVariants.{TooManyCalls}
@@ -13,11 +12,11 @@ use Rattle.shortcode_scan.specs.Pieces.{match_from, pieces_within}
 use Rattle.shortcode_scan.specs.Live.{has_opening}
 use Rattle.bundled_plugins.specs.Replies.{says}
 use Rattle.template_parts.specs.Pages as template
-use Rattle.template_parts.specs.Pages.{each, title_pass, content_pass, tag_pass, item_pass, items_pass, loop_pass, node_pass, nodes_pass}
-use Rattle.site_program.specs.Requests.{page_pass, found_by, shown, request}
+use Rattle.template_parts.specs.Pages.{each, shown_pass, post_tag_pass, tag_pass, item_pass, element_pass, elements_pass, loop_pass, node_pass, nodes_pass}
+use Rattle.site_program.specs.Requests.{page_pass, page_of, found_by, request}
 use Rattle.form_urlencoded.proofs.OnLiterals.{form_urlencoded_on_literals}
-use Rattle.permalink_query.specs.declared.found.FoundKind.TheVariants.{Front}
-use Rattle.permalink_query.specs.Found.{showing}
+use Rattle.site_records.specs.declared.found.FoundKind.TheVariants.{Front}
+use Rattle.permalink_query.specs.Found.{showing, nothing}
 use Rattle.serde_json.proofs.OnLiterals.{serde_json_on_literals}
 use Rattle.site_commands.specs.Tree.{tree_of}
 use Rattle.site_commands.specs.Asked.{command_of, get_of}
@@ -27,12 +26,12 @@ use Rattle.site_program.specs.Worked.{bundled, IsMarked, one_post}
 
 -- what computes in the pages below
 computes : ℕ
-unfolding loaded deeper group_pass priorities_pass pass filter_pass action_pass handled piece_pass pieces_pass shortcodes_pass answered follow invoked invoked_with invoke_within invoke filtered acted has_opening first_place match_at name_start name_at core_of with_extras match_from pieces_within each title_pass content_pass says template.action_pass tag_pass item_pass items_pass loop_pass node_pass nodes_pass template.page_pass page_pass bytes_of digits
+unfolding loaded deeper group_pass priorities_pass pass filter_pass action_pass handled piece_pass pieces_pass shortcodes_pass answered follow invoked invoked_with invoke_within invoke filtered acted has_opening first_place match_at name_start name_at core_of with_extras match_from pieces_within each shown_pass says template.action_pass post_tag_pass tag_pass item_pass element_pass elements_pass loop_pass node_pass nodes_pass template.page_pass page_pass bytes_of digits
 computes = 0
 
 -- the posts that the front of the worked site shows, and the answer that they give
 abbrev front : ℕ → Answer
-front calls = shown 200 (end_of (page_pass bundled calls [] (codes "marks" ∷ []) one_post))
+front calls = page_of bundled calls (showing Front one_post) [] [] (codes "marks" ∷ [])
 
 front_found : (rows : Rows) → IsMarked rows → found_by rows (codes "/") ≡ showing Front one_post
 unfolding form_urlencoded_on_literals
@@ -40,7 +39,7 @@ front_found rows marked = rw (marked.posts, marked.options) refl
 
 front_is : (calls : ℕ) (rows : Rows) → IsMarked rows → request bundled calls rows (codes "/") ≡ front calls
 unfolding request
-front_is calls rows marked = rw (front_found rows marked, marked.options, marked.active) refl
+front_is calls rows marked = rw (front_found rows marked, marked.options, marked.templates, marked.active) refl
 
 marked_page : front 10000 ≡ page 200 (codes "<h2>TX1Y</h2>")
 unfolding computes
@@ -57,11 +56,11 @@ pub first_page_bytes : (rows : Rows) → IsMarked rows → bytes_of (request bun
 first_page_bytes rows marked = ap bytes_of (first_page rows marked) ∙ page_bytes
 
 abbrev nothing_found : Answer
-nothing_found = shown 404 (end_of (page_pass bundled 10000 [] (codes "marks" ∷ []) []))
+nothing_found = page_of bundled 10000 nothing [] [] (codes "marks" ∷ [])
 
 nothing_is : (rows : Rows) → IsMarked rows → request bundled 10000 rows (codes "/x") ≡ nothing_found
 unfolding request
-nothing_is rows marked = rw (marked.options, marked.active) refl
+nothing_is rows marked = rw (marked.options, marked.templates, marked.active) refl
 
 nothing_page : nothing_found ≡ page 404 (codes "<p>Nothing found.</p>")
 unfolding computes

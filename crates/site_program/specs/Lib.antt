@@ -1,9 +1,11 @@
-pub mod Reply
-pub mod Site
-pub mod Requests
 pub mod Edits
-pub mod Step
+pub mod Imports
 pub mod Lines
+pub mod Reply
+pub mod Requests
 pub mod Serving
+pub mod Site
+pub mod Step
 pub mod Stream
+pub mod Templates
 pub mod Worked

@@ -1,6 +1,7 @@
 -- What a request of a path is answered.
-use Rattle.std.specs.Prelude.{◌≡◌, ◌≢◌, ℕ, List}
+use Rattle.std.specs.Prelude.{ℕ, List, [], map, find, codes, Option, option_map, option_and_then, unwrap_or}
 use Rattle.std.specs.FinMap.{entries, keys}
+use Rattle.std.specs.Str.{bytes_eq}
 use Rattle.hook_machine.specs.World.{Text, World, fresh, loaded}
 use Rattle.hook_machine.specs.Trace.{End, Ended, Fault, end_of}
 use Rattle.hook_machine.specs.Meaning.{Engine}
@@ -8,11 +9,16 @@ use Rattle.hook_machine.specs.declared.fault.RunFault.{RunFault}
 use Rattle.hook_machine.specs.declared.fault.RunFault.TheVariants as fault
 use Rattle.site_records.specs.declared.post.Post.{Post}
 use Rattle.post_tables.specs.Rows.{Rows}
-use Rattle.permalink_query.specs.declared.found.Found.{Found}
+use Rattle.site_records.specs.declared.found.Found.{Found}
+use Rattle.site_records.specs.declared.found.FoundKind.{FoundKind}
 use Rattle.permalink_query.specs.Paths.{query_of}
 use Rattle.permalink_query.specs.Found.{found}
+use Rattle.template_trees.specs.Trees.{stored_template, default_index}
+use Rattle.template_trees.specs.declared.tree.Template.{Template}
+use Rattle.template_parts.specs.Choice.{template_choice}
 use Rattle.template_parts.specs.Pages as template
 use Rattle.template_parts.specs.Pages.{Work}
+use Rattle.template_parts.specs.declared.settings.Settings.{Settings}
 use Rattle.site_program.specs.declared.reply.Refusal.TheVariants.{TooManyCalls, TooDeep, OutOfMemory}
 use Rattle.site_program.specs.Reply.{Answer, refused, page}
 
@@ -26,9 +32,16 @@ abbrev pub shown : ℕ → End (Unit {0}) → Answer
 shown status (Ended world nothing) = page status world.output
 shown status (Fault why) = refusal_of why
 
--- the options and the names of the active plugins, as a request finds them
-abbrev pub options_of : Rows → List (Text × Text)
+-- names with their texts
+abbrev pub Texts : Type 0
+Texts = List (Text × Text)
+
+-- the options, the templates and the names of the active plugins, as a request finds them
+abbrev pub options_of : Rows → Texts
 options_of rows = entries rows.options
+
+abbrev pub templates_of : Rows → Texts
+templates_of rows = entries rows.templates
 
 abbrev pub active_of : Rows → List Text
 active_of rows = keys rows.active
@@ -37,22 +50,42 @@ active_of rows = keys rows.active
 abbrev pub found_by : Rows → Text → Found
 found_by rows path = found rows.posts (options_of rows) (query_of path)
 
--- a page's work: the active plugins load into a fresh world, and then the page is printed over the posts that were found
-unfoldable pub page_pass : Engine → ℕ → List (Text × Text) → List Text → List Post → Work
-page_pass engine calls options active posts =
-    template.page_pass engine template.default_index posts (loaded engine.plugins (fresh calls options active))
+-- the first text of that name
+abbrev pub text_named : Text → Texts → Option Text
+text_named name texts = option_map (λ t. t.1) (find (λ t. bytes_eq t.0 name) texts)
+
+-- the template of that name, where one is stored
+abbrev pub template_named : Text → Texts → Option Template
+template_named name templates = option_and_then (stored_template name) (text_named name templates)
+
+-- the template for what was found, where one is stored, and else the default (Theme Handbook, Template Hierarchy)
+abbrev pub template_for : FoundKind → Texts → Template
+template_for kind templates =
+    unwrap_or (template_named (template_choice kind (map (λ t. t.0) templates)) templates) (record { nodes = default_index })
+
+-- what a site says of its pages (get_bloginfo, get_header, get_footer, get_template_part)
+abbrev pub settings_for : FoundKind → (options templates : Texts) → Settings
+settings_for kind options templates =
+    record {
+      site_name = unwrap_or (text_named (codes "blogname") options) [];
+      template = template_for kind templates;
+      header = template_named (codes "header") templates;
+      footer = template_named (codes "footer") templates;
+      content = template_named (codes "content") templates;
+    }
+
+-- a page's work: the active plugins load into a fresh world, and then the page is printed over what was found
+unfoldable pub page_pass : Engine → ℕ → Found → (options templates : Texts) → List Text → Work
+page_pass engine calls found options templates active =
+    template.page_pass engine (settings_for found.kind options templates) found.posts
+    (loaded engine.plugins (fresh calls options active))
+
+-- the answer to a request that found this
+abbrev pub page_of : Engine → ℕ → Found → (options templates : Texts) → List Text → Answer
+page_of engine calls found options templates active =
+    shown found.status (end_of (page_pass engine calls found options templates active))
 
 -- the answer to a request of a path
 unfoldable pub request : Engine → ℕ → Rows → Text → Answer
 request engine calls rows path =
-    shown (found_by rows path).status (end_of (page_pass engine calls (options_of rows) (active_of rows) (found_by rows path).posts))
-
--- the page was made, and this is its text
-pub record IsPage (work : Work) (text : Text) : Type 0 where
-  pub world : World
-  pub made : end_of work ≡ Ended world tt
-  pub whole : text ≡ world.output
-
--- the work was refused so, unless it was for want of memory
-abbrev pub IsRefusedBy : Work → RunFault → Type 0
-IsRefusedBy work why = why ≢ fault.OutOfMemory → end_of work ≡ Fault why
+    page_of engine calls (found_by rows path) (options_of rows) (templates_of rows) (active_of rows)

@@ -12,6 +12,8 @@ use Rattle.site_program.specs.declared.setup.Setup.{Setup}
 use Rattle.site_program.specs.Site.{engine_of, calls_of}
 use Rattle.site_program.specs.Requests.{request}
 use Rattle.site_program.specs.Edits.{put, edit, delete, set_option, set_active}
+use Rattle.site_program.specs.Templates.{set_template}
+use Rattle.site_program.specs.Imports.{import}
 use Rattle.site_program.specs.Reply.{Answer, refused}
 
 -- the most bytes that a path may have
@@ -32,6 +34,8 @@ carried_out engine calls rows (Some (asked.delete id)) = delete rows id
 carried_out engine calls rows (Some (asked.option name value)) = set_option rows name value
 carried_out engine calls rows (Some (asked.activate plugin)) = set_active engine.plugins rows plugin true
 carried_out engine calls rows (Some (asked.deactivate plugin)) = set_active engine.plugins rows plugin false
+carried_out engine calls rows (Some (asked.template name body)) = set_template rows name body
+carried_out engine calls rows (Some (asked.import site)) = import engine.plugins rows site
 carried_out engine calls rows (Some (asked.get path)) = got engine calls rows path
 
 -- the rows after a line, and the reply

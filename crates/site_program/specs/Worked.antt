@@ -7,7 +7,7 @@ use Rattle.post_tables.specs.Rows.{Rows}
 use Rattle.hook_machine.specs.Meaning.{Engine}
 use Rattle.bundled_plugins.specs.Replies.{says}
 use Rattle.bundled_plugins.specs.Bundle.{bundle}
-use Rattle.site_program.specs.Requests.{options_of, active_of}
+use Rattle.site_program.specs.Requests.{options_of, templates_of, active_of}
 
 -- the bundled plugins, as pages take them
 abbrev pub bundled : Engine
@@ -16,8 +16,9 @@ bundled = record { says = says; plugins = bundle }
 abbrev pub one_post : List Post
 one_post = record { id = 1; kind = kind.Post; status = status.Publish; title = codes "T"; content = []; date = codes "2024-05-01 10:00:00" } ∷ []
 
--- one published post, number 1 with the title `T`, the plugin `marks` active, and no option set
+-- one published post, number 1 with the title `T`, the plugin `marks` active, and no option and no template set
 pub record IsMarked (rows : Rows) : Type 0 where
   pub posts : rows.posts ≡ one_post
   pub options : options_of rows ≡ []
+  pub templates : templates_of rows ≡ []
   pub active : active_of rows ≡ codes "marks" ∷ []

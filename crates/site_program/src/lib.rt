@@ -7,11 +7,14 @@
 
 mod edits;
 mod fault;
+mod imports;
 mod page;
 mod reply;
 mod serve;
+mod settings;
 mod setup;
 mod site;
+mod templates;
 mod worked;
 
 pub use bundled_plugins::{Function, NUMBERS, Stored, bundle, bundled_reply};

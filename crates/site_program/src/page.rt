@@ -3,18 +3,20 @@ ghost use Rattle.std.specs.Prelude.{◌≡◌, IfOk, OnErr, IfErr, false};
 ghost use Rattle.site_program.specs.Reply.{answer_of};
 ghost use Rattle.permalink_query.specs.Paths.{query_of};
 ghost use Rattle.permalink_query.specs.Found.{found};
-ghost use Rattle.site_program.specs.Requests.{page_pass, IsPage, IsRefusedBy};
+ghost use Rattle.template_parts.specs.Pages.{IsPage, IsRefusedBy};
+ghost use Rattle.site_program.specs.Requests.{page_pass, page_of};
 
 use crate::fault::StoreFault;
 use crate::reply::{Refusal, SiteReply};
+use crate::settings::settings_for;
 use crate::setup::Setup;
 use callback_store::Stated;
 use hook_changes::Text;
 use hook_machine::{Run, RunFault};
 use permalink_query::{Found, find, read};
-use post_tables::{Post, Tables};
+use post_tables::Tables;
 use std::alloc::Global;
-use template_parts::{default_index, print_page};
+use template_parts::Page;
 
 // The most bytes that a path may have.
 const MAX_PATH: usize = 8_192;
@@ -37,41 +39,55 @@ impl<'p, S: Stated> Setup<'p, S> {
         }
         let options = tables.options()?;
         let found = found_by(self.alloc, tables, path, options.as_slice())?;
+        let templates = tables.templates()?;
         let active = tables.active()?;
-        match self.page(
+        self.answer_to(
+            found,
             options.as_slice(),
+            templates.as_slice(),
             active.as_slice(),
-            found.posts.as_slice(),
-        ) {
-            Ok(text) => Ok(SiteReply::Page {
-                status: found.status,
-                body: text.into_string().into_bytes(),
-            }),
+        )
+    }
+
+    /// The answer to a request that found this.
+    fn answer_to(
+        &self,
+        found: Found,
+        options: &[(Text, Text)],
+        templates: &[(Text, Text)],
+        active: &[Text],
+    ) -> Result<SiteReply, StoreFault>
+        ensures ok { IfOk result (λ reply. answer_of reply ≡ page_of (engine_of S.says S.number self.now)
+            (calls_of self.now) found options.now templates.now active.now) }
+    {
+        match self.page(found, options, templates, active) {
+            Ok((status, body)) => Ok(SiteReply::Page { status, body }),
             Err(RunFault::TooManyCalls) => Ok(SiteReply::Refused(Refusal::TooManyCalls)),
             Err(RunFault::TooDeep) => Ok(SiteReply::Refused(Refusal::TooDeep)),
             Err(RunFault::OutOfMemory) => Err(StoreFault::OutOfMemory),
         }
     }
 
-    /// A page of these posts, in a request of its own.
+    /// The page of a request that found this: its status and its bytes.
     fn page(
         &self,
+        found: Found,
         options: &[(Text, Text)],
+        templates: &[(Text, Text)],
         active: &[Text],
-        posts: &[Post],
-    ) -> Result<Text, RunFault>
-        ensures ok { IfOk result (IsPage (page_pass (engine_of S.says S.number self.now)
-            (calls_of self.now) options.now active.now posts.now)) }
+    ) -> Result<(u16, Vec<u8>), RunFault>
+        ensures status { IfOk result (λ page. page.0 ≡ found.status) }
+        ensures ok { IfOk result (λ page. IsPage (page_pass (engine_of S.says S.number self.now)
+            (calls_of self.now) found options.now templates.now active.now) page.1.items) }
         ensures err { IfErr result (IsRefusedBy (page_pass (engine_of S.says S.number self.now)
-            (calls_of self.now) options.now active.now posts.now)) }
+            (calls_of self.now) found options.now templates.now active.now)) }
     {
-        let Ok(index) = default_index(self.alloc) else {
+        let Ok(settings) = settings_for(self.alloc, found.kind, options, templates) else {
             return Err(RunFault::OutOfMemory);
         };
         let mut run = Run::new(self.alloc, self.plugins, active, options, self.calls)?;
         run.load()?;
-        print_page(self.alloc, &mut run, index.as_slice(), posts)?;
-        run.take_output()
+        Page::begin(self.alloc, found, settings, run).finish()
     }
 }
 

@@ -8,6 +8,7 @@ use crate::edits;
 use crate::fault::StoreFault;
 use crate::reply::{Refusal, SiteReply};
 use crate::setup::Setup;
+use crate::templates::set_template;
 use callback_store::{Plugins, Stated};
 use post_tables::Tables;
 use site_commands::{Command, read_command, read_line};
@@ -134,6 +135,8 @@ impl<'p, S: Stated> Setup<'p, S> {
             Command::Option { name, value } => edits::set_option(tables, name, value),
             Command::Activate { plugin } => self.set_active(tables, plugin, true),
             Command::Deactivate { plugin } => self.set_active(tables, plugin, false),
+            Command::Template { name, body } => set_template(self.alloc, tables, name, body),
+            Command::Import { site } => self.import(tables, site),
             Command::Get { path } => self.get(tables, path),
         }
     }

@@ -1,5 +1,5 @@
-//! Tests of what the program stands on, where no run of the program shows it: dates, commands, the words behind its
-//! name, its ends, its tables, and lines over plugins that are not the bundle's.
+//! Tests of what the program stands on, where no run of the program shows it: dates, commands, templates, site files,
+//! the words behind its name, its ends, its tables, its queries, and lines over plugins that are not the bundle's.
 #![tactic(auto)]
 
 #[cfg(test)]
@@ -13,8 +13,14 @@ mod inputs_and_outputs;
 #[cfg(test)]
 mod plugins;
 #[cfg(test)]
+mod queries;
+#[cfg(test)]
 mod serving;
 #[cfg(test)]
+mod site_files;
+#[cfg(test)]
 mod tables;
+#[cfg(test)]
+mod templates;
 #[cfg(test)]
 mod words;

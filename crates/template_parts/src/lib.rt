@@ -1,10 +1,15 @@
-//! Templates, and the pages that they print over the posts that a path found.
+//! Pages: which template is chosen, and what it prints over the posts that a path found.
 #![tactic(auto)]
 
-mod defaults;
+mod actions;
+mod choice;
+mod page;
 mod pages;
-mod template;
+mod settings;
+mod tags;
 
-pub use defaults::default_index;
-pub use pages::print_page;
-pub use template::{Item, Node, Tag};
+pub use choice::choose;
+pub use page::Page;
+pub use page_escapes::escape_html as escape;
+pub use settings::Settings;
+pub use template_trees::{Element, Item, Node, Part, PostTag, Tag, Template};

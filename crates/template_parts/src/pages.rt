@@ -1,198 +1,265 @@
 //! Printing a template.
-ghost use Rattle.std.specs.Prelude.{◌≡◌, [], ◌∷◌, None, Some, IfOk, OnOk, option_map, codes, decimal};
+ghost use Rattle.std.specs.Prelude.{◌≡◌, None, OnOk, option_map};
 ghost use Rattle.hook_machine.specs.Runs.{world_of, fault_of, engine_of};
 ghost use Rattle.hook_machine.specs.Ends.{Ends};
-ghost use Rattle.template_parts.specs.Pages.{title_pass, content_pass, action_pass, tag_pass, item_pass, items_pass, loop_pass, node_pass, nodes_pass, page_pass};
+ghost use Rattle.template_parts.specs.Pages.{item_pass, part_node_pass, stored_part_pass, announced_pass, part_pass, element_pass, elements_pass, loop_pass, node_pass, nodes_pass, page_pass};
 
-use crate::defaults::request_actions;
-use crate::template::{Item, Node, Tag};
+use crate::actions::request_actions;
+use crate::settings::Settings;
+use crate::tags::print_tag;
 use callback_store::Stated;
-use hook_changes::{Listed, Text};
+use hook_changes::Listed;
 use hook_machine::{Run, RunFault};
-use itoa::Buffer;
-use page_escapes::escape_ends;
 use site_records::Post;
-use std::alloc::{AllocError, Global};
+use std::alloc::Global;
+use template_trees::{Element, Item, Node, Part, Template};
 
 /// Prints a page: it fires the actions of a request, and then prints the template over the posts that were found.
 ///
 /// The run has loaded its plugins. A page that is refused leaves the run with what was printed so far.
-pub fn print_page<S: Stated>(
+pub(crate) fn print_page<S: Stated>(
     alloc: Global,
     run: &mut Run<'_, S>,
-    nodes: &[Node],
+    settings: &Settings,
     posts: &[Post],
 ) -> Result<(), RunFault>
     requires { fault_of run.old ≡ None }
-    ensures ends { Ends (page_pass (engine_of S.says S.number run.old) nodes.now posts.now (world_of run.old)) result (world_of run.new) }
+    ensures ends { Ends (page_pass (engine_of S.says S.number run.old) settings.now posts.now (world_of run.old))
+        result (world_of run.new) }
     ensures sound { OnOk result (fault_of run.new ≡ None) }
     ensures engine { engine_of S.says S.number run.new ≡ engine_of S.says S.number run.old }
 {
     let Ok(actions) = request_actions(alloc) else {
         return Err(RunFault::OutOfMemory);
     };
-    print_items(alloc, run, actions.as_slice(), None)?;
-    print_nodes(alloc, run, nodes, posts)
+    print_elements(alloc, run, settings, actions.as_slice(), None)?;
+    print_nodes(
+        alloc,
+        run,
+        settings,
+        settings.template.nodes.as_slice(),
+        posts,
+    )
 }
 
 /// Prints a template over the posts that were found, in order.
 fn print_nodes<S: Stated>(
     alloc: Global,
     run: &mut Run<'_, S>,
+    settings: &Settings,
     nodes: &[Node],
     posts: &[Post],
 ) -> Result<(), RunFault>
     requires { fault_of run.old ≡ None }
-    ensures ends { Ends (nodes_pass (engine_of S.says S.number run.old) nodes.now posts.now (world_of run.old)) result (world_of run.new) }
+    ensures ends { Ends (nodes_pass (engine_of S.says S.number run.old) settings.now nodes.now posts.now (world_of run.old))
+        result (world_of run.new) }
     ensures sound { OnOk result (fault_of run.new ≡ None) }
     ensures engine { engine_of S.says S.number run.new ≡ engine_of S.says S.number run.old }
 {
     for node in nodes {
-        print_node(alloc, run, node, posts)?;
+        print_node(alloc, run, settings, node, posts)?;
     }
     Ok(())
 }
 
+#[tactic(auto, unfolding(crate::specs::Pages::node_pass))]
 fn print_node<S: Stated>(
     alloc: Global,
     run: &mut Run<'_, S>,
+    settings: &Settings,
     node: &Node,
     posts: &[Post],
 ) -> Result<(), RunFault>
     requires { fault_of run.old ≡ None }
-    ensures ends { Ends (node_pass (engine_of S.says S.number run.old) posts.now (world_of run.old) node.now) result (world_of run.new) }
+    ensures ends { Ends (node_pass (engine_of S.says S.number run.old) settings.now posts.now (world_of run.old) node.now)
+        result (world_of run.new) }
     ensures sound { OnOk result (fault_of run.new ≡ None) }
     ensures engine { engine_of S.says S.number run.new ≡ engine_of S.says S.number run.old }
 {
     match node {
-        Node::Item(item) => print_item(alloc, run, item, None),
-        Node::Loop { body, otherwise } => print_loop(alloc, run, body, otherwise, posts),
+        Node::Element(element) => print_element(alloc, run, settings, element, None),
+        Node::Loop { body, otherwise } => print_loop(alloc, run, settings, body, otherwise, posts),
     }
 }
 
 fn print_loop<S: Stated>(
     alloc: Global,
     run: &mut Run<'_, S>,
-    body: &Listed<Item>,
-    otherwise: &Listed<Item>,
+    settings: &Settings,
+    body: &Listed<Element>,
+    otherwise: &Listed<Element>,
     posts: &[Post],
 ) -> Result<(), RunFault>
     requires { fault_of run.old ≡ None }
-    ensures ends { Ends (loop_pass (engine_of S.says S.number run.old) body.now otherwise.now (world_of run.old) posts.now) result (world_of run.new) }
+    ensures ends { Ends (loop_pass (engine_of S.says S.number run.old) settings.now body.now otherwise.now
+        (world_of run.old) posts.now) result (world_of run.new) }
     ensures sound { OnOk result (fault_of run.new ≡ None) }
     ensures engine { engine_of S.says S.number run.new ≡ engine_of S.says S.number run.old }
 {
     if posts.is_empty() {
-        return print_items(alloc, run, otherwise.as_slice(), None);
+        return print_elements(alloc, run, settings, otherwise.as_slice(), None);
     }
     for post in posts {
-        print_items(alloc, run, body.as_slice(), Some(post))?;
+        print_elements(alloc, run, settings, body.as_slice(), Some(post))?;
     }
     Ok(())
 }
 
-fn print_items<S: Stated>(
+fn print_elements<S: Stated>(
     alloc: Global,
     run: &mut Run<'_, S>,
-    items: &[Item],
+    settings: &Settings,
+    elements: &[Element],
     post: Option<&Post>,
 ) -> Result<(), RunFault>
     requires { fault_of run.old ≡ None }
-    ensures ends { Ends (items_pass (engine_of S.says S.number run.old) items.now (option_map (λ p. p.now) post.entry) (world_of run.old)) result (world_of run.new) }
+    ensures ends { Ends (elements_pass (engine_of S.says S.number run.old) settings.now elements.now
+        (option_map (λ p. p.now) post.entry) (world_of run.old)) result (world_of run.new) }
     ensures sound { OnOk result (fault_of run.new ≡ None) }
     ensures engine { engine_of S.says S.number run.new ≡ engine_of S.says S.number run.old }
 {
-    for item in items {
-        print_item(alloc, run, item, post)?;
+    for element in elements {
+        print_element(alloc, run, settings, element, post)?;
     }
     Ok(())
 }
 
+#[tactic(auto, unfolding(crate::specs::Pages::element_pass))]
+fn print_element<S: Stated>(
+    alloc: Global,
+    run: &mut Run<'_, S>,
+    settings: &Settings,
+    element: &Element,
+    post: Option<&Post>,
+) -> Result<(), RunFault>
+    requires { fault_of run.old ≡ None }
+    ensures ends { Ends (element_pass (engine_of S.says S.number run.old) settings.now
+        (option_map (λ p. p.now) post.entry) (world_of run.old) element.now) result (world_of run.new) }
+    ensures sound { OnOk result (fault_of run.new ≡ None) }
+    ensures engine { engine_of S.says S.number run.new ≡ engine_of S.says S.number run.old }
+{
+    match element {
+        Element::Item(item) => print_item(alloc, run, settings, item, post),
+        Element::Part(part) => print_part(alloc, run, settings, *part, post),
+    }
+}
+
+#[tactic(auto, unfolding(crate::specs::Pages::part_pass))]
+fn print_part<S: Stated>(
+    alloc: Global,
+    run: &mut Run<'_, S>,
+    settings: &Settings,
+    part: Part,
+    post: Option<&Post>,
+) -> Result<(), RunFault>
+    requires { fault_of run.old ≡ None }
+    ensures ends { Ends (part_pass (engine_of S.says S.number run.old) settings.now
+        (option_map (λ p. p.now) post.entry) (world_of run.old) part) result (world_of run.new) }
+    ensures sound { OnOk result (fault_of run.new ≡ None) }
+    ensures engine { engine_of S.says S.number run.new ≡ engine_of S.says S.number run.old }
+{
+    match part {
+        Part::Header => print_announced(
+            alloc,
+            run,
+            settings,
+            "get_header",
+            settings.header.as_ref(),
+            post,
+        ),
+        Part::Footer => print_announced(
+            alloc,
+            run,
+            settings,
+            "get_footer",
+            settings.footer.as_ref(),
+            post,
+        ),
+        Part::Content => print_stored_part(alloc, run, settings, settings.content.as_ref(), post),
+    }
+}
+
+/// Fires an action, and then prints the template of a part, where one is stored.
+fn print_announced<S: Stated>(
+    alloc: Global,
+    run: &mut Run<'_, S>,
+    settings: &Settings,
+    hook: &str,
+    template: Option<&Template>,
+    post: Option<&Post>,
+) -> Result<(), RunFault>
+    requires { fault_of run.old ≡ None }
+    ensures ends { Ends (announced_pass (engine_of S.says S.number run.old) settings.now hook.now
+        (option_map (λ t. t.now) template.entry) (option_map (λ p. p.now) post.entry) (world_of run.old))
+        result (world_of run.new) }
+    ensures sound { OnOk result (fault_of run.new ≡ None) }
+    ensures engine { engine_of S.says S.number run.new ≡ engine_of S.says S.number run.old }
+{
+    run.do_action(hook, &Listed::empty(alloc))?;
+    print_stored_part(alloc, run, settings, template, post)
+}
+
+/// Prints the template of a part, where one is stored.
+fn print_stored_part<S: Stated>(
+    alloc: Global,
+    run: &mut Run<'_, S>,
+    settings: &Settings,
+    template: Option<&Template>,
+    post: Option<&Post>,
+) -> Result<(), RunFault>
+    requires { fault_of run.old ≡ None }
+    ensures ends { Ends (stored_part_pass (engine_of S.says S.number run.old) settings.now
+        (option_map (λ t. t.now) template.entry) (option_map (λ p. p.now) post.entry) (world_of run.old))
+        result (world_of run.new) }
+    ensures sound { OnOk result (fault_of run.new ≡ None) }
+    ensures engine { engine_of S.says S.number run.new ≡ engine_of S.says S.number run.old }
+{
+    let Some(template) = template else {
+        return Ok(());
+    };
+    for node in template.nodes.as_slice() {
+        print_part_node(alloc, run, settings, node, post)?;
+    }
+    Ok(())
+}
+
+#[tactic(auto, unfolding(crate::specs::Pages::part_node_pass))]
+fn print_part_node<S: Stated>(
+    alloc: Global,
+    run: &mut Run<'_, S>,
+    settings: &Settings,
+    node: &Node,
+    post: Option<&Post>,
+) -> Result<(), RunFault>
+    requires { fault_of run.old ≡ None }
+    ensures ends { Ends (part_node_pass (engine_of S.says S.number run.old) settings.now
+        (option_map (λ p. p.now) post.entry) (world_of run.old) node.now) result (world_of run.new) }
+    ensures sound { OnOk result (fault_of run.new ≡ None) }
+    ensures engine { engine_of S.says S.number run.new ≡ engine_of S.says S.number run.old }
+{
+    match node {
+        Node::Element(Element::Item(item)) => print_item(alloc, run, settings, item, post),
+        _ => Ok(()),
+    }
+}
+
+#[tactic(auto, unfolding(crate::specs::Pages::item_pass, crate::specs::Pages::action_pass))]
 fn print_item<S: Stated>(
     alloc: Global,
     run: &mut Run<'_, S>,
+    settings: &Settings,
     item: &Item,
     post: Option<&Post>,
 ) -> Result<(), RunFault>
     requires { fault_of run.old ≡ None }
-    ensures ends { Ends (item_pass (engine_of S.says S.number run.old) (option_map (λ p. p.now) post.entry) (world_of run.old) item.now) result (world_of run.new) }
+    ensures ends { Ends (item_pass (engine_of S.says S.number run.old) settings.now
+        (option_map (λ p. p.now) post.entry) (world_of run.old) item.now) result (world_of run.new) }
     ensures sound { OnOk result (fault_of run.new ≡ None) }
     ensures engine { engine_of S.says S.number run.new ≡ engine_of S.says S.number run.old }
 {
     match item {
         Item::Text(text) => run.print(text.as_str()),
-        Item::Tag(tag) => print_tag(alloc, run, *tag, post),
+        Item::Tag(tag) => print_tag(alloc, run, settings, *tag, post),
         Item::Action(hook) => run.do_action(hook.as_str(), &Listed::empty(alloc)),
     }
-}
-
-fn print_tag<S: Stated>(
-    alloc: Global,
-    run: &mut Run<'_, S>,
-    tag: Tag,
-    post: Option<&Post>,
-) -> Result<(), RunFault>
-    requires { fault_of run.old ≡ None }
-    ensures ends { Ends (tag_pass (engine_of S.says S.number run.old) (option_map (λ p. p.now) post.entry) (world_of run.old) tag) result (world_of run.new) }
-    ensures sound { OnOk result (fault_of run.new ≡ None) }
-    ensures engine { engine_of S.says S.number run.new ≡ engine_of S.says S.number run.old }
-{
-    match tag {
-        Tag::WpHead => run.do_action("wp_head", &Listed::empty(alloc)),
-        Tag::WpFooter => run.do_action("wp_footer", &Listed::empty(alloc)),
-        Tag::TheTitle => match post {
-            Some(post) => print_title(alloc, run, post),
-            None => Ok(()),
-        },
-        Tag::TheContent => match post {
-            Some(post) => print_content(alloc, run, post),
-            None => Ok(()),
-        },
-    }
-}
-
-fn print_title<S: Stated>(alloc: Global, run: &mut Run<'_, S>, post: &Post) -> Result<(), RunFault>
-    requires { fault_of run.old ≡ None }
-    ensures ends { Ends (title_pass (engine_of S.says S.number run.old) post.now (world_of run.old)) result (world_of run.new) }
-    ensures sound { OnOk result (fault_of run.new ≡ None) }
-    ensures engine { engine_of S.says S.number run.new ≡ engine_of S.says S.number run.old }
-{
-    let Ok((title, args)) = title_call(alloc, post) else {
-        return Err(RunFault::OutOfMemory);
-    };
-    let title = run.apply_filters("the_title", title, &args)?;
-    run.print(title.as_str())
-}
-
-fn print_content<S: Stated>(
-    alloc: Global,
-    run: &mut Run<'_, S>,
-    post: &Post,
-) -> Result<(), RunFault>
-    requires { fault_of run.old ≡ None }
-    ensures ends { Ends (content_pass (engine_of S.says S.number run.old) post.now (world_of run.old)) result (world_of run.new) }
-    ensures sound { OnOk result (fault_of run.new ≡ None) }
-    ensures engine { engine_of S.says S.number run.new ≡ engine_of S.says S.number run.old }
-{
-    let Ok(content) = post.content.clone() else {
-        return Err(RunFault::OutOfMemory);
-    };
-    let value = run.apply_filters("the_content", content, &Listed::empty(alloc))?;
-    let Ok(value) = escape_ends(alloc, value.as_str()) else {
-        return Err(RunFault::OutOfMemory);
-    };
-    run.print(value.as_str())
-}
-
-/// What the filter `the_title` is called with: the title, and behind it the post's number.
-fn title_call(alloc: Global, post: &Post) -> Result<(Text, Listed<Text>), AllocError>
-    ensures value { IfOk result (λ call. call.0 ≡ post.now.title) }
-    ensures args { IfOk result (λ call. call.1 ≡ decimal post.now.id ∷ []) }
-{
-    let title = post.title.clone()?;
-    let mut digits = Buffer::new();
-    let id = Text::copied(alloc, digits.format(post.id))?;
-    let mut args = Listed::empty(alloc);
-    args.push(id)?;
-    Ok((title, args))
 }

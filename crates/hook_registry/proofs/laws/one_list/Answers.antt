@@ -1,5 +1,11 @@
-use Rattle.hook_registry.proofs.OneList.{registrations-after}
+use Rattle.hook_registry.proofs.OneList.{registrations-after, group-after, next-after}
 use Rattle.hook_registry.proofs.laws.one_list.Goals as goal
 
-pub returns : goal.returns
-returns c = registrations-after
+pub returns-clause-registrations : goal.returns-clause-registrations
+returns-clause-registrations c = registrations-after
+
+pub returns-clause-groups : goal.returns-clause-groups
+returns-clause-groups c = group-after
+
+pub returns-clause-next : goal.returns-clause-next
+returns-clause-next c = next-after

@@ -1,13 +1,11 @@
-use Rattle.std.proofs.Common.{◌≡◌, ◌++◌, take, drop}
-use Rattle.hook_registry.specs.declared.registration.Registration.{Registration}
-use Rattle.hook_registry.specs.Table.{with_added}
+use Rattle.std.proofs.Common.{◌≡◌, false}
+use Rattle.std.specs.List.{AllWithin}
+use Rattle.hook_registry.specs.Table.{is_of}
 use Rattle.hook_registry.proofs.list.add_to.Given as goal
 
--- the list is as it was, and what the loop has passed stays before what is added to the rest
+-- the list is as it was, and none passed is of the callback at the priority
 abbrev pub invariant-loop-i : goal.invariant-loop-i
-invariant-loop-i l =
-    let new : Registration = record { priority = l.priority; callback = l.callback; accepted = l.accepted } in
-    record {
-      same : l.list.items ≡ l.fn.list.items;
-      passed : with_added l.fn.list.items new ≡ take l.i l.list.items ++ with_added (drop l.i l.list.items) new;
-    }
+invariant-loop-i l = record {
+  same : l.list.items ≡ l.fn.list.items;
+  passed : AllWithin (λ r. is_of l.priority l.callback r ≡ false) l.fn.list.items 0 l.i;
+}

@@ -1,7 +1,7 @@
-use Rattle.std.proofs.Common.{◌≡◌, ◌==◌, take}
-use Rattle.hook_registry.specs.Table.{least_priority}
+use Rattle.std.proofs.Common.{◌≡◌, ◌==◌, false}
+use Rattle.std.specs.List.{AllWithin}
 use Rattle.hook_registry.proofs.list.least_of.Given as goal
 
--- the least of those passed
+-- none passed is the callback's
 abbrev pub invariant-loop-registration : goal.invariant-loop-registration
-invariant-loop-registration l = l.best ≡ least_priority (λ r. r.callback == l.callback) (take l.registration-index l.list)
+invariant-loop-registration l = AllWithin (λ r. (r.callback == l.callback) ≡ false) l.list 0 l.registration-index

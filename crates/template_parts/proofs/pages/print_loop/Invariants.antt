@@ -9,7 +9,7 @@ use Rattle.template_parts.proofs.pages.print_loop.Given as goal
 abbrev pub invariant-loop-post : goal.invariant-loop-post
 invariant-loop-post g l =
     let engine = engine_of g.S.Stated.says g.S.Stated.number l.fn.run in
-    let work = of_post engine l.fn.body in
+    let work = of_post engine l.fn.settings l.fn.body in
     record {
       same_engine : engine_of g.S.Stated.says g.S.Stated.number l.run ≡ engine;
       sound : fault_of l.run ≡ None;

@@ -13,17 +13,17 @@ returns-in_err-print_node-clause-ends g c =
     let i = c.loop-node.invariant in
     let p = err_from_is_err_and c.from_residual.result c.from_residual.ensures.1 in
     let engine = engine_of g.S.Stated.says g.S.Stated.number c.args.run.now in
-    let work = node_pass engine c.args.posts.now in
-    let refused = subst (λ e. Ends (node_pass e c.args.posts.now (world_of c.loop-node.run) c.node-item.result) (Err c.in_err-print_node.field-0.0) (world_of c.print_node.new.run)) i.same_engine c.in_err-print_node.ensures.ends in
-    rw (p.1, p.2) (nodes_ends engine c.args.posts.now (world_of c.args.run.now) (world_of c.print_node.new.run) c.args.nodes.now (Err c.in_err-print_node.field-0.0) (each_refused work (world_of c.args.run.now) (world_of c.loop-node.run) (world_of c.print_node.new.run) (world_of c.print_node.new.run) c.args.nodes.now c.loop-node.node-index c.node-item.result c.node-item.result c.in_err-print_node.field-0.0 i.rest c.loop-node-test.true c.node-item.is refused))
+    let work = node_pass engine c.args.settings.now c.args.posts.now in
+    let refused = subst (λ e. Ends (node_pass e c.args.settings.now c.args.posts.now (world_of c.loop-node.run) c.node-item.result) (Err c.in_err-print_node.field-0.0) (world_of c.print_node.new.run)) i.same_engine c.in_err-print_node.ensures.ends in
+    rw (p.1, p.2) (nodes_ends engine c.args.settings.now c.args.posts.now (world_of c.args.run.now) (world_of c.print_node.new.run) c.args.nodes.now (Err c.in_err-print_node.field-0.0) (each_refused work (world_of c.args.run.now) (world_of c.loop-node.run) (world_of c.print_node.new.run) (world_of c.print_node.new.run) c.args.nodes.now c.loop-node.node-index c.node-item.result c.node-item.result c.in_err-print_node.field-0.0 i.rest c.loop-node-test.true c.node-item.is refused))
 
 -- one more was printed
 pub loop-node-preserved : goal.loop-node-preserved
 loop-node-preserved g c =
     let i = c.loop-node.invariant in
     let engine = engine_of g.S.Stated.says g.S.Stated.number c.args.run.now in
-    let work = node_pass engine c.args.posts.now in
-    let done = subst (λ e. Ends (node_pass e c.args.posts.now (world_of c.loop-node.run) c.node-item.result) (Ok tt) (world_of c.print_node.new.run)) i.same_engine c.in_ok-print_node.ensures.ends in
+    let work = node_pass engine c.args.settings.now c.args.posts.now in
+    let done = subst (λ e. Ends (node_pass e c.args.settings.now c.args.posts.now (world_of c.loop-node.run) c.node-item.result) (Ok tt) (world_of c.print_node.new.run)) i.same_engine c.in_ok-print_node.ensures.ends in
     record {
       same_engine = c.in_ok-print_node.ensures.engine ∙ i.same_engine;
       sound = c.in_ok-print_node.ensures.sound;
@@ -35,6 +35,6 @@ pub returns-clause-ends : goal.returns-clause-ends
 returns-clause-ends g c =
     let i = c.loop-node.invariant in
     let engine = engine_of g.S.Stated.says g.S.Stated.number c.args.run.now in
-    let work = node_pass engine c.args.posts.now in
+    let work = node_pass engine c.args.settings.now c.args.posts.now in
     let none : drop c.loop-node.node-index c.args.nodes.now ≡ [] = grind (arith, common_steps) in
-    nodes_ends engine c.args.posts.now (world_of c.args.run.now) (world_of c.loop-node.run) c.args.nodes.now (Ok tt) (each_ends work (world_of c.args.run.now) (world_of c.loop-node.run) c.args.nodes.now c.loop-node.node-index i.rest none)
+    nodes_ends engine c.args.settings.now c.args.posts.now (world_of c.args.run.now) (world_of c.loop-node.run) c.args.nodes.now (Ok tt) (each_ends work (world_of c.args.run.now) (world_of c.loop-node.run) c.args.nodes.now c.loop-node.node-index i.rest none)

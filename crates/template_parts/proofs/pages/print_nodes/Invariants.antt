@@ -8,7 +8,7 @@ use Rattle.template_parts.proofs.pages.print_nodes.Given as goal
 abbrev pub invariant-loop-node : goal.invariant-loop-node
 invariant-loop-node g l =
     let engine = engine_of g.S.Stated.says g.S.Stated.number l.fn.run in
-    let work = node_pass engine l.fn.posts in
+    let work = node_pass engine l.fn.settings l.fn.posts in
     record {
       same_engine : engine_of g.S.Stated.says g.S.Stated.number l.run ≡ engine;
       sound : fault_of l.run ≡ None;

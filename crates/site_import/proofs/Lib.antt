@@ -1,0 +1,4 @@
+pub mod Walks
+pub mod Ids
+pub mod Texts
+pub mod WorkedFiles

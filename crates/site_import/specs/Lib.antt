@@ -1,0 +1,7 @@
+pub mod Walks
+pub mod Posts
+pub mod Options
+pub mod Templates
+pub mod Active
+pub mod Site
+pub mod Worked

@@ -1,0 +1,103 @@
+//! Why a site file is refused, and where.
+ghost use Rattle.std.specs.Prelude.{◌≡◌};
+ghost use Rattle.site_import.specs.Walks.{whole, entry_of};
+
+use std::alloc::{AllocError, AllocFailed};
+use std::fmt;
+use thiserror::Error;
+
+/// A part of a site file.
+#[derive(Clone, Copy, Debug, PartialEq, Eq)]
+pub enum Section {
+    /// The bytes, which are no JSON text.
+    Text,
+    /// The whole value, which is no object.
+    Root,
+    Version,
+    Posts,
+    Options,
+    /// No version that is known here has it.
+    Front,
+    Templates,
+    Active,
+}
+
+/// Where the first fault is.
+#[derive(Clone, Copy, Debug, PartialEq, Eq)]
+pub struct Place {
+    pub section: Section,
+    /// Counted from 0 in the order in which the section's entries are read; `None` where the section itself is at fault.
+    pub entry: Option<usize>,
+}
+
+impl Place {
+    /// A section itself.
+    pub(crate) fn whole(section: Section) -> Self
+        ensures { result ≡ whole section }
+    {
+        Place {
+            section,
+            entry: None,
+        }
+    }
+
+    /// An entry of a section.
+    pub(crate) fn entry_of(section: Section, entry: usize) -> Self
+        ensures { result ≡ entry_of section entry }
+    {
+        Place {
+            section,
+            entry: Some(entry),
+        }
+    }
+}
+
+/// Shows the section, and the entry where there is one, as `Posts 3`.
+impl fmt::Display for Place {
+    fn fmt<W: fmt::Write>(&self, f: &mut fmt::Formatter<W>) -> fmt::Result {
+        match self.entry {
+            Some(entry) => write!(f, "{:?} {}", self.section, entry),
+            None => write!(f, "{:?}", self.section),
+        }
+    }
+}
+
+/// Why a site file is refused: its first fault, or want of memory.
+#[derive(Clone, Copy, Debug, PartialEq, Eq, Drop, Error)]
+pub enum ImportFault {
+    /// Something is missing, of another kind than it should be, or out of its range.
+    #[error("no site file: {0}")]
+    BadImport(Place),
+    /// A text is no date of a post.
+    #[error("no date: {0}")]
+    BadDate(Place),
+    /// A name or a tree is none of a template.
+    #[error("no template: {0}")]
+    BadTemplate(Place),
+    /// There are more than 10,000 posts, or a title, content, value or template is too large.
+    #[error("too large: {0}")]
+    TooLarge(Place),
+    /// There was not enough memory.
+    #[error("out of memory")]
+    OutOfMemory,
+}
+
+impl From<AllocError> for ImportFault {
+    ghost use Rattle.site_import.specs.declared.fault.ImportFault.TheVariants.{OutOfMemory};
+
+    ghost from_gives = { λ _ fault. fault ≡ OutOfMemory };
+
+    fn from(_error: AllocError) -> ImportFault {
+        ImportFault::OutOfMemory
+    }
+}
+
+impl<T: Drop> From<AllocFailed<T>> for ImportFault {
+    ghost use Rattle.site_import.specs.declared.fault.ImportFault.TheVariants.{OutOfMemory};
+
+    ghost from_gives = { λ _ fault. fault ≡ OutOfMemory };
+
+    fn from(_error: AllocFailed<T>) -> ImportFault {
+        ImportFault::OutOfMemory
+    }
+}

@@ -1,0 +1,129 @@
+//! The posts of a site file.
+ghost use Rattle.std.specs.Prelude.{◌≡◌, ◌≢◌, Ok, Err, IfOk, IfErr, map, option_map};
+ghost use Rattle.serde_json.specs.View.{view};
+ghost use Rattle.site_import.specs.Walks.{each_from, section_of};
+ghost use Rattle.site_import.specs.Posts.{post_by, shape_of, post_at, posts_in, posts_of};
+
+use crate::fault::{ImportFault, Place, Section};
+use hook_changes::{Listed, Text};
+use serde_json::Value;
+use site_records::{Post, PostDate, PostKind, PostStatus};
+use site_values::{id_at, kind_named, status_named, text_at};
+use std::alloc::{AllocError, Global};
+
+const MAX_POSTS: usize = 10_000;
+
+const MAX_TITLE: usize = 65_536;
+
+const MAX_CONTENT: usize = 524_288;
+
+// A post, over the texts of its tree.
+#[derive(Clone, Copy)]
+pub(crate) struct PostRow<'v> {
+    id: u32,
+    kind: PostKind,
+    status: PostStatus,
+    title: &'v str,
+    content: &'v str,
+    date: &'v str,
+}
+
+#[tactic(auto, unfolding(crate::specs::Posts::shape_of))]
+fn read_row(value: &Value) -> Option<PostRow<'_>>
+    ensures { option_map post_by result ≡ shape_of (view value.now) }
+{
+    let id = id_at(value)?;
+    let kind = kind_named(text_at(value, "kind")?)?;
+    let status = status_named(text_at(value, "status")?)?;
+    let title = text_at(value, "title")?;
+    let content = text_at(value, "content")?;
+    let date = text_at(value, "date")?;
+    Some(PostRow {
+        id,
+        kind,
+        status,
+        title,
+        content,
+        date,
+    })
+}
+
+// The post of a row, its texts copied.
+fn copied(alloc: Global, row: &PostRow<'_>, date: PostDate) -> Result<Post, AllocError>
+    requires { date ≡ row.now.date.now }
+    ensures { IfOk result (λ post. post ≡ post_by row.now) }
+{
+    Ok(Post {
+        id: row.id,
+        kind: row.kind,
+        status: row.status,
+        title: Text::copied(alloc, row.title)?,
+        content: Text::copied(alloc, row.content)?,
+        date,
+    })
+}
+
+fn read_post(alloc: Global, value: &Value, entry: usize) -> Result<Post, ImportFault>
+    ensures ok { IfOk result (λ post. post_at entry (view value.now) ≡ Ok post) }
+    ensures err { IfErr result (λ fault. fault ≢ ImportFault.OutOfMemory
+        → post_at entry (view value.now) ≡ Err fault) }
+{
+    let place = Place::entry_of(Section::Posts, entry);
+    let Some(row) = read_row(value) else {
+        return Err(ImportFault::BadImport(place));
+    };
+    if row.title.len() > MAX_TITLE || row.content.len() > MAX_CONTENT {
+        return Err(ImportFault::TooLarge(place));
+    }
+    let Some(date) = PostDate::read(row.date) else {
+        return Err(ImportFault::BadDate(place));
+    };
+    Ok(copied(alloc, &row, date)?)
+}
+
+fn read_each(alloc: Global, values: &[Value]) -> Result<Listed<Post>, ImportFault>
+    ensures ok { IfOk result (λ posts. each_from post_at 0 (map view values.now) ≡ Ok posts) }
+    ensures err { IfErr result (λ fault. fault ≢ ImportFault.OutOfMemory
+        → each_from post_at 0 (map view values.now) ≡ Err fault) }
+{
+    let mut posts = Listed::empty(alloc);
+    for (entry, value) in values.iter().enumerate() {
+        posts.push(read_post(alloc, value, entry)?)?;
+    }
+    Ok(posts)
+}
+
+fn read_list(alloc: Global, values: &[Value]) -> Result<Listed<Post>, ImportFault>
+    ensures ok { IfOk result (λ posts. posts_in (map view values.now) ≡ Ok posts) }
+    ensures err { IfErr result (λ fault. fault ≢ ImportFault.OutOfMemory
+        → posts_in (map view values.now) ≡ Err fault) }
+{
+    if values.len() > MAX_POSTS {
+        return Err(ImportFault::TooLarge(Place::whole(Section::Posts)));
+    }
+    read_each(alloc, values)
+}
+
+#[tactic(auto, using(crate::proofs::Walks::list_of_view), unfolding(crate::specs::Posts::posts_of))]
+fn read_section(alloc: Global, value: &Value) -> Result<Listed<Post>, ImportFault>
+    ensures ok { IfOk result (λ posts. posts_of (view value.now) ≡ Ok posts) }
+    ensures err { IfErr result (λ fault. fault ≢ ImportFault.OutOfMemory
+        → posts_of (view value.now) ≡ Err fault) }
+{
+    let Some(values) = value.as_array() else {
+        return Err(ImportFault::BadImport(Place::whole(Section::Posts)));
+    };
+    read_list(alloc, values.as_slice())
+}
+
+/// The section of a site file's object, which may be missing.
+pub(crate) fn read_posts(alloc: Global, found: Option<&Value>) -> Result<Listed<Post>, ImportFault>
+    ensures ok { IfOk result (λ posts. section_of posts_of (option_map (λ v. view v.now) found.entry) ≡ Ok posts) }
+    ensures err { IfErr result (λ fault. fault ≢ ImportFault.OutOfMemory
+        → section_of posts_of (option_map (λ v. view v.now) found.entry) ≡ Err fault) }
+{
+    match found {
+        Some(value) => read_section(alloc, value),
+        None => Ok(Listed::empty(alloc)),
+    }
+}

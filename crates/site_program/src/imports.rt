@@ -1,0 +1,76 @@
+//! The command that adds what a site file holds.
+ghost use Rattle.std.specs.Prelude.{◌≡◌, ◌≢◌, ◌≤◌, IfOk, IfErr, OnOk, OnErr, All, false};
+ghost use Rattle.serde_json.specs.View.{view};
+ghost use Rattle.site_program.specs.Reply.{answer_of};
+ghost use Rattle.site_program.specs.Imports.{import, import_refusal, added, are_known};
+ghost use Rattle.site_program.specs.Step.{comes_before_store};
+
+use crate::fault::StoreFault;
+use crate::reply::{Refusal, SiteReply};
+use crate::setup::Setup;
+use callback_store::Stated;
+use hook_changes::Text;
+use post_tables::{Tables, TablesFault};
+use serde_json::Value;
+use site_import::{ImportFault, read_site_value};
+use site_records::SiteRecords;
+
+impl<'p, S: Stated> Setup<'p, S> {
+    ghost use Rattle.site_program.specs.Site.{engine_of};
+
+    /// All records of a site file are added, or none.
+    #[tactic(auto, unfolding(crate::specs::Imports::import))]
+    pub(crate) fn import(&self, tables: &mut Tables, site: &Value) -> Result<SiteReply, StoreFault>
+        ensures ok { IfOk result (λ reply. (tables.new, answer_of reply)
+            ≡ import (engine_of S.says S.number self.now).plugins tables.old (view site.now)) }
+        ensures err { OnErr result (tables.new ≡ tables.old) }
+        ensures late { IfErr result (λ fault. fault ≡ StoreFault.Store → comes_before_store
+            (import (engine_of S.says S.number self.now).plugins tables.old (view site.now)).1 ≡ false) }
+    {
+        let records = match read_site_value(self.alloc, site) {
+            Ok(file) => file.records,
+            Err(fault) => return refused_import(fault),
+        };
+        if !self.are_known(records.active.as_slice()) {
+            return Ok(SiteReply::Refused(Refusal::UnknownPlugin));
+        }
+        add_records(tables, &records)
+    }
+
+    fn are_known(&self, names: &[Text]) -> bool
+        ensures { result ≡ are_known (engine_of S.says S.number self.now).plugins names.now }
+    {
+        names
+            .iter()
+            .all(|name| self.plugins.load_of(name.as_str()).is_some())
+    }
+}
+
+/// The reply for a site file that is refused.
+fn refused_import(fault: ImportFault) -> Result<SiteReply, StoreFault>
+    ensures ok { IfOk result (λ reply. answer_of reply ≡ import_refusal fault) }
+    ensures err { IfErr result (λ e. (e ≡ StoreFault.OutOfMemory) × (fault ≡ ImportFault.OutOfMemory)) }
+    ensures other { OnOk result (fault ≢ ImportFault.OutOfMemory) }
+{
+    match fault {
+        ImportFault::BadImport(_) => Ok(SiteReply::Refused(Refusal::BadImport)),
+        ImportFault::BadDate(_) => Ok(SiteReply::Refused(Refusal::BadDate)),
+        ImportFault::BadTemplate(_) => Ok(SiteReply::Refused(Refusal::BadTemplate)),
+        ImportFault::TooLarge(_) => Ok(SiteReply::Refused(Refusal::TooLarge)),
+        ImportFault::OutOfMemory => Err(StoreFault::OutOfMemory),
+    }
+}
+
+fn add_records(tables: &mut Tables, records: &SiteRecords) -> Result<SiteReply, StoreFault>
+    requires { All (λ p. (1 ≤ p.id) × (p.id ≤ 2147483647)) records.now.posts }
+    ensures ok { IfOk result (λ reply. (tables.new, answer_of reply) ≡ added tables.old records.now) }
+    ensures err { OnErr result (tables.new ≡ tables.old) }
+    ensures late { IfErr result (λ fault. fault ≡ StoreFault.Store
+        → comes_before_store (added tables.old records.now).1 ≡ false) }
+{
+    match tables.import(records) {
+        Ok(()) => Ok(SiteReply::Ok),
+        Err(TablesFault::DuplicateId) => Ok(SiteReply::Refused(Refusal::DuplicateId)),
+        Err(fault) => Err(StoreFault::from(fault)),
+    }
+}

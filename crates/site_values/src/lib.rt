@@ -1,0 +1,9 @@
+//! Values at the keys of a JSON tree, as commands and site files have them: texts, IDs, kinds and states of posts, and
+//! names of options.
+#![tactic(auto)]
+
+mod values;
+
+pub use values::{
+    id_at, kind_named, option_named, status_given, status_named, text_at, text_given, text_or,
+};

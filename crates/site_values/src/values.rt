@@ -1,0 +1,100 @@
+//! Values at the keys of a tree.
+ghost use Rattle.std.specs.Prelude.{◌≡◌, option_map};
+ghost use Rattle.serde_json.specs.View.{view};
+ghost use Rattle.site_values.specs.Tree.{text_at, text_or, text_given};
+ghost use Rattle.site_values.specs.Named.{
+  kind_named,
+  status_named,
+  status_given,
+  id_at,
+  option_named,
+};
+
+use serde_json::Value;
+use site_records::{PostKind, PostStatus};
+
+/// The greatest ID that a post can have.
+const MAX_ID: u64 = 2_147_483_647;
+
+/// The text at a key, where there is one.
+pub fn text_at<'v>(value: &'v Value, key: &str) -> Option<&'v str>
+    ensures { option_map (λ s. s.now) result ≡ text_at key.now (view value.now) }
+{
+    value.get(key).and_then(Value::as_str)
+}
+
+/// The text at a key, or a default where the key is missing.
+pub fn text_or<'v>(value: &'v Value, key: &str, default: &'static str) -> Option<&'v str>
+    ensures { option_map (λ s. s.now) result ≡ text_or key.now default.now (view value.now) }
+{
+    match value.get(key) {
+        None => Some(default),
+        Some(found) => found.as_str(),
+    }
+}
+
+/// The text at a key that may be missing. A key with another value than a text is `None`.
+pub fn text_given<'v>(value: &'v Value, key: &str) -> Option<Option<&'v str>>
+    ensures { option_map (λ given. option_map (λ s. s.now) given) result
+        ≡ text_given key.now (view value.now) }
+{
+    match value.get(key) {
+        None => Some(None),
+        Some(found) => Some(Some(found.as_str()?)),
+    }
+}
+
+/// The kind of that name (Theme Handbook, Post Types).
+pub fn kind_named(name: &str) -> Option<PostKind>
+    ensures { result ≡ kind_named name.now }
+{
+    match name {
+        "post" => Some(PostKind::Post),
+        "page" => Some(PostKind::Page),
+        _ => None,
+    }
+}
+
+/// The status of that name (WordPress documentation, Post Status).
+pub fn status_named(name: &str) -> Option<PostStatus>
+    ensures { result ≡ status_named name.now }
+{
+    match name {
+        "publish" => Some(PostStatus::Publish),
+        "draft" => Some(PostStatus::Draft),
+        _ => None,
+    }
+}
+
+/// The status at the key `status`, which may be missing. Where it stands and names none, the result is `None`.
+pub fn status_given(value: &Value) -> Option<Option<PostStatus>>
+    ensures { result ≡ status_given (view value.now) }
+{
+    match value.get("status") {
+        None => Some(None),
+        Some(found) => Some(Some(status_named(found.as_str()?)?)),
+    }
+}
+
+/// The ID at the key `id`: a whole number from 1 to 2,147,483,647, without fraction and exponent.
+pub fn id_at(value: &Value) -> Option<u32>
+    ensures { result ≡ id_at (view value.now) }
+{
+    let id = value.get("id")?.as_u64()?;
+    if (1..=MAX_ID).contains(&id) {
+        Some(id as u32)
+    } else {
+        None
+    }
+}
+
+/// The name of an option, where its length is one that names have, 1 to 64 bytes.
+pub fn option_named(name: &str) -> Option<&str>
+    ensures { option_map (λ s. s.now) result ≡ option_named name.entry.now }
+{
+    if (1..=64).contains(&name.len()) {
+        Some(name)
+    } else {
+        None
+    }
+}

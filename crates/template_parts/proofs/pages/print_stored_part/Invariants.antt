@@ -1,0 +1,16 @@
+use Rattle.std.proofs.Common.{◌≡◌, None, drop, option_map}
+use Rattle.hook_machine.specs.Runs.{world_of, fault_of, engine_of}
+use Rattle.hook_machine.specs.Trace.{end_of}
+use Rattle.template_parts.specs.Pages.{each, part_node_pass}
+use Rattle.template_parts.proofs.pages.print_stored_part.Given as goal
+
+-- what is left ends as all end
+abbrev pub invariant-loop-node : goal.invariant-loop-node
+invariant-loop-node g l =
+    let engine = engine_of g.S.Stated.says g.S.Stated.number l.fn.run in
+    let work = part_node_pass engine l.fn.settings (option_map (λ p. p.now) l.fn.post) in
+    record {
+      same_engine : engine_of g.S.Stated.says g.S.Stated.number l.run ≡ engine;
+      sound : fault_of l.run ≡ None;
+      rest : end_of (each work (world_of l.run) (drop l.node-index l.node-items)) ≡ end_of (each work (world_of l.fn.run) l.node-items);
+    }

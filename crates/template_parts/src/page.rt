@@ -1,0 +1,62 @@
+//! The page of a request.
+ghost use Rattle.std.specs.Prelude.{◌≡◌, None};
+
+use crate::pages::print_page;
+use crate::settings::Settings;
+use callback_store::Stated;
+use hook_machine::{Run, RunFault};
+use site_records::Found;
+use std::alloc::Global;
+
+/// A page that is to be printed: what its path found, what its site says of pages, and the run of its request.
+///
+/// It borrows the plugins, as the run does.
+#[derive(Drop)]
+pub struct Page<'p, S> {
+    pub(crate) alloc: Global,
+    pub(crate) found: Found,
+    pub(crate) settings: Settings,
+    pub(crate) run: Run<'p, S>,
+}
+
+impl<'p, S: Stated> Page<'p, S> {
+    ghost use Rattle.std.specs.Prelude.{IfOk, IfErr};
+    ghost use Rattle.hook_machine.specs.Runs.{world_of, fault_of, engine_of};
+    ghost use Rattle.template_parts.specs.Page.{found_in, settings_in, run_in};
+    ghost use Rattle.template_parts.specs.Pages.{page_pass, IsPage, IsRefusedBy};
+
+    /// A page over what was found. The run has loaded its plugins and done nothing else; this runs nothing.
+    pub fn begin(alloc: Global, found: Found, settings: Settings, run: Run<'p, S>) -> Self
+        ensures found { found_in result ≡ found }
+        ensures settings { settings_in result ≡ settings }
+        ensures run { run_in result ≡ run.entry }
+    {
+        Page {
+            alloc,
+            found,
+            settings,
+            run,
+        }
+    }
+
+    /// Prints the page: its status, 200 or 404, and its bytes. It fires the actions of a request, and then prints the
+    /// template over the posts that were found. A page that is refused shows nothing.
+    pub fn finish(self) -> Result<(u16, Vec<u8>), RunFault>
+        requires { fault_of (run_in self) ≡ None }
+        ensures status { IfOk result (λ page. page.0 ≡ (found_in self.entry).status) }
+        ensures bytes { IfOk result (λ page. IsPage (page_pass (engine_of S.says S.number (run_in self.entry))
+            (settings_in self.entry) (found_in self.entry).posts (world_of (run_in self.entry))) page.1.items) }
+        ensures err { IfErr result (IsRefusedBy (page_pass (engine_of S.says S.number (run_in self.entry))
+            (settings_in self.entry) (found_in self.entry).posts (world_of (run_in self.entry)))) }
+    {
+        let Page {
+            alloc,
+            found,
+            settings,
+            mut run,
+        } = self;
+        print_page(alloc, &mut run, &settings, found.posts.as_slice())?;
+        let text = run.take_output()?;
+        Ok((found.status, text.into_string().into_bytes()))
+    }
+}

@@ -1,0 +1,16 @@
+//! What a site says of its pages.
+use hook_changes::Text;
+use template_trees::Template;
+
+/// What a page needs of its site, beside the posts that were found.
+#[derive(Debug, Drop)]
+pub struct Settings {
+    /// The option `blogname`, empty where it isn't set.
+    pub site_name: Text,
+    /// The template that was chosen for what was found.
+    pub template: Template,
+    /// The stored parts. Of a part only the items are printed.
+    pub header: Option<Template>,
+    pub footer: Option<Template>,
+    pub content: Option<Template>,
+}

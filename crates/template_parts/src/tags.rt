@@ -1,0 +1,187 @@
+//! Printing template tags.
+ghost use Rattle.std.specs.Prelude.{◌≡◌, [], ◌∷◌, None, IfOk, OnOk, option_map, decimal};
+ghost use Rattle.hook_machine.specs.Runs.{world_of, fault_of, engine_of};
+ghost use Rattle.hook_machine.specs.Ends.{Ends};
+ghost use Rattle.page_escapes.specs.Escapes.{ends_escaped, html_escaped};
+ghost use Rattle.template_parts.specs.Pages.{printed, permalink, title_pass, content_pass, post_tag_pass, tag_pass};
+
+use crate::settings::Settings;
+use callback_store::Stated;
+use hook_changes::{Listed, Text};
+use hook_machine::{Run, RunFault};
+use itoa::Buffer;
+use page_escapes::{escape_ends, escape_html};
+use site_records::{Post, PostKind};
+use std::alloc::{AllocError, Global};
+use template_trees::{PostTag, Tag};
+
+/// Prints a tag; outside a loop there is no post, and the tags of a post print nothing.
+#[tactic(auto, unfolding(crate::specs::Pages::tag_pass, crate::specs::Pages::action_pass))]
+pub(crate) fn print_tag<S: Stated>(
+    alloc: Global,
+    run: &mut Run<'_, S>,
+    settings: &Settings,
+    tag: Tag,
+    post: Option<&Post>,
+) -> Result<(), RunFault>
+    requires { fault_of run.old ≡ None }
+    ensures ends { Ends (tag_pass (engine_of S.says S.number run.old) settings.now
+        (option_map (λ p. p.now) post.entry) (world_of run.old) tag) result (world_of run.new) }
+    ensures sound { OnOk result (fault_of run.new ≡ None) }
+    ensures engine { engine_of S.says S.number run.new ≡ engine_of S.says S.number run.old }
+{
+    match tag {
+        Tag::OfPost(tag) => match post {
+            Some(post) => print_post_tag(alloc, run, settings, tag, post),
+            None => Ok(()),
+        },
+        Tag::SiteName => print_site_name(alloc, run, settings),
+        Tag::WpHead => run.do_action("wp_head", &Listed::empty(alloc)),
+        Tag::WpFooter => run.do_action("wp_footer", &Listed::empty(alloc)),
+    }
+}
+
+fn print_site_name<S: Stated>(
+    alloc: Global,
+    run: &mut Run<'_, S>,
+    settings: &Settings,
+) -> Result<(), RunFault>
+    requires { fault_of run.old ≡ None }
+    ensures ends { Ends (printed (world_of run.old) (html_escaped settings.now.site_name)) result (world_of run.new) }
+    ensures sound { OnOk result (fault_of run.new ≡ None) }
+    ensures engine { engine_of S.says S.number run.new ≡ engine_of S.says S.number run.old }
+{
+    let Ok(name) = escape_html(alloc, settings.site_name.as_str()) else {
+        return Err(RunFault::OutOfMemory);
+    };
+    run.print(name.as_str())
+}
+
+#[tactic(auto, unfolding(crate::specs::Pages::post_tag_pass))]
+fn print_post_tag<S: Stated>(
+    alloc: Global,
+    run: &mut Run<'_, S>,
+    settings: &Settings,
+    tag: PostTag,
+    post: &Post,
+) -> Result<(), RunFault>
+    requires { fault_of run.old ≡ None }
+    ensures ends { Ends (post_tag_pass (engine_of S.says S.number run.old) settings.now post.now (world_of run.old) tag)
+        result (world_of run.new) }
+    ensures sound { OnOk result (fault_of run.new ≡ None) }
+    ensures engine { engine_of S.says S.number run.new ≡ engine_of S.says S.number run.old }
+{
+    match tag {
+        PostTag::TheTitle => print_title(alloc, run, settings, post),
+        PostTag::TitleEscaped => print_escaped_title(alloc, run, settings, post),
+        PostTag::TheContent => print_content(alloc, run, settings, post),
+        PostTag::TheId => run.print(Buffer::new().format(post.id)),
+        PostTag::ThePermalink => print_permalink(alloc, run, post),
+        PostTag::PostDate => run.print(post.date.as_str()),
+    }
+}
+
+fn print_title<S: Stated>(
+    alloc: Global,
+    run: &mut Run<'_, S>,
+    settings: &Settings,
+    post: &Post,
+) -> Result<(), RunFault>
+    requires { fault_of run.old ≡ None }
+    ensures ends { Ends (title_pass (engine_of S.says S.number run.old) settings.now (λ title. title) post.now (world_of run.old))
+        result (world_of run.new) }
+    ensures sound { OnOk result (fault_of run.new ≡ None) }
+    ensures engine { engine_of S.says S.number run.new ≡ engine_of S.says S.number run.old }
+{
+    let Ok((title, args)) = title_call(alloc, post) else {
+        return Err(RunFault::OutOfMemory);
+    };
+    let title = run.apply_filters("the_title", title, &args)?;
+    run.print(title.as_str())
+}
+
+fn print_escaped_title<S: Stated>(
+    alloc: Global,
+    run: &mut Run<'_, S>,
+    settings: &Settings,
+    post: &Post,
+) -> Result<(), RunFault>
+    requires { fault_of run.old ≡ None }
+    ensures ends { Ends (title_pass (engine_of S.says S.number run.old) settings.now html_escaped post.now (world_of run.old))
+        result (world_of run.new) }
+    ensures sound { OnOk result (fault_of run.new ≡ None) }
+    ensures engine { engine_of S.says S.number run.new ≡ engine_of S.says S.number run.old }
+{
+    let Ok((title, args)) = title_call(alloc, post) else {
+        return Err(RunFault::OutOfMemory);
+    };
+    let title = run.apply_filters("the_title", title, &args)?;
+    let Ok(title) = escape_html(alloc, title.as_str()) else {
+        return Err(RunFault::OutOfMemory);
+    };
+    run.print(title.as_str())
+}
+
+fn print_content<S: Stated>(
+    alloc: Global,
+    run: &mut Run<'_, S>,
+    settings: &Settings,
+    post: &Post,
+) -> Result<(), RunFault>
+    requires { fault_of run.old ≡ None }
+    ensures ends { Ends (content_pass (engine_of S.says S.number run.old) settings.now post.now (world_of run.old))
+        result (world_of run.new) }
+    ensures sound { OnOk result (fault_of run.new ≡ None) }
+    ensures engine { engine_of S.says S.number run.new ≡ engine_of S.says S.number run.old }
+{
+    let Ok(content) = post.content.clone() else {
+        return Err(RunFault::OutOfMemory);
+    };
+    let value = run.apply_filters("the_content", content, &Listed::empty(alloc))?;
+    let Ok(value) = escape_ends(alloc, value.as_str()) else {
+        return Err(RunFault::OutOfMemory);
+    };
+    run.print(value.as_str())
+}
+
+fn print_permalink<S: Stated>(
+    alloc: Global,
+    run: &mut Run<'_, S>,
+    post: &Post,
+) -> Result<(), RunFault>
+    requires { fault_of run.old ≡ None }
+    ensures ends { Ends (printed (world_of run.old) (permalink post.now)) result (world_of run.new) }
+    ensures sound { OnOk result (fault_of run.new ≡ None) }
+    ensures engine { engine_of S.says S.number run.new ≡ engine_of S.says S.number run.old }
+{
+    let Ok(path) = permalink(alloc, post) else {
+        return Err(RunFault::OutOfMemory);
+    };
+    run.print(path.as_str())
+}
+
+/// The path of a post or page.
+fn permalink(alloc: Global, post: &Post) -> Result<Text, AllocError>
+    ensures { IfOk result (λ path. path ≡ permalink post.now) }
+{
+    let before = match post.kind {
+        PostKind::Post => "/?p=",
+        PostKind::Page => "/?page_id=",
+    };
+    let mut path = Text::copied(alloc, before)?;
+    path.push_str(Buffer::new().format(post.id))?;
+    Ok(path)
+}
+
+/// What the filter `the_title` is called with: the title, and behind it the post's number.
+fn title_call(alloc: Global, post: &Post) -> Result<(Text, Listed<Text>), AllocError>
+    ensures value { IfOk result (λ call. call.0 ≡ post.now.title) }
+    ensures args { IfOk result (λ call. call.1 ≡ decimal post.now.id ∷ []) }
+{
+    let title = post.title.clone()?;
+    let mut digits = Buffer::new();
+    let id = Text::copied(alloc, digits.format(post.id))?;
+    let mut args = Listed::empty(alloc);
+    args.push(id)?;
+    Ok((title, args))
+}

@@ -1,0 +1,9 @@
+use Rattle.std.proofs.Common.{◌∙◌, sym, ap}
+use Rattle.std.specs.Option.{option_map_or}
+use Rattle.serde_json.specs.Events.{members_len}
+use Rattle.serde_json.proofs.Views.{members_len-members_view}
+use Rattle.template_trees.proofs.read.member_count.Goals as goal
+
+pub returns-in-Some : goal.returns-in-Some
+returns-in-Some c =
+    c.len.ensures.len ∙ sym (members_len-members_view c.in-Some.members.now.entries) ∙ ap (λ found. option_map_or members_len found 0) c.in-Some.ensures

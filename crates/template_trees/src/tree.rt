@@ -1,0 +1,76 @@
+//! The tree of a template.
+use hook_changes::{Listed, Text};
+
+/// A template tag: a word for what a page prints in its place (Theme Handbook, Template Tags).
+#[derive(Clone, Copy, Debug, PartialEq, Eq)]
+pub enum Tag {
+    /// What it prints is that of the loop's post; outside a loop it prints nothing.
+    OfPost(PostTag),
+    /// The option `blogname`, escaped.
+    SiteName,
+    /// What callbacks of the action `wp_head` print.
+    WpHead,
+    /// What callbacks of the action `wp_footer` print.
+    WpFooter,
+}
+
+/// A template tag that speaks of a post.
+#[derive(Clone, Copy, Debug, PartialEq, Eq)]
+pub enum PostTag {
+    /// The title, behind the filter `the_title`.
+    TheTitle,
+    /// The same, with the characters that HTML reads as its own escaped.
+    TitleEscaped,
+    /// The content, behind the filter `the_content`.
+    TheContent,
+    /// The post's number.
+    TheId,
+    /// The post's path.
+    ThePermalink,
+    /// The post's date.
+    PostDate,
+}
+
+/// A part of a template that a site stores under its own name (Theme Handbook, Template Parts).
+#[derive(Clone, Copy, Debug, PartialEq, Eq)]
+pub enum Part {
+    /// It is preceded by the action `get_header`.
+    Header,
+    /// It is preceded by the action `get_footer`.
+    Footer,
+    Content,
+}
+
+/// What may stand anywhere in a template.
+#[derive(Debug, Drop)]
+pub enum Item {
+    /// A text, printed as it is.
+    Text(Text),
+    Tag(Tag),
+    /// An action of that name, fired with no arguments.
+    Action(Text),
+}
+
+/// What may stand in a loop: no other loop.
+#[derive(Debug, Drop)]
+pub enum Element {
+    Item(Item),
+    Part(Part),
+}
+
+/// What a template is a list of.
+#[derive(Debug, Drop)]
+pub enum Node {
+    Element(Element),
+    /// The body once for each post that was found, in order, and the other body once where none was.
+    Loop {
+        body: Listed<Element>,
+        otherwise: Listed<Element>,
+    },
+}
+
+/// A template. That of a part holds items alone.
+#[derive(Debug, Drop)]
+pub struct Template {
+    pub nodes: Listed<Node>,
+}
