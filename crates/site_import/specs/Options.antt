@@ -1,7 +1,8 @@
 -- The options of a site file.
-use Rattle.std.specs.Prelude.{ℕ, List, length, nat_le, Option, Some, Ok, Err, if◌then◌else◌}
+use Rattle.std.specs.Prelude.{ℕ, List, Option, Some, Ok, Err, if◌then◌else◌}
 use Rattle.serde_json.specs.Data.{Data}
 use Rattle.serde_json.specs.Find.{as_object, as_str}
+use Rattle.site_values.specs.Limits.{max_value, fits}
 use Rattle.site_values.specs.Tree.{with_found}
 use Rattle.site_values.specs.Named.{option_named}
 use Rattle.site_import.specs.Walks.{Read, whole, entry_of, and_read, of_form, each_from, members_of}
@@ -15,7 +16,7 @@ pair_of name tree = with_found (option_named name) (λ name. with_found (as_str 
 
 -- of at most 65,536 bytes
 abbrev pub checked_option : Place → (List ℕ × List ℕ) → Read (List ℕ × List ℕ)
-checked_option place pair = if nat_le (length pair.1) 65536 then Ok pair else Err (TooLarge place)
+checked_option place pair = if fits max_value pair.1 then Ok pair else Err (TooLarge place)
 
 -- the nth option
 abbrev pub option_at : ℕ → (List ℕ × Data) → Read (List ℕ × List ℕ)

@@ -4,6 +4,7 @@ use Rattle.serde_json.specs.Data.{Data}
 use Rattle.serde_json.specs.Find.{as_array}
 use Rattle.site_records.specs.Dates.{is_post_date}
 use Rattle.site_records.specs.declared.post.Post.{Post}
+use Rattle.site_values.specs.Limits.{max_title, max_content, fits}
 use Rattle.site_values.specs.Tree.{with_found, text_at}
 use Rattle.site_values.specs.Named.{id_at, kind_named, status_named}
 use Rattle.site_import.specs.Walks.{Read, whole, entry_of, and_read, of_form, each_from, list_of}
@@ -30,7 +31,7 @@ shape_of tree =
 -- first the sizes, and then the date
 abbrev pub checked_post : Place → Post → Read Post
 checked_post place post =
-    if nat_le (length post.title) 65536 && nat_le (length post.content) 524288
+    if fits max_title post.title && fits max_content post.content
     then (if is_post_date post.date then Ok post else Err (BadDate place))
     else Err (TooLarge place)
 

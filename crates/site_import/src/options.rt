@@ -7,10 +7,8 @@ ghost use Rattle.site_import.specs.Options.{option_at, options_of};
 use crate::fault::{ImportFault, Place, Section};
 use hook_changes::{Listed, Text};
 use serde_json::{Map, Value};
-use site_values::option_named;
+use site_values::{MAX_VALUE, option_named};
 use std::alloc::Global;
-
-const MAX_VALUE: usize = 65_536;
 
 fn read_option(
     alloc: Global,

@@ -8,14 +8,10 @@ use crate::fault::{ImportFault, Place, Section};
 use hook_changes::{Listed, Text};
 use serde_json::Value;
 use site_records::{Post, PostDate, PostKind, PostStatus};
-use site_values::{id_at, kind_named, status_named, text_at};
+use site_values::{MAX_CONTENT, MAX_TITLE, id_at, kind_named, status_named, text_at};
 use std::alloc::{AllocError, Global};
 
 const MAX_POSTS: usize = 10_000;
-
-const MAX_TITLE: usize = 65_536;
-
-const MAX_CONTENT: usize = 524_288;
 
 // A post, over the texts of its tree.
 #[derive(Clone, Copy)]

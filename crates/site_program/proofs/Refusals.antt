@@ -20,7 +20,8 @@ use Rattle.site_commands.specs.Asked.{Asked, command_of}
 use Rattle.site_commands.specs.Asked as asked
 use Rattle.site_program.specs.declared.reply.Refusal.{Refusal}
 use Rattle.site_program.specs.Reply.{Answer, refused}
-use Rattle.site_program.specs.Edits.{put, edit, edited, delete, set_option, set_active, fits, if_given, max_title, max_content, max_value, max_id}
+use Rattle.site_program.specs.Edits.{put, edit, edited, delete, set_option, set_active, if_given, max_id}
+use Rattle.site_values.specs.Limits.{fits, max_title, max_content, max_value}
 use Rattle.site_program.specs.Templates.{removed, stored, set_template}
 use Rattle.site_program.specs.Imports.{are_known, added, imported, import}
 use Rattle.site_program.specs.Step.{step, got, carried_out, max_path}

@@ -1,5 +1,5 @@
 -- What the commands that change a site do to its rows.
-use Rattle.std.specs.Prelude.{ℕ, ◌+◌, Bool, true, not, ◌&&◌, nat_le, nat_lt, List, length, Option, is_some, if◌then◌else◌}
+use Rattle.std.specs.Prelude.{ℕ, ◌+◌, Bool, true, not, ◌&&◌, nat_lt, List, Option, is_some, if◌then◌else◌}
 use Rattle.std.specs.FinMap.{insert}
 use Rattle.std.specs.Option.{option_map_or}
 use Rattle.callback_store.specs.Shape.{Shape, load_of}
@@ -7,25 +7,13 @@ use Rattle.site_records.specs.Dates.{is_post_date}
 use Rattle.site_records.specs.declared.post.PostKind.{PostKind}
 use Rattle.site_records.specs.declared.post.PostStatus.{PostStatus}
 use Rattle.post_tables.specs.Rows.{Rows, Text, PostEdit, with_new, has_post, edited_posts, without_post, set_name}
+use Rattle.site_values.specs.Limits.{max_title, max_content, max_value, fits}
 use Rattle.site_program.specs.declared.reply.Refusal.TheVariants.{NoSuchPost, BadDate, UnknownPlugin, TooLarge, IdsUsedUp}
 use Rattle.site_program.specs.Reply.{Answer, done, done_id, refused}
-
--- the most bytes of a title, of a content and of an option's value
-abbrev pub max_title : ℕ
-max_title = 65536
-
-abbrev pub max_content : ℕ
-max_content = 524288
-
-abbrev pub max_value : ℕ
-max_value = 65536
 
 -- the greatest ID of a post
 abbrev pub max_id : ℕ
 max_id = 2147483647
-
-abbrev pub fits : ℕ → Text → Bool
-fits most text = nat_le (length text) most
 
 -- where an edit leaves a text out, nothing of it can be wrong
 abbrev pub if_given : (Text → Bool) → Option Text → Bool

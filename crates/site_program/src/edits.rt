@@ -2,7 +2,8 @@
 ghost use Rattle.std.specs.Prelude.{◌≡◌, IfOk, IfErr, OnErr, option_map, true, false, nat_le, length};
 ghost use Rattle.callback_store.specs.Shape.{shapes_of};
 ghost use Rattle.site_program.specs.Reply.{answer_of};
-ghost use Rattle.site_program.specs.Edits.{put, edit, edited, delete, set_option, set_active, fits, if_given};
+ghost use Rattle.site_values.specs.Limits.{fits};
+ghost use Rattle.site_program.specs.Edits.{put, edit, edited, delete, set_option, set_active, if_given};
 ghost use Rattle.site_program.specs.Step.{comes_before_store};
 ghost use Rattle.post_tables.specs.Rows.{edit_by};
 
@@ -11,13 +12,7 @@ use crate::reply::{Refusal, SiteReply};
 use crate::setup::Setup;
 use callback_store::Stated;
 use post_tables::{PostDate, PostKind, PostStatus, Tables, TablesFault};
-
-// The most bytes of a title, of a content and of an option's value.
-const MAX_TITLE: usize = 65_536;
-
-const MAX_CONTENT: usize = 524_288;
-
-const MAX_VALUE: usize = 65_536;
+use site_values::{MAX_CONTENT, MAX_TITLE, MAX_VALUE};
 
 fn fits_if_given(text: Option<&str>, most: usize) -> bool
     ensures { result ≡ if_given (fits most) (option_map (λ t. t.now) text.entry) }
