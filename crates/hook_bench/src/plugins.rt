@@ -70,10 +70,13 @@ fn plugin(
     first: u16,
     end: u16,
 ) -> Result<Plugin<Kept>, AllocError> {
+    let name = Text::copied(alloc, name)?;
+    let load = load(alloc, spread, first, end)?;
+    let callbacks = callbacks(alloc, first, end)?;
     Ok(Plugin {
-        name: Text::copied(alloc, name)?,
-        load: load(alloc, spread, first, end)?,
-        callbacks: callbacks(alloc, first, end)?,
+        name,
+        load,
+        callbacks,
     })
 }
 
@@ -101,7 +104,8 @@ pub fn plugins(alloc: Global, spread: Spread, count: u16) -> Result<Plugins<Kept
 pub fn active(alloc: Global) -> Result<Vec<Text>, AllocError> {
     let mut names = Vec::new(alloc);
     for name in &NAMES {
-        names.push(Text::copied(alloc, name)?)?;
+        let name = Text::copied(alloc, name)?;
+        names.push(name)?;
     }
     Ok(names)
 }

@@ -146,12 +146,15 @@ fn call_of_handler(
     requires content { IsSpanOf text.now content }
     ensures { IfOk result (λ call. call ≡ handler_call text.now name atts content) }
 {
+    let tag = Text::copied(alloc, part(text, name))?;
+    let atts = parse(alloc, part(text, atts))?;
+    let content = Text::copied(alloc, part(text, content))?;
     Ok(Call {
         hook: Text::empty(alloc),
         args: Listed::empty(alloc),
-        tag: Text::copied(alloc, part(text, name))?,
-        atts: parse(alloc, part(text, atts))?,
-        content: Text::copied(alloc, part(text, content))?,
+        tag,
+        atts,
+        content,
         answers: Listed::empty(alloc),
     })
 }

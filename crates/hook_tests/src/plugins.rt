@@ -48,10 +48,13 @@ fn plugin(
     numbers: &[u32],
     count: usize,
 ) -> Result<Plugin<Echo>, AllocError> {
+    let name = Text::copied(alloc, name)?;
+    let load = changes(alloc, count)?;
+    let callbacks = callbacks(alloc, numbers)?;
     Ok(Plugin {
-        name: Text::copied(alloc, name)?,
-        load: changes(alloc, count)?,
-        callbacks: callbacks(alloc, numbers)?,
+        name,
+        load,
+        callbacks,
     })
 }
 

@@ -55,10 +55,12 @@ pub fn listed(alloc: Global) -> Result<Listed<Plugin<Callback>>, AllocError>
     let mut callbacks = Listed::empty(alloc);
     callbacks.push(Callback::Notice)?;
     callbacks.push(Callback::NumberedTitle)?;
+    let name = Text::copied(alloc, "notices")?;
+    let load = load(alloc)?;
     let mut plugins = Listed::empty(alloc);
     plugins.push(Plugin {
-        name: Text::copied(alloc, "notices")?,
-        load: load(alloc)?,
+        name,
+        load,
         callbacks,
     })?;
     Ok(plugins)
@@ -123,7 +125,8 @@ fn default(alloc: Global, name: &str, value: &str) -> Result<(String, String), A
     ensures { IfOk result (λ pair. pair_bytes pair ≡ (name.now, value.now)) }
 {
     let name = String::from_str(alloc, name)?;
-    Ok((name, String::from_str(alloc, value)?))
+    let value = String::from_str(alloc, value)?;
+    Ok((name, value))
 }
 
 fn boxed(alloc: Global, kind: &str, label: &str, content: &str) -> Result<Text, AllocError>

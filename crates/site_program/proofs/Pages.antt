@@ -27,6 +27,10 @@ module _ (engine : Engine) (calls : ℕ) (found : Found) (options templates : Te
   unfolding page_pass
   work_is e ran settings f begun world e_is ran_is settings_are f_is begun_is world_is = rw (e_is, settings_are, f_is, world_is, ran_is, begun_is) refl
 
+  -- want of memory is no refusal of the page
+  pub page_forgone : (why : RunFault) → why ≡ fault.OutOfMemory → IsRefusedBy (page_pass engine calls found options templates active) why
+  page_forgone why is = λ other. absurd (other is)
+
   pub page_made : (text : Text) → IsPage (page_pass engine calls found options templates active) text → page found.status text ≡ page_of engine calls found options templates active
   page_made text made = ap (page found.status) made.whole ∙ ap (shown found.status) (sym made.made)
 

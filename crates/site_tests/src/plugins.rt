@@ -1,66 +1,58 @@
-//! A plugin with a stated type of its own.
-ghost use Rattle.std.specs.Prelude.{◌≡◌, IfOk};
-ghost use Rattle.site_tests.specs.Tested.{tested};
-
-use callback_store::{Plugin, PluginFault, Plugins, Stated};
-use hook_changes::{Call, CallbackId, Change, Listed, Reply, Text, Then};
+//! Plugins over the test callbacks.
+use crate::callbacks::Tested;
+use callback_store::{Plugin, PluginFault, Plugins};
+use hook_changes::{CallbackId, Change, Listed, Text};
 use std::alloc::{AllocError, Global};
 
-/// A test callback: 101 puts `a` behind the value, 102 `b`.
-#[derive(Drop)]
-pub struct Tested {
-    id: CallbackId,
-}
+/// A plugin: its name, the numbers of its callbacks, and what its load list adds to `the_title`, priorities and
+/// callbacks, each with one argument.
+pub struct Given(
+    pub &'static str,
+    pub &'static [u32],
+    pub &'static [(i32, u32)],
+);
 
-impl Stated for Tested {
-    ghost says = { tested };
-
-    ghost number = { λ stored. stored.id };
-
-    fn id(&self) -> CallbackId {
-        self.id
-    }
-
-    fn answer(&self, alloc: Global, call: &Call) -> Result<Reply, AllocError> {
-        let mut text = match call.args.as_slice() {
-            [] => Text::empty(alloc),
-            [value, ..] => value.clone()?,
-        };
-        text.push_str(if self.id.number() == 101 { "a" } else { "b" })?;
-        Ok(Reply {
-            changes: Listed::empty(alloc),
-            echo: Text::empty(alloc),
-            next: Then::Answer(text),
-        })
+/// The plugins that are given.
+pub fn plugins(alloc: Global, given: &[Given]) -> Result<Plugins<Tested>, PluginFault> {
+    match listed(alloc, given) {
+        Ok(list) => Plugins::new(alloc, list),
+        Err(AllocError) => Err(PluginFault::OutOfMemory),
     }
 }
 
-/// A plugin of that name, which adds its callbacks to `the_title`, the second before the first.
-pub fn tested_plugins(alloc: Global, name: &str) -> Result<Plugins<Tested>, PluginFault> {
-    let Ok(list) = listed(alloc, name) else {
-        return Err(PluginFault::OutOfMemory);
-    };
-    Plugins::new(alloc, list)
+fn listed(alloc: Global, given: &[Given]) -> Result<Listed<Plugin<Tested>>, AllocError> {
+    let mut list = Listed::empty(alloc);
+    for Given(name, numbers, additions) in given {
+        let name = Text::copied(alloc, name)?;
+        let load = added(alloc, additions)?;
+        let callbacks = callbacks(alloc, numbers)?;
+        list.push(Plugin {
+            name,
+            load,
+            callbacks,
+        })?;
+    }
+    Ok(list)
 }
 
-fn listed(alloc: Global, name: &str) -> Result<Listed<Plugin<Tested>>, AllocError> {
+fn added(alloc: Global, additions: &[(i32, u32)]) -> Result<Listed<Change>, AllocError> {
     let mut load = Listed::empty(alloc);
-    let mut callbacks = Listed::empty(alloc);
-    for (number, priority) in &[(101u32, 5), (102u32, -5)] {
-        let id = CallbackId::new(*number);
+    for (priority, number) in additions {
         load.push(Change::Add {
             hook: Text::copied(alloc, "the_title")?,
             priority: *priority,
-            callback: id,
+            callback: CallbackId::new(*number),
             accepted: 1,
         })?;
+    }
+    Ok(load)
+}
+
+fn callbacks(alloc: Global, numbers: &[u32]) -> Result<Listed<Tested>, AllocError> {
+    let mut callbacks = Listed::empty(alloc);
+    for number in numbers {
+        let id = CallbackId::new(*number);
         callbacks.push(Tested { id })?;
     }
-    let mut list = Listed::empty(alloc);
-    list.push(Plugin {
-        name: Text::copied(alloc, name)?,
-        load,
-        callbacks,
-    })?;
-    Ok(list)
+    Ok(callbacks)
 }

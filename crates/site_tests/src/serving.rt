@@ -1,8 +1,9 @@
-//! Lines over a plugin that is not the bundle's, from sources that are cut small or fail, and into sinks that do.
+//! Lines over a test plugin, from sources that are cut small or fail, and into sinks that do.
 ghost use Rattle.std.specs.Prelude.{None};
 
+use crate::callbacks::Tested;
 use crate::expecting::Expecting;
-use crate::plugins::{Tested, tested_plugins};
+use crate::plugins::{Given, plugins};
 use callback_store::Plugins;
 use ends::{EndFault, Source};
 use site_program::{Refusal, ServeFault, Site, SiteReply};
@@ -36,15 +37,15 @@ impl<'a> Source for Cut<'a> {
     }
 }
 
-/// The name of the test plugin, how many calls a page has, and an input.
-type Given = (&'static str, u32, &'static [u8]);
+/// The plugins, how many calls a page has, and an input.
+type Asked = (&'static [Given], u32, &'static [u8]);
 
-/// What is given, how many bytes of it a read gives at most and after how many bytes reads fail, what is written, and
+/// What is asked, how many bytes of it a read gives at most and after how many bytes reads fail, what is written, and
 /// how serving ends. One byte is written a call, and a write of more than these bytes fails.
-struct Run(Given, (usize, usize), &'static [u8], Result<(), ServeFault>);
+struct Run(Asked, (usize, usize), &'static [u8], Result<(), ServeFault>);
 
 fn is_served(alloc: Global, run: &Run) -> bool {
-    match tested_plugins(alloc, run.0.0) {
+    match plugins(alloc, run.0.0) {
         Ok(plugins) => serves(alloc, &plugins, run),
         Err(_) => false,
     }
@@ -81,17 +82,22 @@ const OUTPUT: &[u8] =
 // The reply to the first line.
 const FIRST: &[u8] = b"page 200 21\n<p>Nothing found.</p>\n";
 
-const ACTIVE: Given = ("marks", 10, MARKED);
+// A plugin of each name, whose load list adds 102 before 103, and 103 at the lesser priority.
+const MARKS: &[Given] = &[Given("marks", &[102, 103], &[(5, 102), (-5, 103)])];
 
-const UNKNOWN: Given = ("remarks", 1, MARKED);
+const REMARKS: &[Given] = &[Given("remarks", &[102, 103], &[(5, 102), (-5, 103)])];
 
-const INACTIVE: Given = ("remarks", 10, INPUT);
+const ACTIVE: Asked = (MARKS, 10, MARKED);
+
+const UNKNOWN: Asked = (REMARKS, 1, MARKED);
+
+const INACTIVE: Asked = (REMARKS, 10, INPUT);
 
 static RUNS: [Run; 14] = [
     Run(
         ACTIVE,
         (1000, 1000),
-        b"ok\nok 1\npage 200 12\n<h2>Tba</h2>\n",
+        b"ok\nok 1\npage 200 12\n<h2>Tcb</h2>\n",
         Ok(()),
     ),
     Run(

@@ -179,9 +179,15 @@ fn title_call(alloc: Global, post: &Post) -> Result<(Text, Listed<Text>), AllocE
     ensures args { IfOk result (λ call. call.1 ≡ decimal post.now.id ∷ []) }
 {
     let title = post.title.clone()?;
-    let mut digits = Buffer::new();
-    let id = Text::copied(alloc, digits.format(post.id))?;
+    let args = number_argument(alloc, post.id)?;
+    Ok((title, args))
+}
+
+fn number_argument(alloc: Global, id: u32) -> Result<Listed<Text>, AllocError>
+    ensures { IfOk result (λ args. args ≡ decimal id ∷ []) }
+{
+    let id = Text::copied(alloc, Buffer::new().format(id))?;
     let mut args = Listed::empty(alloc);
     args.push(id)?;
-    Ok((title, args))
+    Ok(args)
 }

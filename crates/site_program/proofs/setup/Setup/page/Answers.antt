@@ -4,14 +4,14 @@ use Rattle.hook_machine.specs.Runs.{world_of}
 use Rattle.hook_machine.specs.Runs as runs
 use Rattle.template_parts.specs.Pages.{IsPage, IsRefusedBy}
 use Rattle.site_program.specs.Site.{engine_of, calls_of}
-use Rattle.site_program.proofs.Pages.{work_is}
+use Rattle.site_program.proofs.Pages.{work_is, page_forgone}
 use Rattle.site_program.proofs.setup.Setup.page.Goals as goal
 
 -- the plugins were not loaded, for want of memory
 pub returns-in_err-load-clause-err : goal.returns-in_err-load-clause-err
 returns-in_err-load-clause-err g c =
     let p = err_from_is_err_and c.from_residual-in_err-load.result c.from_residual-in_err-load.ensures.1 in
-    rw (p.1, p.2) (λ other. absurd (other (c.in_err-load.ensures.memory c.in_ok-run.ensures.sound)))
+    rw (p.1, p.2) (page_forgone (engine_of g.S.Stated.says g.S.Stated.number c.args.self.now) (calls_of c.args.self.now) c.args.found c.args.options.now c.args.templates.now c.args.active.now _ (c.in_err-load.ensures.memory c.in_ok-run.ensures.sound))
 
 -- the page is that of what was found
 pub returns-clause-ok : goal.returns-clause-ok

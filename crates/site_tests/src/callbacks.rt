@@ -3,7 +3,7 @@ ghost use Rattle.std.specs.Prelude.{◌≡◌, ◌+◌, ◌++◌, ◌∷◌, [],
 ghost use Rattle.hook_changes.specs.declared.reply.Change.{Change};
 ghost use Rattle.bundled_plugins.specs.Calls.{first_argument, answers_text, changes_and_answers, asks};
 ghost use Rattle.bundled_plugins.specs.Replies.{the_title};
-ghost use Rattle.plugin_tests.specs.Tested.{tested, told, asks_of_nothing, climbs, climbs_to_three};
+ghost use Rattle.site_tests.specs.Tested.{tested, told, asks_of_nothing, climbs, climbs_to_three};
 
 use callback_store::Stated;
 use hook_changes::{Answer, Ask, Call, CallbackId, Change, Listed, Reply, Text, Then};
