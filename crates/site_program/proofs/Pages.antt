@@ -22,10 +22,10 @@ use Rattle.site_program.specs.declared.fault.StoreFault.TheVariants as store
 
 module _ (engine : Engine) (calls : ℕ) (found : Found) (options templates : Texts) (active : List Text) where
   -- the work that the page went through is the page's work
-  pub work_is : (e ran : Engine) (settings : Settings) (f : Found) (begun world : World) → e ≡ engine → ran ≡ engine → settings ≡ settings_for found.kind options templates → f ≡ found → begun ≡ fresh calls options active
-      → world ≡ loaded ran.plugins begun → template.page_pass e settings f.posts world ≡ page_pass engine calls found options templates active
+  pub work_is : (e : Engine) (settings : Settings) (f : Found) (world : World) → e ≡ engine → settings ≡ settings_for found.kind options templates → f ≡ found
+      → world ≡ loaded engine.plugins (fresh calls options active) → template.page_pass e settings f.posts world ≡ page_pass engine calls found options templates active
   unfolding page_pass
-  work_is e ran settings f begun world e_is ran_is settings_are f_is begun_is world_is = rw (e_is, settings_are, f_is, world_is, ran_is, begun_is) refl
+  work_is e settings f world e_is settings_are f_is world_is = rw (e_is, settings_are, f_is, world_is) refl
 
   -- want of memory is no refusal of the page
   pub page_forgone : (why : RunFault) → why ≡ fault.OutOfMemory → IsRefusedBy (page_pass engine calls found options templates active) why

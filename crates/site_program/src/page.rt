@@ -1,5 +1,10 @@
 //! The pages of a site.
-ghost use Rattle.std.specs.Prelude.{◌≡◌, IfOk, OnErr, IfErr, false};
+ghost use Rattle.std.specs.Prelude.{◌≡◌, IfOk, OnErr, IfErr, None, false};
+ghost use Rattle.callback_store.specs.Shape.{shapes_of};
+ghost use Rattle.hook_machine.specs.World.{fresh, loaded};
+ghost use Rattle.hook_machine.specs.Ends.{engine_with};
+ghost use Rattle.hook_machine.specs.Runs.{world_of, fault_of};
+ghost use Rattle.hook_machine.specs.Runs as runs;
 ghost use Rattle.site_program.specs.Reply.{answer_of};
 ghost use Rattle.permalink_query.specs.Paths.{query_of};
 ghost use Rattle.permalink_query.specs.Found.{found};
@@ -10,7 +15,7 @@ use crate::fault::StoreFault;
 use crate::reply::{Refusal, SiteReply};
 use crate::settings::settings_for;
 use crate::setup::Setup;
-use callback_store::Stated;
+use callback_store::{Plugins, Stated};
 use hook_changes::Text;
 use hook_machine::{Run, RunFault};
 use permalink_query::{Found, find, read};
@@ -85,10 +90,29 @@ impl<'p, S: Stated> Setup<'p, S> {
         let Ok(settings) = settings_for(self.alloc, found.kind, options, templates) else {
             return Err(RunFault::OutOfMemory);
         };
-        let mut run = Run::new(self.alloc, self.plugins, active, options, self.calls)?;
-        run.load()?;
+        let run = loaded_run(self.alloc, self.plugins, active, options, self.calls)?;
         Page::begin(self.alloc, found, settings, run).finish()
     }
+}
+
+/// The run of a request, with the plugins loaded.
+fn loaded_run<'p, S: Stated>(
+    alloc: Global,
+    plugins: &'p Plugins<S>,
+    active: &[Text],
+    options: &[(Text, Text)],
+    calls: u32,
+) -> Result<Run<'p, S>, RunFault>
+    ensures loaded { IfOk result (λ run. world_of run ≡ loaded (shapes_of S.number plugins.entry.now)
+        (fresh calls options.now active.now)) }
+    ensures sound { IfOk result (λ run. fault_of run ≡ None) }
+    ensures engine { IfOk result (λ run. runs.engine_of S.says S.number run
+        ≡ engine_with S.says (shapes_of S.number plugins.entry.now)) }
+    ensures err { IfErr result (λ fault. fault ≡ RunFault.OutOfMemory) }
+{
+    let mut run = Run::new(alloc, plugins, active, options, calls)?;
+    run.load()?;
+    Ok(run)
 }
 
 /// What a path finds in a site with these options.

@@ -1,7 +1,7 @@
 //! Dates of posts.
 
-ghost use Rattle.std.specs.Prelude.{◌≡◌, ◌<◌, ◌≤◌, ◌^◌, is_some, length, IfSome, IsTrue, Ok};
-ghost use Rattle.site_records.specs.Dates.{number, is_day, is_clock, is_post_date};
+ghost use Rattle.std.specs.Prelude.{◌≡◌, ◌<◌, ◌≤◌, ◌^◌, is_some, length, slice_range, IfSome, IsTrue, Ok};
+ghost use Rattle.site_records.specs.Dates.{number, is_day, is_clock, has_marks, is_moment, is_post_date};
 
 use jiff::civil::Date;
 use std::alloc::AllocError;
@@ -41,6 +41,36 @@ fn is_clock(hour: u16, minute: u16, second: u16) -> bool
     hour < 24 && minute < 60 && second < 60
 }
 
+/// Whether the marks of a date stand in their places.
+fn has_marks(t: &[u8]) -> bool
+    requires { length t.now ≡ 19 }
+    ensures { result ≡ has_marks t.now }
+{
+    t[4] == b'-' && t[7] == b'-' && t[10] == b' ' && t[13] == b':' && t[16] == b':'
+}
+
+/// Whether the numbers between the marks are those of a day and a time.
+fn has_moment(t: &[u8]) -> bool
+    requires { length t.now ≡ 19 }
+    ensures { result ≡ is_moment
+        (number (slice_range t.now 0 4)) (number (slice_range t.now 5 7)) (number (slice_range t.now 8 10))
+        (number (slice_range t.now 11 13)) (number (slice_range t.now 14 16)) (number (slice_range t.now 17 19)) }
+{
+    match (
+        number(&t[0..4]),
+        number(&t[5..7]),
+        number(&t[8..10]),
+        number(&t[11..13]),
+        number(&t[14..16]),
+        number(&t[17..19]),
+    ) {
+        (Some(year), Some(month), Some(day), Some(hour), Some(minute), Some(second)) => {
+            is_real(year, month, day) && is_clock(hour, minute, second)
+        }
+        _ => false,
+    }
+}
+
 /// Whether the text is the date of a post.
 #[tactic(auto, unfolding(crate::specs::Dates::is_post_date))]
 fn is_post_date(text: &str) -> bool
@@ -48,34 +78,7 @@ fn is_post_date(text: &str) -> bool
     ensures whole { IsTrue result → length text.now ≡ 19 }
 {
     let t = text.as_bytes();
-    if t.len() != 19 {
-        return false;
-    }
-    if t[4] != b'-' || t[7] != b'-' || t[10] != b' ' || t[13] != b':' || t[16] != b':' {
-        return false;
-    }
-    let Some(year) = number(&t[0..4]) else {
-        return false;
-    };
-    let Some(month) = number(&t[5..7]) else {
-        return false;
-    };
-    let Some(day) = number(&t[8..10]) else {
-        return false;
-    };
-    let Some(hour) = number(&t[11..13]) else {
-        return false;
-    };
-    let Some(minute) = number(&t[14..16]) else {
-        return false;
-    };
-    let Some(second) = number(&t[17..19]) else {
-        return false;
-    };
-    if !is_real(year, month, day) {
-        return false;
-    }
-    is_clock(hour, minute, second)
+    t.len() == 19 && has_marks(t) && has_moment(t)
 }
 
 /// The date and time of a post, which contracts see as its 19 bytes: `YYYY-MM-DD HH:MM:SS`, as `2024-02-29 10:00:00`

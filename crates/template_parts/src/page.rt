@@ -1,5 +1,7 @@
 //! The page of a request.
-ghost use Rattle.std.specs.Prelude.{◌≡◌, None};
+ghost use Rattle.std.specs.Prelude.{◌≡◌, None, IfOk, IfErr};
+ghost use Rattle.hook_machine.specs.Runs.{world_of, fault_of, engine_of};
+ghost use Rattle.template_parts.specs.Pages.{page_pass, IsPage, IsRefusedBy};
 
 use crate::pages::print_page;
 use crate::settings::Settings;
@@ -20,10 +22,7 @@ pub struct Page<'p, S> {
 }
 
 impl<'p, S: Stated> Page<'p, S> {
-    ghost use Rattle.std.specs.Prelude.{IfOk, IfErr};
-    ghost use Rattle.hook_machine.specs.Runs.{world_of, fault_of, engine_of};
     ghost use Rattle.template_parts.specs.Page.{found_in, settings_in, run_in};
-    ghost use Rattle.template_parts.specs.Pages.{page_pass, IsPage, IsRefusedBy};
 
     /// A page over what was found. The run has loaded its plugins and done nothing else; this runs nothing.
     pub fn begin(alloc: Global, found: Found, settings: Settings, run: Run<'p, S>) -> Self
@@ -55,8 +54,25 @@ impl<'p, S: Stated> Page<'p, S> {
             settings,
             mut run,
         } = self;
-        print_page(alloc, &mut run, &settings, found.posts.as_slice())?;
-        let text = run.take_output()?;
-        Ok((found.status, text.into_string().into_bytes()))
+        printed(alloc, &mut run, &settings, &found)
     }
+}
+
+/// The status and the bytes of a page. What a page owns is given up by `finish` alone.
+fn printed<S: Stated>(
+    alloc: Global,
+    run: &mut Run<'_, S>,
+    settings: &Settings,
+    found: &Found,
+) -> Result<(u16, Vec<u8>), RunFault>
+    requires { fault_of run.old ≡ None }
+    ensures status { IfOk result (λ page. page.0 ≡ found.now.status) }
+    ensures bytes { IfOk result (λ page. IsPage (page_pass (engine_of S.says S.number run.old) settings.now
+        found.now.posts (world_of run.old)) page.1.items) }
+    ensures err { IfErr result (IsRefusedBy (page_pass (engine_of S.says S.number run.old) settings.now
+        found.now.posts (world_of run.old))) }
+{
+    print_page(alloc, run, settings, found.posts.as_slice())?;
+    let text = run.take_output()?;
+    Ok((found.status, text.into_string().into_bytes()))
 }

@@ -8,21 +8,20 @@ use Rattle.site_program.proofs.Pages.{work_is, page_forgone}
 use Rattle.site_program.proofs.setup.Setup.page.Goals as goal
 
 -- the plugins were not loaded, for want of memory
-pub returns-in_err-load-clause-err : goal.returns-in_err-load-clause-err
-returns-in_err-load-clause-err g c =
-    let p = err_from_is_err_and c.from_residual-in_err-load.result c.from_residual-in_err-load.ensures.1 in
-    rw (p.1, p.2) (page_forgone (engine_of g.S.Stated.says g.S.Stated.number c.args.self.now) (calls_of c.args.self.now) c.args.found c.args.options.now c.args.templates.now c.args.active.now _ (c.in_err-load.ensures.memory c.in_ok-run.ensures.sound))
+pub returns-in_err-run-clause-err : goal.returns-in_err-run-clause-err
+returns-in_err-run-clause-err g c =
+    let p = err_from_is_err_and c.from_residual.result c.from_residual.ensures.1 in
+    rw (p.1, p.2) (page_forgone (engine_of g.S.Stated.says g.S.Stated.number c.args.self.now) (calls_of c.args.self.now) c.args.found c.args.options.now c.args.templates.now c.args.active.now _ c.in_err-run.ensures.err)
 
 -- the page is that of what was found
 pub returns-clause-ok : goal.returns-clause-ok
 returns-clause-ok g c =
     let engine = engine_of g.S.Stated.says g.S.Stated.number c.args.self.now in
     let run = c.in_ok-run.ensures in
-    let load = c.in_ok-load.ensures in
     let begin = c.begin.ensures in
-    let same_engine = ap (runs.engine_of g.S.Stated.says g.S.Stated.number) begin.run ∙ load.engine ∙ run.engine in
+    let same_engine = ap (runs.engine_of g.S.Stated.says g.S.Stated.number) begin.run ∙ run.engine in
     let work =
-    work_is engine (calls_of c.args.self.now) c.args.found c.args.options.now c.args.templates.now c.args.active.now _ _ _ _ _ _ same_engine run.engine (begin.settings ∙ c.in-Ok.ensures) begin.found run.world (ap world_of begin.run ∙ load.loaded run.sound) in
+    work_is engine (calls_of c.args.self.now) c.args.found c.args.options.now c.args.templates.now c.args.active.now _ _ _ _ same_engine (begin.settings ∙ c.in-Ok.ensures) begin.found (ap world_of begin.run ∙ run.loaded) in
     subst (λ w. IfOk c.finish.result (λ page. IsPage w page.1.items)) work c.finish.ensures.bytes
 
 -- the page was refused as what was found
@@ -30,9 +29,8 @@ pub returns-clause-err : goal.returns-clause-err
 returns-clause-err g c =
     let engine = engine_of g.S.Stated.says g.S.Stated.number c.args.self.now in
     let run = c.in_ok-run.ensures in
-    let load = c.in_ok-load.ensures in
     let begin = c.begin.ensures in
-    let same_engine = ap (runs.engine_of g.S.Stated.says g.S.Stated.number) begin.run ∙ load.engine ∙ run.engine in
+    let same_engine = ap (runs.engine_of g.S.Stated.says g.S.Stated.number) begin.run ∙ run.engine in
     let work =
-    work_is engine (calls_of c.args.self.now) c.args.found c.args.options.now c.args.templates.now c.args.active.now _ _ _ _ _ _ same_engine run.engine (begin.settings ∙ c.in-Ok.ensures) begin.found run.world (ap world_of begin.run ∙ load.loaded run.sound) in
+    work_is engine (calls_of c.args.self.now) c.args.found c.args.options.now c.args.templates.now c.args.active.now _ _ _ _ same_engine (begin.settings ∙ c.in-Ok.ensures) begin.found (ap world_of begin.run ∙ run.loaded) in
     subst (λ w. IfErr c.finish.result (IsRefusedBy w)) work c.finish.ensures.err

@@ -1,0 +1,5 @@
+use Rattle.std.proofs.Common.{rules}
+use Rattle.shortcode_scan.proofs.part.Goals as goal
+
+pub returns : goal.returns
+returns c = search rules
