@@ -3,9 +3,9 @@
 
     bench/hooks/hooks.py
 
-It runs two proved programs, which `rt ci` builds (or `rt run` in their folders): crates/hook_bench for passes of a filter
-over 1 to 1,000 callbacks, at one priority and each at its own, and crates/site for the rest. What a pass takes is the
-difference between many passes and none; what a page takes is the difference between many requests of it and none.
+It runs two proved programs, which `rt ci` builds (or `rt run` in their folders): crates/engine_bench for passes of a
+filter over 1 to 1,000 callbacks, at one priority and each at its own, and crates/site for the rest. What a pass takes is
+the difference between many passes and none; what a page takes is the difference between many requests of it and none.
 Times are of the processor, and each figure is the best of several runs. Each output of the site is compared with what
 it must be, so a program that answers wrongly isn't timed.
 """
@@ -18,7 +18,7 @@ import tempfile
 from pathlib import Path
 
 CRATES = Path(__file__).resolve().parents[2] / "crates"
-PASSES = CRATES / "hook_bench" / "out" / "hook_bench"
+PASSES = CRATES / "engine_bench" / "out" / "engine_bench"
 SITE = CRATES / "site" / "out" / "site"
 RUNS = 7
 

@@ -1,1 +1,2 @@
+pub mod Echoing
 pub mod Tested

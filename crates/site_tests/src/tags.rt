@@ -54,15 +54,19 @@ fn are_listed(names: Result<Vec<TagName>, AllocError>, wanted: &[&str]) -> bool 
     }
 }
 
-/// Carries out steps over a new registry, and says whether each is answered so.
-fn are_answered(alloc: Global, steps: &[Step]) -> bool {
-    let mut registry = Registry::new(alloc);
+/// Carries out steps, and says whether each is answered so.
+fn all_answered(registry: &mut Registry, alloc: Global, steps: &[Step]) -> bool {
     for step in steps {
-        if !is_answered(&mut registry, alloc, *step) {
+        if !is_answered(registry, alloc, *step) {
             return false;
         }
     }
     true
+}
+
+/// The same over a new registry.
+fn are_answered(alloc: Global, steps: &[Step]) -> bool {
+    all_answered(&mut Registry::new(alloc), alloc, steps)
 }
 
 static PLACES: [Step; 7] = [

@@ -60,12 +60,13 @@ fn has_pairs(atts: &Atts, pairs: Pairs) -> bool {
 
 /// Whether the values without a name are these.
 fn has_values(atts: &Atts, values: &[&str]) -> bool {
-    for (found, value) in atts.positional().iter().zip(values) {
-        if found.as_str() != *value {
+    let found = atts.positional();
+    for at in 0..found.len() {
+        if at >= values.len() || found[at].as_str() != values[at] {
             return false;
         }
     }
-    atts.positional().len() == values.len()
+    found.len() == values.len()
 }
 
 /// Whether the attributes are these. Names are in lower case, so nothing stands under `C`.
@@ -73,13 +74,18 @@ fn are_spelled(atts: &Atts, spelled: &Spelled) -> bool {
     has_pairs(atts, spelled.1) && has_values(atts, spelled.2) && atts.named("C").is_none()
 }
 
+/// Whether a copy of the attributes is these.
+fn copy_is_spelled(atts: &Atts, spelled: &Spelled) -> bool {
+    match atts.clone() {
+        Ok(copy) => are_spelled(&copy, spelled),
+        Err(_) => false,
+    }
+}
+
 /// Whether a text spells these attributes, and a copy has them too.
 fn is_spelled(alloc: Global, spelled: &Spelled) -> bool {
-    let Ok(atts) = parse(alloc, spelled.0) else {
-        return false;
-    };
-    match atts.clone() {
-        Ok(copy) => are_spelled(&atts, spelled) && are_spelled(&copy, spelled),
+    match parse(alloc, spelled.0) {
+        Ok(atts) => are_spelled(&atts, spelled) && copy_is_spelled(&atts, spelled),
         Err(_) => false,
     }
 }
@@ -109,31 +115,26 @@ fn pairs_of(alloc: Global, pairs: Pairs) -> Result<Vec<(String, String)>, AllocE
     Ok(owned)
 }
 
-fn are_pairs(found: &[(String, String)], pairs: Pairs) -> bool {
-    for (pair, (name, value)) in found.iter().zip(pairs) {
-        if pair.0.as_str() != *name || pair.1.as_str() != *value {
-            return false;
-        }
-    }
-    found.len() == pairs.len()
+fn is_pair(pair: &(String, String), name: &str, value: &str) -> bool {
+    pair.0.as_str() == name && pair.1.as_str() == value
 }
 
-/// Whether the defaults and what a text spells give these pairs.
-fn is_over(alloc: Global, text: &str, defaults: Pairs, wanted: Pairs) -> bool {
-    let (Ok(atts), Ok(defaults)) = (parse(alloc, text), pairs_of(alloc, defaults)) else {
-        return false;
-    };
-    match atts.with_defaults(&defaults) {
-        Ok(found) => are_pairs(&found, wanted),
-        Err(_) => false,
-    }
+/// What a text spells, over defaults.
+fn over(alloc: Global, text: &str, defaults: Pairs) -> Result<Vec<(String, String)>, AllocError> {
+    let defaults = pairs_of(alloc, defaults)?;
+    parse(alloc, text)?.with_defaults(&defaults)
 }
 
 #[test]
-fn defaults_stand_in(rt: HostRuntime) {
-    let defaults = &[("href", "#"), ("label", "")];
-    let wanted = &[("href", "#"), ("label", "Home")];
-    assert!(rt; is_over(rt.alloc(), " label=Home x=1", defaults, wanted));
+fn defaults_stand_in(rt: HostRuntime) -> Result<(), AllocError> {
+    let found = over(
+        rt.alloc(),
+        " label=Home x=1",
+        &[("href", "#"), ("label", "")],
+    )?;
+    assert!(rt; found.len() == 2);
+    assert!(rt; is_pair(&found[0], "href", "#") && is_pair(&found[1], "label", "Home"));
+    Ok(())
 }
 
 #[test]

@@ -1,6 +1,6 @@
 //! Callbacks with stated replies, by a function and by a boxed closure.
 ghost use Rattle.std.specs.Prelude.{◌≡◌, Ok, IfOk};
-ghost use Rattle.hook_tests.specs.Echoing.{echoes};
+ghost use Rattle.site_tests.specs.Echoing.{echoes};
 
 use callback_store::{Plugin, Plugins, Stated};
 use hook_changes::{Atts, Call, CallbackId, Listed, Reply, Text, Then};
@@ -61,17 +61,27 @@ fn is_answer(reply: &Reply, wanted: &str) -> bool {
     }
 }
 
-/// Whether a callback is there and answers the content.
-pub fn answers<S: Stated>(alloc: Global, plugins: &Plugins<S>, number: u32) -> bool {
-    let id = CallbackId::new(number);
+/// Whether a callback is there and answers a call with this text and nothing else.
+fn answers_with<S: Stated>(
+    alloc: Global,
+    plugins: &Plugins<S>,
+    id: CallbackId,
+    call: &Call,
+    wanted: &str,
+) -> bool {
     if plugins.callback(id).is_none() {
         return false;
     }
-    let Ok(call) = call_with(alloc, "x") else {
-        return false;
-    };
-    match plugins.call(alloc, id, &call) {
-        Ok(reply) => is_answer(&reply, "x"),
+    match plugins.call(alloc, id, call) {
+        Ok(reply) => is_answer(&reply, wanted),
+        Err(_) => false,
+    }
+}
+
+/// Whether a callback is there and answers the content.
+pub fn answers<S: Stated>(alloc: Global, plugins: &Plugins<S>, number: u32) -> bool {
+    match call_with(alloc, "x") {
+        Ok(call) => answers_with(alloc, plugins, CallbackId::new(number), &call, "x"),
         Err(_) => false,
     }
 }

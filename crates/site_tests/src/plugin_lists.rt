@@ -1,5 +1,5 @@
 //! Lists of plugins: which are refused, and what is found in one.
-use crate::callbacks::{Echo, answers};
+use crate::echoes::{Echo, answers};
 use callback_store::{Plugin, PluginFault, Plugins, Stated};
 use hook_changes::{CallbackId, Change, Listed, Text};
 use itoa::Buffer;

@@ -68,18 +68,22 @@ fn are_entries(entries: &[Entry], wanted: &[(u32, u8)]) -> bool {
     entries.len() == wanted.len()
 }
 
-/// Carries out steps over a new registry, and says whether each is answered so.
-fn are_answered(alloc: Global, steps: &[Step]) -> bool {
-    let Ok(init) = HookName::read(alloc, "init") else {
-        return false;
-    };
-    let mut registry = Registry::new(alloc);
+/// Carries out steps, and says whether each is answered so.
+fn all_answered(registry: &mut Registry, init: &HookName, steps: &[Step]) -> bool {
     for step in steps {
-        if !is_answered(&mut registry, &init, *step) {
+        if !is_answered(registry, init, *step) {
             return false;
         }
     }
     true
+}
+
+/// The same over a new registry.
+fn are_answered(alloc: Global, steps: &[Step]) -> bool {
+    match HookName::read(alloc, "init") {
+        Ok(init) => all_answered(&mut Registry::new(alloc), &init, steps),
+        Err(_) => false,
+    }
 }
 
 static GROUPS: [Step; 7] = [

@@ -1,5 +1,5 @@
 // The callbacks that are timed.
-ghost use Rattle.hook_bench.specs.Kept.{kept};
+ghost use Rattle.engine_bench.specs.Kept.{kept};
 
 use callback_store::Stated;
 use hook_changes::{Call, CallbackId, Listed, Reply, Text, Then};

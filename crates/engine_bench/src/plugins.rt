@@ -22,13 +22,6 @@ pub enum Spread {
 }
 
 impl Spread {
-    pub fn name(self) -> &'static str {
-        match self {
-            Spread::One => "one",
-            Spread::Many => "many",
-        }
-    }
-
     fn priority(self, number: u16) -> i32 {
         match self {
             Spread::One => 10,
