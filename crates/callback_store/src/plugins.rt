@@ -79,19 +79,12 @@ impl<S: Stated> Plugins<S> {
         ensures no_fault { IfOk result (λ plugins. fault_of (map (shape_of S.number) list) ≡ None) }
         ensures fault { IfErr result (λ fault. fault ≢ PluginFault.OutOfMemory → fault_of (map (shape_of S.number) list) ≡ Some fault) }
     {
-        if are_too_many(list.as_slice()) {
-            return Err(PluginFault::TooMany);
-        }
-        if has_bad_name(list.as_slice()) {
-            return Err(PluginFault::BadName);
-        }
-        if has_same_name(list.as_slice()) {
-            return Err(PluginFault::SameName);
-        }
-        match has_same_callback(alloc, list.as_slice()) {
-            Ok(false) => with_places(alloc, sorted_by_name(list)),
-            Ok(true) => Err(PluginFault::SameCallback),
-            Err(AllocError) => Err(PluginFault::OutOfMemory),
+        match without_fault(alloc, list.as_slice()) {
+            Ok(()) => with_places(alloc, sorted_by_name(list)),
+            Err(fault) => {
+                drop(list);
+                Err(fault)
+            }
         }
     }
 
@@ -191,6 +184,27 @@ impl<S: Stated> Plugins<S> {
     }
 }
 
+/// Refuses a list by its first fault.
+fn without_fault<S: Stated>(alloc: Global, list: &[Plugin<S>]) -> Result<(), PluginFault>
+    ensures no_fault { OnOk result (fault_of (map (shape_of S.number) list.now) ≡ None) }
+    ensures fault { IfErr result (λ fault. fault ≢ PluginFault.OutOfMemory → fault_of (map (shape_of S.number) list.now) ≡ Some fault) }
+{
+    if are_too_many(list) {
+        return Err(PluginFault::TooMany);
+    }
+    if has_bad_name(list) {
+        return Err(PluginFault::BadName);
+    }
+    if has_same_name(list) {
+        return Err(PluginFault::SameName);
+    }
+    match has_same_callback(alloc, list) {
+        Ok(false) => Ok(()),
+        Ok(true) => Err(PluginFault::SameCallback),
+        Err(AllocError) => Err(PluginFault::OutOfMemory),
+    }
+}
+
 fn are_too_many<S: Stated>(list: &[Plugin<S>]) -> bool
     ensures { result ≡ nat_lt 64 (length list.now) || list_any (λ p. is_large (shape_of S.number p)) list.now }
 {
@@ -282,7 +296,10 @@ fn with_places<S: Stated>(alloc: Global, list: Listed<Plugin<S>>) -> Result<Plug
 {
     match places_of(alloc, list.as_slice()) {
         Ok(places) => Ok(Plugins { list, places }),
-        Err(AllocError) => Err(PluginFault::OutOfMemory),
+        Err(AllocError) => {
+            drop(list);
+            Err(PluginFault::OutOfMemory)
+        }
     }
 }
 

@@ -7,6 +7,7 @@ mod fault;
 mod laws;
 mod machine;
 mod pass;
+mod pieces;
 mod run;
 mod state;
 mod worked;

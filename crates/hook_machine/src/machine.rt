@@ -1,26 +1,25 @@
 // Passes, invocations, asks and shortcodes, which run one another: each invocation takes one of the calls that are
 // left, and so their recursion ends.
-ghost use Rattle.std.specs.Prelude.{◌≡◌, ◌≤◌, ◌<◌, ◌==◌, ◌++◌, ◌&&◌, ◌∷◌, [], false, Err, IfOk, IfErr, OnOk, None};
+ghost use Rattle.std.specs.Prelude.{◌≡◌, ◌≤◌, ◌<◌, ◌==◌, ◌++◌, ◌∷◌, [], false, Err, IfOk, IfErr, OnOk, None};
 ghost use Rattle.std.specs.List.{AllByRecursion};
 ghost use Rattle.callback_store.specs.Shape.{shapes_of};
 ghost use Rattle.hook_registry.specs.Table.{next_priority};
-ghost use Rattle.shortcode_scan.specs.Spans.{HasSpansOf, IsSpanOf, unescaped};
-ghost use Rattle.hook_machine.specs.Meaning.{handler_call, bracket, group_pass, priorities_pass, pass, filter_pass, action_pass, piece_pass, pieces_pass, shortcodes_pass, answered, follow, first_or_empty, said, invoke};
+ghost use Rattle.shortcode_scan.specs.Spans.{HasSpansOf};
+ghost use Rattle.hook_machine.specs.Meaning.{deeper, group_pass, priorities_pass, pass, filter_pass, action_pass, pieces_pass, shortcodes_pass, answered, follow, first_or_empty, said, invoke};
+ghost use Rattle.hook_changes.specs.declared.reply.Ask.TheVariants.{Apply, Act};
 ghost use Rattle.hook_machine.specs.Trace.{end_of};
 ghost use Rattle.hook_machine.specs.Ends.{Ends, engine_with};
+ghost use Rattle.hook_machine.specs.Works.{work_pass};
 
 use crate::fault::RunFault;
 use crate::pass::{PassKind, call_of_hook, kept};
+use crate::pieces::{Work, with_extras, work_of_piece};
 use crate::state::State;
 use callback_store::{Plugins, Stated};
 use hook_changes::{Answer, Ask, Call, CallbackId, HookName, Listed, NameFault, Reply, Text, Then};
 use hook_registry::Entry;
-use shortcode_atts::parse;
-use shortcode_scan::{Piece, Span, part};
+use shortcode_scan::Piece;
 use std::alloc::{AllocError, Global};
-
-/// How deep asks may lie within one another.
-const DEEPEST: u32 = 32;
 
 /// Invokes the entries of a group, one after another.
 #[cycle(machine)]
@@ -122,113 +121,39 @@ pub fn run_action<S: Stated>(
     ensures ends { Ends (action_pass (invoke (engine_with S.says (shapes_of S.number plugins.now))) state.old hook.now args.now) result state.new }
     ensures fewer { state.new.calls ≤ state.old.calls }
 {
-    let nothing = Text::empty(state.alloc());
     match HookName::read(state.alloc(), hook) {
         Ok(hook) => {
             state.fire(&hook)?;
+            let nothing = Text::empty(state.alloc());
             run_pass(plugins, state, PassKind::Action, &hook, nothing, args)
         }
-        Err(NameFault::BadName) => Ok(nothing),
+        Err(NameFault::BadName) => Ok(Text::empty(state.alloc())),
         Err(NameFault::OutOfMemory) => Err(RunFault::OutOfMemory),
     }
 }
 
-/// The call of a shortcode's handler.
-fn call_of_handler(
-    alloc: Global,
-    text: &str,
-    name: Span,
-    atts: Span,
-    content: Span,
-) -> Result<Call, AllocError>
-    requires name { IsSpanOf text.now name }
-    requires atts { IsSpanOf text.now atts }
-    requires content { IsSpanOf text.now content }
-    ensures { IfOk result (λ call. call ≡ handler_call text.now name atts content) }
-{
-    let tag = Text::copied(alloc, part(text, name))?;
-    let atts = parse(alloc, part(text, atts))?;
-    let content = Text::copied(alloc, part(text, content))?;
-    Ok(Call {
-        hook: Text::empty(alloc),
-        args: Listed::empty(alloc),
-        tag,
-        atts,
-        content,
-        answers: Listed::empty(alloc),
-    })
-}
-
-/// A handler's answer with the match's extra brackets.
-fn with_extras(
-    alloc: Global,
-    opening: bool,
-    answer: &Text,
-    closing: bool,
-) -> Result<Text, AllocError>
-    ensures { IfOk result (λ text. text ≡ bracket opening 91 ++ answer.now ++ bracket closing 93) }
-{
-    let mut text = Text::empty(alloc);
-    if opening {
-        text.push_str("[")?;
-    }
-    text.push_str(answer.as_str())?;
-    if closing {
-        text.push_str("]")?;
-    }
-    Ok(text)
-}
-
-/// Whether a match is escaped, by an extra bracket at both ends.
-fn is_escaped(opening_extra: bool, closing_extra: bool) -> bool
-    ensures { result ≡ opening_extra && closing_extra }
-{
-    opening_extra && closing_extra
-}
-
-/// A match without its first and last byte.
-fn without_brackets(whole: Span) -> Span
-    requires { whole.start < whole.end }
-    ensures { result ≡ unescaped whole }
-{
-    Span {
-        start: whole.start + 1,
-        end: whole.end - 1,
-    }
-}
-
-/// What stands in place of a piece.
+/// What stands in place of a piece, by the work that it takes.
 #[cycle(machine)]
-fn run_piece<S: Stated>(
+fn run_work<S: Stated>(
     plugins: &Plugins<S>,
     state: &mut State,
-    text: &str,
-    piece: &Piece,
+    work: Work,
 ) -> Result<Text, RunFault>
-    requires { HasSpansOf text.now piece.now }
-    ensures ends { Ends (piece_pass (invoke (engine_with S.says (shapes_of S.number plugins.now))) text.now state.old piece.now) result state.new }
+    ensures ends { Ends (work_pass (invoke (engine_with S.says (shapes_of S.number plugins.now))) state.old work) result state.new }
     ensures fewer { state.new.calls ≤ state.old.calls }
 {
-    match *piece {
-        Piece::Plain(span) => Ok(Text::copied(state.alloc(), part(text, span))?),
-        Piece::Match {
-            whole,
-            name,
-            atts,
-            content,
-            opening_extra,
-            closing_extra,
+    match work {
+        Work::Shown(text) => Ok(text),
+        Work::Handled {
+            handler,
+            call,
+            opening,
+            closing,
         } => {
-            if is_escaped(opening_extra, closing_extra) {
-                let shown = part(text, without_brackets(whole));
-                return Ok(Text::copied(state.alloc(), shown)?);
-            }
-            let Some(handler) = state.handler(part(text, name)) else {
-                return Ok(Text::copied(state.alloc(), part(text, whole))?);
-            };
-            let call = call_of_handler(state.alloc(), text, name, atts, content)?;
             let answer = invoke(plugins, state, handler, call)?;
-            Ok(with_extras(state.alloc(), opening_extra, &answer, closing_extra)?)
+            let shown = with_extras(state.alloc(), opening, &answer, closing);
+            drop(answer);
+            Ok(shown?)
         }
     }
 }
@@ -247,7 +172,8 @@ fn run_pieces<S: Stated>(
 {
     let mut so_far = Text::empty(state.alloc());
     for piece in pieces {
-        let shown = run_piece(plugins, state, text, piece)?;
+        let work = work_of_piece(state, text, piece)?;
+        let shown = run_work(plugins, state, work)?;
         so_far.push_str(shown.as_str())?;
     }
     Ok(so_far)
@@ -267,60 +193,84 @@ pub fn run_shortcodes<S: Stated>(
     run_pieces(plugins, state, text, pieces.as_slice())
 }
 
+/// The answer to an ask for a filter pass, which runs one level deeper.
+#[cycle(machine)]
+fn answer_apply<S: Stated>(
+    plugins: &Plugins<S>,
+    state: &mut State,
+    hook: &str,
+    value: &Text,
+    args: &Listed<Text>,
+) -> Result<Answer, RunFault>
+    ensures ends { Ends (answered (invoke (engine_with S.says (shapes_of S.number plugins.now))) state.old (Apply hook.now value.now args.now)) result state.new }
+    ensures fewer { state.new.calls ≤ state.old.calls }
+{
+    state.deepen()?;
+    let value = value.clone()?;
+    let text = run_filter(plugins, state, hook, value, args)?;
+    state.rise();
+    Ok(Answer::Text(text))
+}
+
+/// The answer to an ask for an action pass, which runs one level deeper.
+#[cycle(machine)]
+fn answer_act<S: Stated>(
+    plugins: &Plugins<S>,
+    state: &mut State,
+    hook: &str,
+    args: &Listed<Text>,
+) -> Result<Answer, RunFault>
+    ensures ends { Ends (answered (invoke (engine_with S.says (shapes_of S.number plugins.now))) state.old (Act hook.now args.now)) result state.new }
+    ensures fewer { state.new.calls ≤ state.old.calls }
+{
+    state.deepen()?;
+    let _nothing = run_action(plugins, state, hook, args)?;
+    state.rise();
+    Ok(Answer::Nothing)
+}
+
+/// A text with its shortcodes replaced one level deeper.
+#[cycle(machine)]
+fn run_shortcodes_deeper<S: Stated>(
+    plugins: &Plugins<S>,
+    state: &mut State,
+    text: &str,
+) -> Result<Text, RunFault>
+    ensures ends { Ends (deeper state.old (λ inside. shortcodes_pass (invoke (engine_with S.says (shapes_of S.number plugins.now))) inside text.now)) result state.new }
+    ensures fewer { state.new.calls ≤ state.old.calls }
+{
+    state.deepen()?;
+    let replaced = run_shortcodes(plugins, state, text)?;
+    state.rise();
+    Ok(replaced)
+}
+
 /// The answer to an ask.
 #[cycle(machine)]
 fn answer_ask<S: Stated>(
     plugins: &Plugins<S>,
     state: &mut State,
-    ask: Ask,
+    ask: &Ask,
 ) -> Result<Answer, RunFault>
-    ensures ends { Ends (answered (invoke (engine_with S.says (shapes_of S.number plugins.now))) state.old ask) result state.new }
+    ensures ends { Ends (answered (invoke (engine_with S.says (shapes_of S.number plugins.now))) state.old ask.now) result state.new }
     ensures fewer { state.new.calls ≤ state.old.calls }
 {
     match ask {
         Ask::Apply { hook, value, args } => {
-            if state.depth() >= DEEPEST {
-                return Err(RunFault::TooDeep);
-            }
-            state.deepen();
-            let text = run_filter(plugins, state, hook.as_str(), value, &args)?;
-            state.rise();
-            Ok(Answer::Text(text))
+            answer_apply(plugins, state, hook.as_str(), value, args)
         }
-        Ask::Act { hook, args } => {
-            if state.depth() >= DEEPEST {
-                return Err(RunFault::TooDeep);
-            }
-            state.deepen();
-            let _nothing = run_action(plugins, state, hook.as_str(), &args)?;
-            state.rise();
-            Ok(Answer::Nothing)
-        }
+        Ask::Act { hook, args } => answer_act(plugins, state, hook.as_str(), args),
         Ask::Shortcodes { text } => {
-            if state.depth() >= DEEPEST {
-                return Err(RunFault::TooDeep);
-            }
-            state.deepen();
-            let text = run_shortcodes(plugins, state, text.as_str())?;
-            state.rise();
-            Ok(Answer::Text(text))
+            let replaced = run_shortcodes_deeper(plugins, state, text.as_str())?;
+            Ok(Answer::Text(replaced))
         }
         Ask::Did { hook } => Ok(state.did(hook.as_str())),
         Ask::Current => Ok(state.current()?),
         Ask::Doing { hook } => Ok(Answer::Flag(state.doing(hook.as_str()))),
-        Ask::Has { hook, callback } => Ok(state.has(hook.as_str(), callback)),
+        Ask::Has { hook, callback } => Ok(state.has(hook.as_str(), *callback)),
         Ask::TagExists { tag } => Ok(Answer::Flag(state.tag_exists(tag.as_str()))),
         Ask::GetOption { name } => Ok(state.option(name.as_str())?),
     }
-}
-
-/// The call with one more answer.
-fn with_answer(call: Call, answer: Answer) -> Result<Call, AllocError>
-    ensures { IfOk result (λ next. next ≡ record call { answers = call.answers ++ answer ∷ [] }) }
-{
-    let mut call = call;
-    call.answers.push(answer)?;
-    Ok(call)
 }
 
 /// The reply of a callback; a number that no plugin has says nothing.
@@ -364,18 +314,16 @@ fn invoke_core<S: Stated>(
     ensures ends { Ends (invoke (engine_with S.says (shapes_of S.number plugins.now)) state.old callback call.now) result state.new }
     ensures fewer { state.new.calls ≤ state.old.calls }
 {
-    if state.calls() == 0 {
-        return Err(RunFault::TooManyCalls);
-    }
-    state.take_call();
-    if state.depth() >= DEEPEST {
-        return Err(RunFault::TooDeep);
-    }
+    state.take_call()?;
     let text = first_argument(state.alloc(), call)?;
-    state.deepen();
-    let replaced = run_shortcodes(plugins, state, text.as_str())?;
-    state.rise();
-    Ok(replaced)
+    run_shortcodes_deeper(plugins, state, text.as_str())
+}
+
+/// How a callback goes on.
+fn next_of(reply: Reply) -> Then
+    ensures { result ≡ reply.next }
+{
+    reply.next
 }
 
 /// Takes a call for a plugin's callback, and carries out what it replies: how it goes on is left.
@@ -392,16 +340,71 @@ fn take_reply<S: Stated>(
     ensures taken { OnOk result (state.new.calls < state.old.calls) }
     ensures fewer { state.new.calls ≤ state.old.calls }
 {
-    if state.calls() == 0 {
-        return Err(RunFault::TooManyCalls);
-    }
-    state.take_call();
+    state.take_call()?;
     let reply = reply_of(plugins, state.alloc(), callback, call)?;
-    state.carry_out(plugins, &reply)?;
-    Ok(reply.next)
+    match state.carry_out(plugins, &reply) {
+        Ok(()) => Ok(next_of(reply)),
+        Err(AllocError) => {
+            drop(reply);
+            Err(RunFault::OutOfMemory)
+        }
+    }
 }
 
-/// Invokes a callback, and invokes it again with each answer to what it asks.
+/// Hands a call one more answer.
+fn add_answer(call: &mut Call, answer: Answer) -> Result<(), AllocError>
+    ensures { OnOk result (call.new ≡ record call.old { answers = call.old.answers ++ answer ∷ [] }) }
+{
+    call.answers.push(answer)?;
+    Ok(())
+}
+
+/// Takes a call once more, with the answer to what the callback asked behind the others.
+fn take_reply_to<S: Stated>(
+    plugins: &Plugins<S>,
+    state: &mut State,
+    callback: CallbackId,
+    call: &mut Call,
+    answer: Answer,
+) -> Result<Then, RunFault>
+    requires { (callback == 0) ≡ false }
+    ensures goes_on { IfOk result (λ next. end_of (invoke (engine_with S.says (shapes_of S.number plugins.now)) state.old callback (record call.old { answers = call.old.answers ++ answer ∷ [] }))
+        ≡ end_of (follow (invoke (engine_with S.says (shapes_of S.number plugins.now))) state.new callback call.new next)) }
+    ensures fault { IfErr result (λ fault. Ends (invoke (engine_with S.says (shapes_of S.number plugins.now)) state.old callback (record call.old { answers = call.old.answers ++ answer ∷ [] })) (Err fault) state.new) }
+    ensures fewer { state.new.calls ≤ state.old.calls }
+    ensures taken { OnOk result (state.new.calls < state.old.calls) }
+{
+    add_answer(call, answer)?;
+    take_reply(plugins, state, callback, call)
+}
+
+/// Invokes a plugin's callback, and invokes it again with each answer to what it asks. The call is lent by its owner,
+/// which gives it up in one place.
+#[cycle(machine)]
+fn invoke_lent<S: Stated>(
+    plugins: &Plugins<S>,
+    state: &mut State,
+    callback: CallbackId,
+    call: &mut Call,
+) -> Result<Text, RunFault>
+    requires { (callback == 0) ≡ false }
+    ensures ends { Ends (invoke (engine_with S.says (shapes_of S.number plugins.now)) state.old callback call.old) result state.new }
+    ensures fewer { state.new.calls ≤ state.old.calls }
+{
+    let mut next = take_reply(plugins, state, callback, call)?;
+    'asks: loop {
+        match next {
+            Then::Answer(text) => return Ok(text),
+            Then::Ask(ask) => {
+                let answer = answer_ask(plugins, state, &ask);
+                drop(ask);
+                next = take_reply_to(plugins, state, callback, call, answer?)?;
+            }
+        }
+    }
+}
+
+/// Invokes a callback.
 #[cycle(machine)]
 fn invoke<S: Stated>(
     plugins: &Plugins<S>,
@@ -412,19 +415,12 @@ fn invoke<S: Stated>(
     ensures ends { Ends (invoke (engine_with S.says (shapes_of S.number plugins.now)) state.old callback call) result state.new }
     ensures fewer { state.new.calls ≤ state.old.calls }
 {
-    if callback.number() == 0 {
-        return invoke_core(plugins, state, callback, &call);
-    }
     let mut call = call;
-    let mut next = take_reply(plugins, state, callback, &call)?;
-    'asks: loop {
-        match next {
-            Then::Answer(text) => return Ok(text),
-            Then::Ask(ask) => {
-                let answer = answer_ask(plugins, state, ask)?;
-                call = with_answer(call, answer)?;
-                next = take_reply(plugins, state, callback, &call)?;
-            }
-        }
-    }
+    let result = if callback.number() == 0 {
+        invoke_core(plugins, state, callback, &call)
+    } else {
+        invoke_lent(plugins, state, callback, &mut call)
+    };
+    drop(call);
+    result
 }

@@ -1,54 +1,75 @@
-use Rattle.std.proofs.Common.{[], ◌++◌, ◌-◌, None, Ok, Err, refl, sym, ap, ◌∙◌, arith, eq-eqb}
+use Rattle.std.proofs.Common.{[], ◌++◌, ◌-◌, None, Err, refl, sym, ap, subst, ◌∙◌, ◌∷◌, eq-eqb}
 use Rattle.std.proofs.lemmas.Result.{err_from_is_err_and}
 use Rattle.callback_store.specs.Shape.{shapes_of}
 use Rattle.hook_registry.specs.Table.{next_priority}
-use Rattle.hook_machine.specs.declared.fault.RunFault.TheVariants.{TooDeep}
-use Rattle.hook_machine.specs.World.{World}
+use Rattle.hook_changes.specs.declared.reply.Ask.TheVariants.{Apply, Act, Shortcodes}
+use Rattle.hook_machine.specs.World.{Text}
 use Rattle.hook_machine.specs.Trace.{end_of}
-use Rattle.hook_machine.specs.Meaning.{first_or_empty, group_pass, priorities_pass, pieces_pass, follow, invoke}
-use Rattle.hook_machine.specs.Ends.{engine_with}
+use Rattle.hook_machine.specs.Meaning.{group_pass, priorities_pass, pieces_pass, shortcodes_pass, answered, follow, invoke}
+use Rattle.hook_machine.specs.Ends.{Ends, engine_with}
 use Rattle.hook_changes.specs.declared.reply.Then.TheVariants as next
-use Rattle.hook_machine.proofs.Ending.{ends_alike, follow_asked, apply_beyond, apply_on, apply_err, act_beyond, act_on, act_err, shortcodes_beyond, shortcodes_on, shortcodes_err, did_on, current_on, doing_on, has_on, tag_on, option_on, follow_err, follow_answer, invoke_none, core_ends, core_beyond, core_err, core_on, not_false, ok_not_err, none_of, action_on, action_unnamed, filter_on, filter_unnamed, group_err, group_on, group_done, pass_err, pass_on, priorities_out, priorities_fault, priorities_step, priorities_done, piece_plain, piece_escaped, piece_unhandled, match_err, match_on, pieces_err, pieces_on, pieces_done, scan_on}
+use Rattle.hook_machine.proofs.Ending.{ends_alike, fewer_after, less_after, follow_asked, apply_refused, apply_on, apply_err, act_refused, act_on, act_err, shortcodes_on, shortcodes_err, did_on, current_on, doing_on, has_on, tag_on, option_on, follow_err, follow_answer, invoke_refused, core_ends, deep_refused, deep_on, deep_err, not_false, ok_not_err, none_of, action_on, action_unnamed, filter_on, filter_unnamed, group_err, group_on, group_done, pass_err, pass_on, priorities_out, priorities_fault, priorities_step, priorities_done, work_err, work_on, pieces_err, pieces_on, pieces_done, scan_on}
 use Rattle.hook_machine.proofs.machine.+machine.Goals as goal
 
-pub answer_ask-returns-then-depth-ge-DEEPEST-clause-ends : goal.answer_ask-returns-then-depth-ge-DEEPEST-clause-ends
-answer_ask-returns-then-depth-ge-DEEPEST-clause-ends g t c =
-    rw c.in-Apply.is (apply_beyond (invoke (engine_with g.S.Stated.says (shapes_of g.S.Stated.number c.args.plugins.now))) c.args.state.now c.in-Apply.hook c.in-Apply.hook c.in-Apply.value c.in-Apply.args refl (omega arith))
-
-pub answer_ask-returns-in_err-text-in-Apply-clause-ends : goal.answer_ask-returns-in_err-text-in-Apply-clause-ends
-answer_ask-returns-in_err-text-in-Apply-clause-ends g t c =
+pub answer_apply-returns-in_err-deepen-clause-ends : goal.answer_apply-returns-in_err-deepen-clause-ends
+answer_apply-returns-in_err-deepen-clause-ends g t c =
     let p = err_from_is_err_and c.from_residual.result c.from_residual.ensures.1 in
-    rw (c.in-Apply.is, p.1, p.2) (apply_err (invoke (engine_with g.S.Stated.says (shapes_of g.S.Stated.number c.args.plugins.now))) c.args.state.now c.in-Apply.hook c.as_str.result.now c.in-Apply.value c.in-Apply.args c.as_str.ensures c.deepen.new.self (omega arith) c.deepen.ensures _ _ c.in_err-text-in-Apply.ensures.ends)
+    rw (p.1, p.2) (apply_refused (invoke (engine_with g.S.Stated.says (shapes_of g.S.Stated.number c.args.plugins.now))) c.args.state.now c.args.hook.now c.args.value.now c.args.args.now c.in_err-deepen.field-0.0 c.deepen.new.self c.in_err-deepen.ensures.beyond c.in_err-deepen.ensures.fault)
 
-pub answer_ask-returns-then-depth-ge-DEEPEST-2-clause-ends : goal.answer_ask-returns-then-depth-ge-DEEPEST-2-clause-ends
-answer_ask-returns-then-depth-ge-DEEPEST-2-clause-ends g t c =
-    rw c.in-Act.is (act_beyond (invoke (engine_with g.S.Stated.says (shapes_of g.S.Stated.number c.args.plugins.now))) c.args.state.now c.in-Act.hook c.in-Act.hook [] c.in-Act.args refl (omega arith))
+pub answer_apply-returns-in_err-text-clause-ends : goal.answer_apply-returns-in_err-text-clause-ends
+answer_apply-returns-in_err-text-clause-ends g t c =
+    let p = err_from_is_err_and c.from_residual-in_err-text.result c.from_residual-in_err-text.ensures.1 in
+    rw (p.1, p.2) (apply_err (invoke (engine_with g.S.Stated.says (shapes_of g.S.Stated.number c.args.plugins.now))) c.args.state.now c.args.hook.now c.args.value.now c.args.args.now c.deepen.new.self c.in_ok-deepen.ensures.within c.in_ok-deepen.ensures.ok c.in_ok-value.value c.in_ok-value.ensures _ _ c.in_err-text.ensures.ends)
 
-pub answer_ask-returns-in_err-_nothing-in-Act-clause-ends : goal.answer_ask-returns-in_err-_nothing-in-Act-clause-ends
-answer_ask-returns-in_err-_nothing-in-Act-clause-ends g t c =
-    let p = err_from_is_err_and c.from_residual-in_err-_nothing-in-Act.result c.from_residual-in_err-_nothing-in-Act.ensures.1 in
-    rw (c.in-Act.is, p.1, p.2) (act_err (invoke (engine_with g.S.Stated.says (shapes_of g.S.Stated.number c.args.plugins.now))) c.args.state.now c.in-Act.hook c.as_str-in-Act.result.now [] c.in-Act.args c.as_str-in-Act.ensures c.deepen-in-Act.new.self (omega arith) c.deepen-in-Act.ensures _ _ c.in_err-_nothing-in-Act.ensures.ends)
+pub answer_apply-returns-clause-ends : goal.answer_apply-returns-clause-ends
+answer_apply-returns-clause-ends g t c =
+    rw c.rise.ensures (apply_on (invoke (engine_with g.S.Stated.says (shapes_of g.S.Stated.number c.args.plugins.now))) c.args.state.now c.args.hook.now c.args.value.now c.args.args.now c.deepen.new.self c.in_ok-deepen.ensures.within c.in_ok-deepen.ensures.ok c.in_ok-value.value c.in_ok-value.ensures _ _ c.in_ok-text.ensures.ends)
 
-pub answer_ask-returns-then-depth-ge-DEEPEST-3-clause-ends : goal.answer_ask-returns-then-depth-ge-DEEPEST-3-clause-ends
-answer_ask-returns-then-depth-ge-DEEPEST-3-clause-ends g t c =
-    rw c.in-Shortcodes.is (shortcodes_beyond (invoke (engine_with g.S.Stated.says (shapes_of g.S.Stated.number c.args.plugins.now))) c.args.state.now c.in-Shortcodes.text c.in-Shortcodes.text [] [] refl (omega arith))
+pub answer_act-returns-in_err-deepen-clause-ends : goal.answer_act-returns-in_err-deepen-clause-ends
+answer_act-returns-in_err-deepen-clause-ends g t c =
+    let p = err_from_is_err_and c.from_residual.result c.from_residual.ensures.1 in
+    rw (p.1, p.2) (act_refused (invoke (engine_with g.S.Stated.says (shapes_of g.S.Stated.number c.args.plugins.now))) c.args.state.now c.args.hook.now [] c.args.args.now c.in_err-deepen.field-0.0 c.deepen.new.self c.in_err-deepen.ensures.beyond c.in_err-deepen.ensures.fault)
 
-pub answer_ask-returns-in_err-text-in-Shortcodes-clause-ends : goal.answer_ask-returns-in_err-text-in-Shortcodes-clause-ends
-answer_ask-returns-in_err-text-in-Shortcodes-clause-ends g t c =
-    let p = err_from_is_err_and c.from_residual-in_err-text-in-Shortcodes.result c.from_residual-in_err-text-in-Shortcodes.ensures.1 in
-    rw (c.in-Shortcodes.is, p.1, p.2) (shortcodes_err (invoke (engine_with g.S.Stated.says (shapes_of g.S.Stated.number c.args.plugins.now))) c.args.state.now c.in-Shortcodes.text c.as_str-in-Shortcodes.result.now [] [] c.as_str-in-Shortcodes.ensures c.deepen-in-Shortcodes.new.self (omega arith) c.deepen-in-Shortcodes.ensures _ _ c.in_err-text-in-Shortcodes.ensures.ends)
+pub answer_act-returns-in_err-_nothing-clause-ends : goal.answer_act-returns-in_err-_nothing-clause-ends
+answer_act-returns-in_err-_nothing-clause-ends g t c =
+    let p = err_from_is_err_and c.from_residual-in_err-_nothing.result c.from_residual-in_err-_nothing.ensures.1 in
+    rw (p.1, p.2) (act_err (invoke (engine_with g.S.Stated.says (shapes_of g.S.Stated.number c.args.plugins.now))) c.args.state.now c.args.hook.now [] c.args.args.now c.deepen.new.self c.in_ok-deepen.ensures.within c.in_ok-deepen.ensures.ok _ _ c.in_err-_nothing.ensures.ends)
 
-pub answer_ask-returns-in_ok-text-in-Apply-clause-ends : goal.answer_ask-returns-in_ok-text-in-Apply-clause-ends
-answer_ask-returns-in_ok-text-in-Apply-clause-ends g t c =
-    rw (c.in-Apply.is, c.rise.ensures) (apply_on (invoke (engine_with g.S.Stated.says (shapes_of g.S.Stated.number c.args.plugins.now))) c.args.state.now c.in-Apply.hook c.as_str.result.now c.in-Apply.value c.in-Apply.args c.as_str.ensures c.deepen.new.self (omega arith) c.deepen.ensures _ _ c.in_ok-text-in-Apply.ensures.ends)
+pub answer_act-returns-clause-ends : goal.answer_act-returns-clause-ends
+answer_act-returns-clause-ends g t c =
+    rw c.rise.ensures (act_on (invoke (engine_with g.S.Stated.says (shapes_of g.S.Stated.number c.args.plugins.now))) c.args.state.now c.args.hook.now [] c.args.args.now c.deepen.new.self c.in_ok-deepen.ensures.within c.in_ok-deepen.ensures.ok _ _ c.in_ok-_nothing.ensures.ends)
 
-pub answer_ask-returns-in_ok-_nothing-in-Act-clause-ends : goal.answer_ask-returns-in_ok-_nothing-in-Act-clause-ends
-answer_ask-returns-in_ok-_nothing-in-Act-clause-ends g t c =
-    rw (c.in-Act.is, c.rise-in-Act.ensures) (act_on (invoke (engine_with g.S.Stated.says (shapes_of g.S.Stated.number c.args.plugins.now))) c.args.state.now c.in-Act.hook c.as_str-in-Act.result.now [] c.in-Act.args c.as_str-in-Act.ensures c.deepen-in-Act.new.self (omega arith) c.deepen-in-Act.ensures _ _ c.in_ok-_nothing-in-Act.ensures.ends)
+pub run_shortcodes_deeper-returns-in_err-deepen-clause-ends : goal.run_shortcodes_deeper-returns-in_err-deepen-clause-ends
+run_shortcodes_deeper-returns-in_err-deepen-clause-ends g t c =
+    let p = err_from_is_err_and c.from_residual.result c.from_residual.ensures.1 in
+    rw (p.1, p.2) (deep_refused c.args.state.now (λ inside. shortcodes_pass (invoke (engine_with g.S.Stated.says (shapes_of g.S.Stated.number c.args.plugins.now))) inside c.args.text.now) c.in_err-deepen.field-0.0 c.deepen.new.self c.in_err-deepen.ensures.beyond c.in_err-deepen.ensures.fault)
 
-pub answer_ask-returns-in_ok-text-in-Shortcodes-clause-ends : goal.answer_ask-returns-in_ok-text-in-Shortcodes-clause-ends
-answer_ask-returns-in_ok-text-in-Shortcodes-clause-ends g t c =
-    rw (c.in-Shortcodes.is, c.rise-in-Shortcodes.ensures) (shortcodes_on (invoke (engine_with g.S.Stated.says (shapes_of g.S.Stated.number c.args.plugins.now))) c.args.state.now c.in-Shortcodes.text c.as_str-in-Shortcodes.result.now [] [] c.as_str-in-Shortcodes.ensures c.deepen-in-Shortcodes.new.self (omega arith) c.deepen-in-Shortcodes.ensures _ _ c.in_ok-text-in-Shortcodes.ensures.ends)
+pub run_shortcodes_deeper-returns-in_err-replaced-clause-ends : goal.run_shortcodes_deeper-returns-in_err-replaced-clause-ends
+run_shortcodes_deeper-returns-in_err-replaced-clause-ends g t c =
+    let p = err_from_is_err_and c.from_residual-in_err-replaced.result c.from_residual-in_err-replaced.ensures.1 in
+    rw (p.1, p.2) (deep_err c.args.state.now (λ inside. shortcodes_pass (invoke (engine_with g.S.Stated.says (shapes_of g.S.Stated.number c.args.plugins.now))) inside c.args.text.now) c.deepen.new.self c.in_ok-deepen.ensures.within c.in_ok-deepen.ensures.ok _ _ c.in_err-replaced.ensures.ends)
+
+pub run_shortcodes_deeper-returns-clause-ends : goal.run_shortcodes_deeper-returns-clause-ends
+run_shortcodes_deeper-returns-clause-ends g t c =
+    rw c.rise.ensures (deep_on c.args.state.now (λ inside. shortcodes_pass (invoke (engine_with g.S.Stated.says (shapes_of g.S.Stated.number c.args.plugins.now))) inside c.args.text.now) c.deepen.new.self c.in_ok-deepen.ensures.within c.in_ok-deepen.ensures.ok _ _ c.in_ok-replaced.ensures.ends)
+
+pub answer_ask-returns-in-Apply-clause-ends : goal.answer_ask-returns-in-Apply-clause-ends
+answer_ask-returns-in-Apply-clause-ends g t c =
+    rw (c.in-Apply.is) (subst (λ (n : Text). Ends (answered (invoke (engine_with g.S.Stated.says (shapes_of g.S.Stated.number c.args.plugins.now))) c.args.state.now (Apply n c.in-Apply.value c.in-Apply.args)) c.answer_apply.result c.answer_apply.new.state) c.as_str.ensures c.answer_apply.ensures.ends)
+
+pub answer_ask-returns-in-Act-clause-ends : goal.answer_ask-returns-in-Act-clause-ends
+answer_ask-returns-in-Act-clause-ends g t c =
+    rw (c.in-Act.is) (subst (λ (n : Text). Ends (answered (invoke (engine_with g.S.Stated.says (shapes_of g.S.Stated.number c.args.plugins.now))) c.args.state.now (Act n c.in-Act.args)) c.answer_act.result c.answer_act.new.state) c.as_str-in-Act.ensures c.answer_act.ensures.ends)
+
+pub answer_ask-returns-in_err-replaced-in-Shortcodes-clause-ends : goal.answer_ask-returns-in_err-replaced-in-Shortcodes-clause-ends
+answer_ask-returns-in_err-replaced-in-Shortcodes-clause-ends g t c =
+    let p = err_from_is_err_and c.from_residual.result c.from_residual.ensures.1 in
+    rw (c.in-Shortcodes.is, p.1, p.2) (subst (λ (n : Text). Ends (answered (invoke (engine_with g.S.Stated.says (shapes_of g.S.Stated.number c.args.plugins.now))) c.args.state.now (Shortcodes n)) (Err c.in_err-replaced-in-Shortcodes.field-0.0) c.run_shortcodes_deeper.new.state) c.as_str-in-Shortcodes.ensures
+    (shortcodes_err (invoke (engine_with g.S.Stated.says (shapes_of g.S.Stated.number c.args.plugins.now))) c.args.state.now c.as_str-in-Shortcodes.result.now _ _ c.in_err-replaced-in-Shortcodes.ensures.ends))
+
+pub answer_ask-returns-in_ok-replaced-in-Shortcodes-clause-ends : goal.answer_ask-returns-in_ok-replaced-in-Shortcodes-clause-ends
+answer_ask-returns-in_ok-replaced-in-Shortcodes-clause-ends g t c =
+    rw (c.in-Shortcodes.is, sym c.as_str-in-Shortcodes.ensures) (shortcodes_on (invoke (engine_with g.S.Stated.says (shapes_of g.S.Stated.number c.args.plugins.now))) c.args.state.now c.as_str-in-Shortcodes.result.now _ _ c.in_ok-replaced-in-Shortcodes.ensures.ends)
 
 pub answer_ask-returns-in-Did-clause-ends : goal.answer_ask-returns-in-Did-clause-ends
 answer_ask-returns-in-Did-clause-ends g t c =
@@ -74,26 +95,14 @@ pub answer_ask-returns-in_ok-option-in-GetOption-clause-ends : goal.answer_ask-r
 answer_ask-returns-in_ok-option-in-GetOption-clause-ends g t c =
     rw (c.in-GetOption.is, c.in_ok-option-in-GetOption.ensures, c.as_str-in-GetOption.ensures) (option_on (invoke (engine_with g.S.Stated.says (shapes_of g.S.Stated.number c.args.plugins.now))) c.args.state.now c.in-GetOption.name)
 
-pub invoke_core-returns-then-calls-eq0-clause-ends : goal.invoke_core-returns-then-calls-eq0-clause-ends
-invoke_core-returns-then-calls-eq0-clause-ends g t c =
-    ap end_of (invoke_none (engine_with g.S.Stated.says (shapes_of g.S.Stated.number c.args.plugins.now)) c.args.state.now c.args.callback c.args.call.now (omega arith))
-
-pub invoke_core-returns-then-depth-ge-DEEPEST-clause-ends : goal.invoke_core-returns-then-depth-ge-DEEPEST-clause-ends
-invoke_core-returns-then-depth-ge-DEEPEST-clause-ends g t c =
-    core_ends (engine_with g.S.Stated.says (shapes_of g.S.Stated.number c.args.plugins.now)) c.args.state.now c.take_call.new.self c.args.callback c.args.call.now (omega arith) (eq-eqb c.args.callback 0 c.requires) c.take_call.ensures (Err TooDeep) c.take_call.new.self
-    (core_beyond (invoke (engine_with g.S.Stated.says (shapes_of g.S.Stated.number c.args.plugins.now))) c.take_call.new.self (first_or_empty c.args.call.now.args) (first_or_empty c.args.call.now.args) [] [] refl (omega arith))
-
-pub invoke_core-returns-in_err-replaced-clause-ends : goal.invoke_core-returns-in_err-replaced-clause-ends
-invoke_core-returns-in_err-replaced-clause-ends g t c =
-    let p = err_from_is_err_and c.from_residual-in_err-replaced.result c.from_residual-in_err-replaced.ensures.1 in
-    rw (p.1, p.2) (core_ends (engine_with g.S.Stated.says (shapes_of g.S.Stated.number c.args.plugins.now)) c.args.state.now c.take_call.new.self c.args.callback c.args.call.now (omega arith) (eq-eqb c.args.callback 0 c.requires) c.take_call.ensures (Err c.in_err-replaced.field-0.0) c.run_shortcodes.new.state
-    (core_err (invoke (engine_with g.S.Stated.says (shapes_of g.S.Stated.number c.args.plugins.now))) c.take_call.new.self (first_or_empty c.args.call.now.args) c.as_str.result.now [] [] (c.as_str.ensures ∙ c.in_ok-text.ensures) c.deepen.new.self (omega arith) c.deepen.ensures _ _ c.in_err-replaced.ensures.ends))
+pub invoke_core-returns-in_err-take_call-clause-ends : goal.invoke_core-returns-in_err-take_call-clause-ends
+invoke_core-returns-in_err-take_call-clause-ends g t c =
+    let p = err_from_is_err_and c.from_residual.result c.from_residual.ensures.1 in
+    rw (p.1, p.2) (invoke_refused (engine_with g.S.Stated.says (shapes_of g.S.Stated.number c.args.plugins.now)) c.args.state.now c.args.callback c.args.call.now c.in_err-take_call.field-0.0 c.take_call.new.self c.in_err-take_call.ensures.none c.in_err-take_call.ensures.fault)
 
 pub invoke_core-returns-clause-ends : goal.invoke_core-returns-clause-ends
 invoke_core-returns-clause-ends g t c =
-    let risen : World = record c.run_shortcodes.new.state { depth = c.run_shortcodes.new.state.depth - 1 } in
-    rw c.rise.ensures (core_ends (engine_with g.S.Stated.says (shapes_of g.S.Stated.number c.args.plugins.now)) c.args.state.now c.take_call.new.self c.args.callback c.args.call.now (omega arith) (eq-eqb c.args.callback 0 c.requires) c.take_call.ensures (Ok c.in_ok-replaced.replaced) risen
-    (core_on (invoke (engine_with g.S.Stated.says (shapes_of g.S.Stated.number c.args.plugins.now))) c.take_call.new.self (first_or_empty c.args.call.now.args) c.as_str.result.now [] [] (c.as_str.ensures ∙ c.in_ok-text.ensures) c.deepen.new.self (omega arith) c.deepen.ensures _ _ c.in_ok-replaced.ensures.ends))
+    core_ends (engine_with g.S.Stated.says (shapes_of g.S.Stated.number c.args.plugins.now)) c.args.state.now c.take_call.new.self c.args.callback c.args.call.now c.as_str.result.now c.in_ok-take_call.ensures.left (eq-eqb c.args.callback 0 c.requires) c.in_ok-take_call.ensures.ok (c.as_str.ensures ∙ c.in_ok-text.ensures) _ _ c.run_shortcodes_deeper.ensures.ends
 
 pub run_action-returns-in_ok-fire-in-Ok-clause-ends : goal.run_action-returns-in_ok-fire-in-Ok-clause-ends
 run_action-returns-in_ok-fire-in-Ok-clause-ends g t c =
@@ -101,7 +110,7 @@ run_action-returns-in_ok-fire-in-Ok-clause-ends g t c =
 
 pub run_action-returns-in-Err-BadName-clause-ends : goal.run_action-returns-in-Err-BadName-clause-ends
 run_action-returns-in-Err-BadName-clause-ends g t c =
-    rw c.empty-nothing.ensures (ap end_of (action_unnamed (invoke (engine_with g.S.Stated.says (shapes_of g.S.Stated.number c.args.plugins.now))) c.args.state.now c.args.hook.now c.args.args.now (c.in-Err-BadName.ensures.bad_name.0 (ap Err c.in-Err-BadName.field-0-is))))
+    rw c.empty.ensures (ap end_of (action_unnamed (invoke (engine_with g.S.Stated.says (shapes_of g.S.Stated.number c.args.plugins.now))) c.args.state.now c.args.hook.now c.args.args.now (c.in-Err-BadName.ensures.bad_name.0 (ap Err c.in-Err-BadName.field-0-is))))
 
 pub run_filter-returns-in-Ok-clause-ends : goal.run_filter-returns-in-Ok-clause-ends
 run_filter-returns-in-Ok-clause-ends g t c =
@@ -121,7 +130,7 @@ pub run_group-loop-entry-preserved : goal.run_group-loop-entry-preserved
 run_group-loop-entry-preserved g t c =
     record {
       ends = rw c.kept-value.ensures (sym (group_on (invoke (engine_with g.S.Stated.says (shapes_of g.S.Stated.number c.args.plugins.now))) c.args.kind c.args.hook.now c.args.args.now c.loop-entry.state c.loop-entry.value c.args.entries.now c.loop-entry.entry-index c.entry-item.result c.in_ok-call.call c.loop-entry-test.true c.entry-item.is c.in_ok-call.ensures _ _ c.in_ok-answer.ensures.ends) ∙ c.loop-entry.invariant.ends);
-      fewer = omega (arith, c.loop-entry.invariant.fewer, c.in_ok-answer.ensures.fewer);
+      fewer = fewer_after _ _ _ c.loop-entry.invariant.fewer c.in_ok-answer.ensures.fewer;
     }
 
 pub run_group-returns-clause-ends : goal.run_group-returns-clause-ends
@@ -137,37 +146,25 @@ pub run_pass-returns-clause-ends : goal.run_pass-returns-clause-ends
 run_pass-returns-clause-ends g t c =
     rw c.leave.ensures (pass_on (invoke (engine_with g.S.Stated.says (shapes_of g.S.Stated.number c.args.plugins.now))) c.args.kind c.args.hook.now c.args.args.now c.args.state.now c.enter.new.self c.args.value c.in_ok-enter.ensures.ok _ _ c.in_ok-result.ensures.ends)
 
-pub run_piece-returns-then-is_escaped-clause-ends : goal.run_piece-returns-then-is_escaped-clause-ends
-run_piece-returns-then-is_escaped-clause-ends g t c =
-    rw (c.in-Match.is, c.in_ok-copied-in-Match.ensures, c.part-shown.ensures, c.without_brackets.ensures) (piece_escaped (invoke (engine_with g.S.Stated.says (shapes_of g.S.Stated.number c.args.plugins.now))) c.args.text.now c.args.state.now c.in-Match.whole c.in-Match.name c.in-Match.atts c.in-Match.content c.in-Match.opening_extra c.in-Match.closing_extra (sym c.is_escaped.ensures ∙ c.if-is_escaped.true))
+pub run_work-returns-in_err-answer-in-Handled-clause-ends : goal.run_work-returns-in_err-answer-in-Handled-clause-ends
+run_work-returns-in_err-answer-in-Handled-clause-ends g t c =
+    let p = err_from_is_err_and c.from_residual.result c.from_residual.ensures.1 in
+    rw (c.in-Handled.is, p.1, p.2) (work_err (invoke (engine_with g.S.Stated.says (shapes_of g.S.Stated.number c.args.plugins.now))) c.args.state.now c.in-Handled.handler c.in-Handled.call c.in-Handled.opening c.in-Handled.closing _ _ c.in_err-answer-in-Handled.ensures.ends)
 
-pub run_piece-returns-in_default-clause-ends : goal.run_piece-returns-in_default-clause-ends
-run_piece-returns-in_default-clause-ends g t c =
-    rw (c.in-Match.is, c.in_ok-copied-in-Match-2.ensures, c.part-in_default.ensures) (piece_unhandled (invoke (engine_with g.S.Stated.says (shapes_of g.S.Stated.number c.args.plugins.now))) c.args.text.now c.args.state.now c.in-Match.whole c.in-Match.name c.in-Match.atts c.in-Match.content c.in-Match.opening_extra c.in-Match.closing_extra (sym c.is_escaped.ensures ∙ c.if-is_escaped.false) (rw c.part-in-Match.ensures at (sym (none_of _ c.in_default.not-Some) ∙ c.handler.ensures)))
-
-pub run_piece-returns-in_err-answer-in-Match-clause-ends : goal.run_piece-returns-in_err-answer-in-Match-clause-ends
-run_piece-returns-in_err-answer-in-Match-clause-ends g t c =
-    let p = err_from_is_err_and c.from_residual-in_err-answer-in-Match.result c.from_residual-in_err-answer-in-Match.ensures.1 in
-    rw (c.in-Match.is, p.1, p.2) (match_err (invoke (engine_with g.S.Stated.says (shapes_of g.S.Stated.number c.args.plugins.now))) c.args.text.now c.args.state.now c.in-Match.whole c.in-Match.name c.in-Match.atts c.in-Match.content c.in-Match.opening_extra c.in-Match.closing_extra (sym c.is_escaped.ensures ∙ c.if-is_escaped.false) c.in-Some.handler (rw c.part-in-Match.ensures at (sym c.in-Some.is ∙ c.handler.ensures)) c.in_ok-call-in-Match.call c.in_ok-call-in-Match.ensures _ _ c.in_err-answer-in-Match.ensures.ends)
-
-pub run_piece-returns-in_ok-copied-in-Plain-clause-ends : goal.run_piece-returns-in_ok-copied-in-Plain-clause-ends
-run_piece-returns-in_ok-copied-in-Plain-clause-ends g t c =
-    rw (c.in-Plain.is, c.in_ok-copied-in-Plain.ensures, c.part.ensures) (piece_plain (invoke (engine_with g.S.Stated.says (shapes_of g.S.Stated.number c.args.plugins.now))) c.args.text.now c.args.state.now c.in-Plain.span)
-
-pub run_piece-returns-in_ok-with_extras-in-Match-clause-ends : goal.run_piece-returns-in_ok-with_extras-in-Match-clause-ends
-run_piece-returns-in_ok-with_extras-in-Match-clause-ends g t c =
-    rw (c.in-Match.is, c.in_ok-with_extras-in-Match.ensures) (match_on (invoke (engine_with g.S.Stated.says (shapes_of g.S.Stated.number c.args.plugins.now))) c.args.text.now c.args.state.now c.in-Match.whole c.in-Match.name c.in-Match.atts c.in-Match.content c.in-Match.opening_extra c.in-Match.closing_extra (sym c.is_escaped.ensures ∙ c.if-is_escaped.false) c.in-Some.handler (rw c.part-in-Match.ensures at (sym c.in-Some.is ∙ c.handler.ensures)) c.in_ok-call-in-Match.call c.in_ok-call-in-Match.ensures _ _ c.in_ok-answer-in-Match.ensures.ends)
+pub run_work-returns-in_ok-shown-in-Handled-clause-ends : goal.run_work-returns-in_ok-shown-in-Handled-clause-ends
+run_work-returns-in_ok-shown-in-Handled-clause-ends g t c =
+    rw (c.in-Handled.is, c.in_ok-shown-in-Handled.ensures) (work_on (invoke (engine_with g.S.Stated.says (shapes_of g.S.Stated.number c.args.plugins.now))) c.args.state.now c.in-Handled.handler c.in-Handled.call c.in-Handled.opening c.in-Handled.closing _ _ c.in_ok-answer-in-Handled.ensures.ends)
 
 pub run_pieces-returns-in_err-shown-clause-ends : goal.run_pieces-returns-in_err-shown-clause-ends
 run_pieces-returns-in_err-shown-clause-ends g t c =
-    let p = err_from_is_err_and c.from_residual.result c.from_residual.ensures.1 in
-    rw (p.1, p.2) (pieces_err (invoke (engine_with g.S.Stated.says (shapes_of g.S.Stated.number c.args.plugins.now))) c.args.text.now c.loop-piece.state c.loop-piece.so_far c.args.pieces.now c.loop-piece.piece-index _ _ c.loop-piece-test.true refl _ _ c.in_err-shown.ensures.ends (pieces_pass (invoke (engine_with g.S.Stated.says (shapes_of g.S.Stated.number c.args.plugins.now))) c.args.text.now c.args.state.now [] c.args.pieces.now) c.loop-piece.invariant.ends)
+    let p = err_from_is_err_and c.from_residual-in_err-shown.result c.from_residual-in_err-shown.ensures.1 in
+    rw (p.1, p.2) (pieces_err (invoke (engine_with g.S.Stated.says (shapes_of g.S.Stated.number c.args.plugins.now))) c.args.text.now c.loop-piece.state c.loop-piece.so_far c.args.pieces.now c.loop-piece.piece-index _ _ c.loop-piece-test.true refl _ (c.in_ok-work.ensures (invoke (engine_with g.S.Stated.says (shapes_of g.S.Stated.number c.args.plugins.now)))) _ _ c.in_err-shown.ensures.ends (pieces_pass (invoke (engine_with g.S.Stated.says (shapes_of g.S.Stated.number c.args.plugins.now))) c.args.text.now c.args.state.now [] c.args.pieces.now) c.loop-piece.invariant.ends)
 
 pub run_pieces-loop-piece-preserved : goal.run_pieces-loop-piece-preserved
 run_pieces-loop-piece-preserved g t c =
     record {
-      ends = pieces_on (invoke (engine_with g.S.Stated.says (shapes_of g.S.Stated.number c.args.plugins.now))) c.args.text.now c.loop-piece.state c.loop-piece.so_far c.args.pieces.now c.loop-piece.piece-index _ _ c.loop-piece-test.true refl _ _ _ c.in_ok-shown.ensures.ends (c.in_ok-push_str.ensures.ok ∙ ap (λ r. c.loop-piece.so_far ++ r) c.as_str.ensures) ∙ c.loop-piece.invariant.ends;
-      fewer = omega (arith, c.loop-piece.invariant.fewer, c.in_ok-shown.ensures.fewer);
+      ends = pieces_on (invoke (engine_with g.S.Stated.says (shapes_of g.S.Stated.number c.args.plugins.now))) c.args.text.now c.loop-piece.state c.loop-piece.so_far c.args.pieces.now c.loop-piece.piece-index _ _ c.loop-piece-test.true refl _ (c.in_ok-work.ensures (invoke (engine_with g.S.Stated.says (shapes_of g.S.Stated.number c.args.plugins.now)))) _ _ _ c.in_ok-shown.ensures.ends (c.in_ok-push_str.ensures.ok ∙ ap (λ r. c.loop-piece.so_far ++ r) c.as_str.ensures) ∙ c.loop-piece.invariant.ends;
+      fewer = fewer_after _ _ _ c.loop-piece.invariant.fewer c.in_ok-shown.ensures.fewer;
     }
 
 pub run_pieces-returns-clause-ends : goal.run_pieces-returns-clause-ends
@@ -188,7 +185,7 @@ pub run_priorities-loop-next-preserved : goal.run_priorities-loop-next-preserved
 run_priorities-loop-next-preserved g t c =
     record {
       ends = priorities_step (invoke (engine_with g.S.Stated.says (shapes_of g.S.Stated.number c.args.plugins.now))) c.args.kind c.args.hook.now c.args.args.now c.loop-next.left c.loop-next.state c.loop-next.value c.loop-next.next c.in-Some.priority c.as_slice.result.now c.next_priority-next-in-Some.result c.if-left-eq0.false c.in-Some.is (c.as_slice.ensures.value ∙ c.in_ok-entries.ensures) c.run_group.new.state c.in_ok-value.value c.in_ok-value.ensures.ends c.next_priority-next-in-Some.ensures ∙ c.loop-next.invariant.ends;
-      fewer = omega (arith, c.loop-next.invariant.fewer, c.in_ok-value.ensures.fewer);
+      fewer = fewer_after _ _ _ c.loop-next.invariant.fewer c.in_ok-value.ensures.fewer;
     }
 
 pub run_priorities-returns-clause-ends : goal.run_priorities-returns-clause-ends
@@ -200,39 +197,39 @@ run_shortcodes-returns-clause-ends g t c =
     scan_on (invoke (engine_with g.S.Stated.says (shapes_of g.S.Stated.number c.args.plugins.now))) c.args.state.now c.args.text.now c.as_slice.result.now (c.as_slice.ensures.value ∙ c.in_ok-pieces.ensures.pieces) _ _ c.run_pieces.ensures.ends
 
 -- the callback answered
-pub invoke-returns-in-Answer-clause-ends : goal.invoke-returns-in-Answer-clause-ends
-invoke-returns-in-Answer-clause-ends g t c =
+pub invoke_lent-returns-in-Answer-clause-ends : goal.invoke_lent-returns-in-Answer-clause-ends
+invoke_lent-returns-in-Answer-clause-ends g t c =
     let inv = invoke (engine_with g.S.Stated.says (shapes_of g.S.Stated.number c.args.plugins.now)) in
     sym c.asks.invariant.ends ∙ ap (λ n. end_of (follow inv c.asks.state c.args.callback c.asks.call n)) c.in-Answer.is
     ∙ follow_answer inv c.asks.state c.args.callback c.asks.call c.in-Answer.text
 
 -- what it asked was refused
-pub invoke-returns-in_err-answer-in-Ask-clause-ends : goal.invoke-returns-in_err-answer-in-Ask-clause-ends
-invoke-returns-in_err-answer-in-Ask-clause-ends g t c =
+pub invoke_lent-returns-in_err-answer-in-Ask-clause-ends : goal.invoke_lent-returns-in_err-answer-in-Ask-clause-ends
+invoke_lent-returns-in_err-answer-in-Ask-clause-ends g t c =
     let inv = invoke (engine_with g.S.Stated.says (shapes_of g.S.Stated.number c.args.plugins.now)) in
     let p = err_from_is_err_and c.from_residual-in_err-answer-in-Ask.result c.from_residual-in_err-answer-in-Ask.ensures.1 in
     rw (p.1, p.2)
-    (ends_alike (follow inv c.asks.state c.args.callback c.asks.call (next.Ask c.in-Ask.ask)) (inv c.args.state.now c.args.callback c.args.call) (Err c.in_err-answer-in-Ask.field-0.0) c.answer_ask.new.state
+    (ends_alike (follow inv c.asks.state c.args.callback c.asks.call (next.Ask c.in-Ask.ask)) (inv c.args.state.now c.args.callback c.args.call.now) (Err c.in_err-answer-in-Ask.field-0.0) c.answer_ask-answer.new.state
     (sym (ap (λ n. end_of (follow inv c.asks.state c.args.callback c.asks.call n)) c.in-Ask.is) ∙ c.asks.invariant.ends)
     (follow_err inv c.asks.state c.args.callback c.asks.call c.in-Ask.ask _ _ c.in_err-answer-in-Ask.ensures.ends))
 
 -- its next call was refused
-pub invoke-returns-in_err-next-in-Ask-clause-ends : goal.invoke-returns-in_err-next-in-Ask-clause-ends
-invoke-returns-in_err-next-in-Ask-clause-ends g t c =
+pub invoke_lent-returns-in_err-next-in-Ask-clause-ends : goal.invoke_lent-returns-in_err-next-in-Ask-clause-ends
+invoke_lent-returns-in_err-next-in-Ask-clause-ends g t c =
     let inv = invoke (engine_with g.S.Stated.says (shapes_of g.S.Stated.number c.args.plugins.now)) in
     let p = err_from_is_err_and c.from_residual-in_err-next-in-Ask.result c.from_residual-in_err-next-in-Ask.ensures.1 in
-    let asked = follow_asked inv c.asks.state c.args.callback c.asks.call c.in-Ask.ask c.answer_ask.new.state c.in_ok-answer-in-Ask.answer c.in_ok-call-in-Ask.call c.in_ok-answer-in-Ask.ensures.ends c.in_ok-call-in-Ask.ensures in
+    let asked = follow_asked inv c.asks.state c.args.callback c.asks.call c.in-Ask.ask c.answer_ask-answer.new.state c.in_ok-answer-in-Ask.field-0 c.in_ok-answer-in-Ask.ensures.ends in
     rw (p.1, p.2)
-    (ends_alike (inv c.answer_ask.new.state c.args.callback c.in_ok-call-in-Ask.call) (inv c.args.state.now c.args.callback c.args.call) (Err c.in_err-next-in-Ask.field-0.0) c.take_reply-in-Ask.new.state
+    (ends_alike (inv c.answer_ask-answer.new.state c.args.callback (record c.asks.call { answers = c.asks.call.answers ++ c.in_ok-answer-in-Ask.field-0 ∷ [] })) (inv c.args.state.now c.args.callback c.args.call.now) (Err c.in_err-next-in-Ask.field-0.0) c.take_reply_to.new.state
     (sym asked ∙ sym (ap (λ n. end_of (follow inv c.asks.state c.args.callback c.asks.call n)) c.in-Ask.is) ∙ c.asks.invariant.ends)
     c.in_err-next-in-Ask.ensures.fault)
 
 -- it asked, and was called again with the answer
-pub invoke-asks-preserved : goal.invoke-asks-preserved
-invoke-asks-preserved g t c =
+pub invoke_lent-asks-preserved : goal.invoke_lent-asks-preserved
+invoke_lent-asks-preserved g t c =
     let inv = invoke (engine_with g.S.Stated.says (shapes_of g.S.Stated.number c.args.plugins.now)) in
-    let asked = follow_asked inv c.asks.state c.args.callback c.asks.call c.in-Ask.ask c.answer_ask.new.state c.in_ok-answer-in-Ask.answer c.in_ok-call-in-Ask.call c.in_ok-answer-in-Ask.ensures.ends c.in_ok-call-in-Ask.ensures in
+    let asked = follow_asked inv c.asks.state c.args.callback c.asks.call c.in-Ask.ask c.answer_ask-answer.new.state c.in_ok-answer-in-Ask.field-0 c.in_ok-answer-in-Ask.ensures.ends in
     record {
       ends = sym c.in_ok-next-in-Ask.ensures.goes_on ∙ sym asked ∙ sym (ap (λ n. end_of (follow inv c.asks.state c.args.callback c.asks.call n)) c.in-Ask.is) ∙ c.asks.invariant.ends;
-      fewer = omega (arith, c.asks.invariant.fewer, c.in_ok-answer-in-Ask.ensures.fewer, c.in_ok-next-in-Ask.ensures.taken);
+      fewer = less_after _ _ _ _ c.asks.invariant.fewer c.in_ok-answer-in-Ask.ensures.fewer c.in_ok-next-in-Ask.ensures.taken;
     }

@@ -25,8 +25,8 @@ decreases-run_filter g l = l.state.now.calls * 16 + 5
 abbrev pub decreases-run_action : goal.decreases-run_action
 decreases-run_action g l = l.state.now.calls * 16 + 5
 
-abbrev pub decreases-run_piece : goal.decreases-run_piece
-decreases-run_piece g l = l.state.now.calls * 16 + 6
+abbrev pub decreases-run_work : goal.decreases-run_work
+decreases-run_work g l = l.state.now.calls * 16 + 6
 
 abbrev pub decreases-run_pieces : goal.decreases-run_pieces
 decreases-run_pieces g l = l.state.now.calls * 16 + 7
@@ -34,23 +34,35 @@ decreases-run_pieces g l = l.state.now.calls * 16 + 7
 abbrev pub decreases-run_shortcodes : goal.decreases-run_shortcodes
 decreases-run_shortcodes g l = l.state.now.calls * 16 + 8
 
+abbrev pub decreases-answer_apply : goal.decreases-answer_apply
+decreases-answer_apply g l = l.state.now.calls * 16 + 9
+
+abbrev pub decreases-answer_act : goal.decreases-answer_act
+decreases-answer_act g l = l.state.now.calls * 16 + 9
+
+abbrev pub decreases-run_shortcodes_deeper : goal.decreases-run_shortcodes_deeper
+decreases-run_shortcodes_deeper g l = l.state.now.calls * 16 + 9
+
 abbrev pub decreases-answer_ask : goal.decreases-answer_ask
-decreases-answer_ask g l = l.state.now.calls * 16 + 9
+decreases-answer_ask g l = l.state.now.calls * 16 + 10
+
+abbrev pub decreases-invoke_lent : goal.decreases-invoke_lent
+decreases-invoke_lent g l = l.state.now.calls * 16
 
 abbrev pub decreases-invoke_core : goal.decreases-invoke_core
 decreases-invoke_core g l = l.state.now.calls * 16
 
 -- the callback goes on as it began
-abbrev pub invariant-invoke-asks : goal.invariant-invoke-asks
-invariant-invoke-asks g l =
+abbrev pub invariant-invoke_lent-asks : goal.invariant-invoke_lent-asks
+invariant-invoke_lent-asks g l =
     let invocation = invoke (engine_with g.S.Stated.says (shapes_of g.S.Stated.number l.plugins)) in
     record {
       ends : end_of (follow invocation l.state l.callback l.call l.next) ≡ end_of (invocation l.fn.state l.callback l.fn.call);
       fewer : l.state.calls < l.fn.state.calls;
     }
 
-abbrev pub decreases-invoke-asks : goal.decreases-invoke-asks
-decreases-invoke-asks g l = l.state.calls
+abbrev pub decreases-invoke_lent-asks : goal.decreases-invoke_lent-asks
+decreases-invoke_lent-asks g l = l.state.calls
 
 -- the entries left end as the group does
 abbrev pub invariant-run_group-loop-entry : goal.invariant-run_group-loop-entry
