@@ -10,6 +10,7 @@ use crate::calls::{
     answer, ask, change_and_answer, change_and_ask, first_argument, listed, one_change,
     print_and_answer, push_all, second_argument, show, text_in,
 };
+use crate::shipped::added;
 use hook_changes::{Answer, Ask, Atts, Call, CallbackId, Change, Listed, Reply, Text};
 use itoa::Buffer;
 use std::alloc::{AllocError, Global};
@@ -23,27 +24,24 @@ pub fn bundled_reply(alloc: Global, id: CallbackId, call: &Call) -> Result<Reply
     let content = call.content.as_str();
     match id.number() {
         // marks
-        1 => answer(alloc, &[value, "Y"]),
+        1 => answer_behind(alloc, value, "Y"),
         2 => answer(alloc, &[value, "X", second_argument(call)]),
         // once
-        3 => answer(alloc, &[value, "1"]),
+        3 => answer_behind(alloc, value, "1"),
         4 => add_again(alloc, value),
-        5 => answer(alloc, &[value, "4"]),
+        5 => answer_behind(alloc, value, "4"),
         // nest
-        6 => answer(alloc, &[value, "1"]),
+        6 => answer_behind(alloc, value, "1"),
         7 => ask_its_own_hook(alloc, value, call),
-        8 => answer(alloc, &[value, "3"]),
-        9 => answer(alloc, &[value, "4"]),
+        8 => answer_behind(alloc, value, "3"),
+        9 => answer_behind(alloc, value, "4"),
         // grow
         10 => grow(alloc, value),
-        11 => answer(alloc, &[value, "5"]),
-        12 => answer(alloc, &[value, "9"]),
-        13 => answer(alloc, &[value, "7"]),
+        11 => answer_behind(alloc, value, "5"),
+        12 => answer_behind(alloc, value, "9"),
+        13 => answer_behind(alloc, value, "7"),
         // args
-        14 => answer(
-            alloc,
-            &["n", Buffer::new().format(call.args.as_slice().len())],
-        ),
+        14 => count_arguments(alloc, call),
         15 => answer_count(alloc, value, call),
         16 => print_count(alloc, value, call),
         // bold
@@ -70,6 +68,13 @@ pub fn bundled_reply(alloc: Global, id: CallbackId, call: &Call) -> Result<Reply
     }
 }
 
+/// The reply that answers a value with a mark behind it.
+fn answer_behind(alloc: Global, value: &str, mark: &str) -> Result<Reply, AllocError>
+    ensures { IfOk result (λ reply. reply ≡ answers_text (value.now ++ mark.now)) }
+{
+    answer(alloc, &[value, mark])
+}
+
 /// Number 4 takes itself out and adds itself again, which puts it behind the others of its priority.
 fn add_again(alloc: Global, value: &str) -> Result<Reply, AllocError>
     ensures { IfOk result (λ reply. reply ≡ changes_and_answers
@@ -77,7 +82,7 @@ fn add_again(alloc: Global, value: &str) -> Result<Reply, AllocError>
         (value.now ++ codes "2")) }
 {
     let mut changes = one_change(alloc, removed(alloc, 4)?)?;
-    changes.push(add(alloc, "the_title", 11, 4)?)?;
+    changes.push(put_back(alloc, 4)?)?;
     change_and_answer(alloc, changes, &[value, "2"])
 }
 
@@ -92,13 +97,13 @@ fn removed(alloc: Global, number: u32) -> Result<Change, AllocError>
     })
 }
 
-/// `add_filter` or `add_action` of a callback that accepts one argument.
-fn add(alloc: Global, hook: &str, priority: i32, number: u32) -> Result<Change, AllocError>
-    ensures { IfOk result (λ change. change ≡ Change.Add hook.now priority number 1) }
+/// `add_filter` of a callback on `the_title` at 11.
+fn put_back(alloc: Global, number: u32) -> Result<Change, AllocError>
+    ensures { IfOk result (λ change. change ≡ Change.Add the_title (pos 11) number 1) }
 {
     Ok(Change::Add {
-        hook: Text::copied(alloc, hook)?,
-        priority,
+        hook: Text::copied(alloc, "the_title")?,
+        priority: 11,
         callback: CallbackId::new(number),
         accepted: 1,
     })
@@ -111,7 +116,7 @@ fn ask_its_own_hook(alloc: Global, value: &str, call: &Call) -> Result<Reply, Al
     match call.answers.as_slice() {
         [] => ask_without(alloc, 7),
         [first, ..] => {
-            let changes = one_change(alloc, add(alloc, "the_title", 11, 7)?)?;
+            let changes = added(alloc, &[("the_title", 11, 7, 1)])?;
             change_and_answer(alloc, changes, &[value, "-", text_in(first), "-2"])
         }
     }
@@ -143,10 +148,21 @@ fn grow(alloc: Global, value: &str) -> Result<Reply, AllocError>
         (Change.Add the_title (pos 5) 11 1 ∷ Change.Add the_title (pos 10) 12 1 ∷ Change.Add the_title (pos 20) 13 1 ∷ [])
         (value.now ++ codes "a")) }
 {
-    let mut changes = one_change(alloc, add(alloc, "the_title", 5, 11)?)?;
-    changes.push(add(alloc, "the_title", 10, 12)?)?;
-    changes.push(add(alloc, "the_title", 20, 13)?)?;
+    let additions = [
+        ("the_title", 5, 11, 1),
+        ("the_title", 10, 12, 1),
+        ("the_title", 20, 13, 1),
+    ];
+    let changes = added(alloc, &additions)?;
     change_and_answer(alloc, changes, &[value, "a"])
+}
+
+/// Number 14 answers the number of its arguments.
+fn count_arguments(alloc: Global, call: &Call) -> Result<Reply, AllocError>
+    ensures { IfOk result (λ reply. reply ≡ answers_text (codes "n" ++ decimal (length call.now.args))) }
+{
+    let mut buffer = Buffer::new();
+    answer(alloc, &["n", buffer.format(call.args.as_slice().len())])
 }
 
 /// Number 15 puts the number of its arguments, and the second of them, behind the value.
@@ -324,7 +340,7 @@ fn in_parentheses(alloc: Global, shorter: &str, answers: &[Answer]) -> Result<Re
 fn add_note(alloc: Global) -> Result<Reply, AllocError>
     ensures { IfOk result (λ reply. reply ≡ changes_and_answers (Change.Add wp_footer (pos 10) 28 1 ∷ []) (codes "<sup>*</sup>")) }
 {
-    let changes = one_change(alloc, add(alloc, "wp_footer", 10, 28)?)?;
+    let changes = added(alloc, &[("wp_footer", 10, 28, 1)])?;
     change_and_answer(alloc, changes, &["<sup>*</sup>"])
 }
 

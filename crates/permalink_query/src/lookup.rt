@@ -1,5 +1,7 @@
 //! Finding what a site has for a query.
-ghost use Rattle.std.specs.Prelude.{codes, ◌≡◌, ◌≤◌, IfOk, option_map};
+ghost use Rattle.std.specs.Prelude.{codes, ◌≡◌, ◌≤◌, ◌&&◌, IfOk, filter, option_map};
+ghost use Rattle.std.specs.Option.{option_to_list};
+ghost use Rattle.post_tables.specs.Page.{is_kind, is_published};
 ghost use Rattle.permalink_query.specs.Found.{
   option_value,
   posts_per_page,
@@ -51,14 +53,30 @@ pub fn find(
             Ok(unless_empty(alloc, FoundKind::Page, posts))
         }
         Query::Month { year, month, part } => {
-            let Some((from, to)) = month_span(alloc, year, month)? else {
-                return Ok(nothing(alloc));
-            };
-            let posts = part_of(tables, &from, &to, posts_per_page(options), part)?;
-            Ok(unless_empty(alloc, FoundKind::Month, posts))
+            find_month(alloc, tables, options, year, month, part)
         }
         Query::Nothing => Ok(nothing(alloc)),
     }
+}
+
+/// A part of the posts of a month.
+fn find_month(
+    alloc: Global,
+    tables: &mut Tables,
+    options: &[(Text, Text)],
+    year: u16,
+    month: u8,
+    part: u32,
+) -> Result<Found, FindFault>
+    ensures ok { IfOk result (λ f. f
+        ≡ found tables.old.posts options.now (Query.Month year month part)) }
+    ensures same { tables.new ≡ tables.old }
+{
+    let Some((from, to)) = month_span(alloc, year, month)? else {
+        return Ok(nothing(alloc));
+    };
+    let posts = part_of(tables, &from, &to, posts_per_page(options), part)?;
+    Ok(unless_empty(alloc, FoundKind::Month, posts))
 }
 
 fn front_part(tables: &mut Tables, size: u32, part: u32) -> Result<Listed<Post>, FindFault>
@@ -113,10 +131,23 @@ fn published(
     ensures ok { IfOk result (λ posts. posts ≡ published_with kind id tables.old.posts) }
     ensures same { tables.new ≡ tables.old }
 {
+    let found = tables.post(id)?;
+    Ok(if_published(alloc, kind, found)?)
+}
+
+/// An entry, if it is published and of the kind.
+fn if_published(
+    alloc: Global,
+    kind: PostKind,
+    found: Option<Post>,
+) -> Result<Listed<Post>, AllocError>
+    ensures { IfOk result (λ posts. posts
+        ≡ filter (λ p. is_kind p.kind kind && is_published p.status) (option_to_list found)) }
+{
     let mut posts = Listed::empty(alloc);
-    if let Some(post) = tables.post(id)? {
+    if let Some(post) = found {
         if post.kind == kind && post.status == PostStatus::Publish {
-            posts.push(post).map_err(AllocError::from)?;
+            posts.push(post)?;
         }
     }
     Ok(posts)

@@ -1,5 +1,7 @@
 //! Queries, and how the path of a request says one.
-ghost use Rattle.std.specs.Prelude.{◌≡◌, true, codes, IfOk, option_map, nat_lt};
+ghost use Rattle.std.specs.Prelude.{◌≡◌, true, codes, Some, IfOk, if◌then◌else◌, option_map, nat_lt};
+ghost use Rattle.std.specs.Option.{option_map_or};
+ghost use Rattle.std.specs.Str.{bytes_eq};
 ghost use Rattle.std.specs.Cow.{cow_str_bytes};
 ghost use Rattle.std.specs.List.{before_first, after_first, list_all};
 ghost use Rattle.std.specs.Str.Lossy.{utf8_lossy};
@@ -66,6 +68,16 @@ fn read_form(alloc: Global, form: &str) -> Result<Query, AllocError>
     if let Some(id) = last_value(alloc, form, "page_id")? {
         return Ok(page(id.as_str()));
     }
+    read_list(alloc, form)
+}
+
+/// The list that `m` and `paged` ask for.
+fn read_list(alloc: Global, form: &str) -> Result<Query, AllocError>
+    ensures { IfOk result (λ query. query ≡
+        let part = part_of (last_value (codes "paged") (parse form.now)) in
+        option_map_or (λ month. asks (λ m. asks (Query.Month m.0 m.1) part) (year_and_month month))
+        (last_value (codes "m") (parse form.now)) (asks Query.Front part)) }
+{
     let part = read_part(alloc, form)?;
     match last_value(alloc, form, "m")? {
         Some(text) => Ok(month(text.as_str(), part)),
@@ -137,10 +149,25 @@ fn last_value<'a>(
 {
     let mut last = None;
     for pair in form_urlencoded::parse(alloc, form.as_bytes()) {
-        let (other, value) = pair?;
-        if other.as_str() == name {
-            last = Some(value);
-        }
+        let pair = pair?;
+        last = value_under(name, pair, last);
     }
     Ok(last)
+}
+
+/// The value of a pair that has the name, and else what was found before.
+fn value_under<'a>(
+    name: &str,
+    pair: (CowStr<'a>, CowStr<'a>),
+    before: Option<CowStr<'a>>,
+) -> Option<CowStr<'a>>
+    ensures { option_map cow_str_bytes result ≡ (if bytes_eq (cow_str_bytes pair.entry.0) name.now
+        then Some (cow_str_bytes pair.entry.1) else option_map cow_str_bytes before.entry) }
+{
+    let (other, value) = pair;
+    if other.as_str() == name {
+        Some(value)
+    } else {
+        before
+    }
 }

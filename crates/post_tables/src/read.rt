@@ -1,5 +1,5 @@
 // From rows of an answer to values.
-ghost use Rattle.std.specs.Prelude.{◌≡◌, ℕ, map, IfOk};
+ghost use Rattle.std.specs.Prelude.{◌≡◌, ◌++◌, ◌∷◌, [], ℕ, map, IfOk, OnOk};
 ghost use Rattle.std.specs.Option.{option_to_list};
 ghost use Rattle.post_tables.specs.Reading.{post_from, pair_from, name_from, IsTop};
 ghost use Rattle.post_tables.specs.Stored.{kind_of, status_of};
@@ -47,17 +47,48 @@ fn read_date(text: &str) -> Result<PostDate, Error>
     }
 }
 
+// What the column `kind` of a post's row says.
+fn kind_in(row: &Row) -> Result<PostKind, Error>
+    ensures { IfOk result (λ kind. kind ≡ kind_of (bytes (column row.now 1))) }
+{
+    Ok(read_kind(read_text(row, 1)?.as_str()))
+}
+
+// What the column `status` of a post's row says.
+fn status_in(row: &Row) -> Result<PostStatus, Error>
+    ensures { IfOk result (λ status. status ≡ status_of (bytes (column row.now 2))) }
+{
+    Ok(read_status(read_text(row, 2)?.as_str()))
+}
+
+// The date in a post's row.
+fn date_in(row: &Row) -> Result<PostDate, Error>
+    ensures { IfOk result (λ date. date ≡ bytes (column row.now 5)) }
+{
+    read_date(read_text(row, 5)?.as_str())
+}
+
 fn read_post(row: &Row) -> Result<Post, Error>
     ensures { IfOk result (λ post. post ≡ post_from row.now) }
 {
     Ok(Post {
         id: row.get(0)?,
-        kind: read_kind(read_text(row, 1)?.as_str()),
-        status: read_status(read_text(row, 2)?.as_str()),
+        kind: kind_in(row)?,
+        status: status_in(row)?,
         title: read_text(row, 3)?,
         content: read_text(row, 4)?,
-        date: read_date(read_text(row, 5)?.as_str())?,
+        date: date_in(row)?,
     })
+}
+
+// Puts a value behind the others.
+fn push<T: Drop>(values: &mut Vec<T>, value: T) -> Result<(), Error>
+    ensures { OnOk result (values.new.items ≡ values.old.items ++ value ∷ []) }
+{
+    if values.push(value).is_err() {
+        return Err(Error::SqliteFailure(ErrorCode::OutOfMemory));
+    }
+    Ok(())
 }
 
 pub(crate) fn read_posts(alloc: Global, rows: &[Row]) -> Result<Vec<Post>, Error>
@@ -65,12 +96,17 @@ pub(crate) fn read_posts(alloc: Global, rows: &[Row]) -> Result<Vec<Post>, Error
 {
     let mut posts = Vec::new(alloc);
     for row in rows {
-        let post = read_post(row)?;
-        if posts.push(post).is_err() {
-            return Err(Error::SqliteFailure(ErrorCode::OutOfMemory));
-        }
+        push(&mut posts, read_post(row)?)?;
     }
     Ok(posts)
+}
+
+// A name and its value.
+fn read_pair(row: &Row) -> Result<(Text, Text), Error>
+    ensures { IfOk result (λ pair. pair ≡ pair_from row.now) }
+{
+    let name = read_text(row, 0)?;
+    Ok((name, read_text(row, 1)?))
 }
 
 pub(crate) fn read_pairs(alloc: Global, rows: &[Row]) -> Result<Vec<(Text, Text)>, Error>
@@ -78,10 +114,7 @@ pub(crate) fn read_pairs(alloc: Global, rows: &[Row]) -> Result<Vec<(Text, Text)
 {
     let mut pairs = Vec::new(alloc);
     for row in rows {
-        let pair = (read_text(row, 0)?, read_text(row, 1)?);
-        if pairs.push(pair).is_err() {
-            return Err(Error::SqliteFailure(ErrorCode::OutOfMemory));
-        }
+        push(&mut pairs, read_pair(row)?)?;
     }
     Ok(pairs)
 }
@@ -91,10 +124,7 @@ pub(crate) fn read_names(alloc: Global, rows: &[Row]) -> Result<Vec<Text>, Error
 {
     let mut names = Vec::new(alloc);
     for row in rows {
-        let name = read_text(row, 0)?;
-        if names.push(name).is_err() {
-            return Err(Error::SqliteFailure(ErrorCode::OutOfMemory));
-        }
+        push(&mut names, read_text(row, 0)?)?;
     }
     Ok(names)
 }

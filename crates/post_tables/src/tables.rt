@@ -30,6 +30,7 @@ ghost use Rattle.post_tables.specs.Rows.{
   IsOfStore,
 };
 ghost use Rattle.post_tables.specs.Page.{page_of};
+ghost use Rattle.post_tables.specs.Stored.{IsSite, Reads, rows_of};
 
 use crate::fault::TablesFault;
 use crate::import::import;
@@ -69,6 +70,23 @@ impl Model for Tables {
     ghost view = { λ t. rows_of t.conn };
 
     ghost invariant = { λ t. IsSite t.conn };
+}
+
+/// The ID after the greatest that was ever given, where there is one left.
+fn next_id(conn: &mut Connection<MemStore>) -> Result<u32, TablesFault>
+    requires { IsSite conn.old }
+    ensures reads { Reads conn.old conn.new }
+    ensures id { IfOk result (λ id. id ≡ (rows_of conn.old).largest + 1) }
+    ensures left { OnOk result ((rows_of conn.old).largest < 2147483647) }
+    ensures used_up { result ≡ Err TablesFault.IdsUsedUp
+        → 2147483647 ≤ (rows_of conn.old).largest }
+    ensures fault { IfErr result (λ e. (e ≡ TablesFault.IdsUsedUp) ⊎ IsOfStore e) }
+{
+    let largest = read_top(&top_rows(conn)?)?;
+    if largest >= GREATEST_ID {
+        return Err(TablesFault::IdsUsedUp);
+    }
+    Ok(largest + 1)
 }
 
 impl Tables {
@@ -111,11 +129,7 @@ impl Tables {
         ensures used_up { result ≡ Err TablesFault.IdsUsedUp → 2147483647 ≤ self.old.largest }
         ensures fault { IfErr result (λ e. (e ≡ TablesFault.IdsUsedUp) ⊎ IsOfStore e) }
     {
-        let largest = read_top(&top_rows(&mut self.conn)?)?;
-        if largest >= GREATEST_ID {
-            return Err(TablesFault::IdsUsedUp);
-        }
-        let id = largest + 1;
+        let id = next_id(&mut self.conn)?;
         let post = NewPost {
             id,
             kind,

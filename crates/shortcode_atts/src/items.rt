@@ -1,10 +1,10 @@
 //! The items of an attribute text.
-ghost use Rattle.std.specs.Prelude.{◌≡◌, ℕ, ◌<◌, ◌≤◌, ◌==◌, not, List, length, take, drop, nat_lt, Option, option_map, IfSome};
+ghost use Rattle.std.specs.Prelude.{◌≡◌, ℕ, ◌<◌, ◌≤◌, List, length, take, drop, nat_lt, Option, option_map, IfSome};
 ghost use Rattle.std.specs.List.{prefix_len};
-ghost use Rattle.shortcode_atts.specs.Found.{pair_now, item_now};
+ghost use Rattle.shortcode_atts.specs.Found.{pair_now, item_now, belongs};
 ghost use Rattle.shortcode_atts.specs.Steps.{only_if};
 ghost use Rattle.shortcode_atts.specs.NameByte.{is_name_byte};
-ghost use Rattle.shortcode_atts.specs.Items.{is_white, is_bare_char, is_word_char, skip_white, after_char, is_ended, run_at, quoted_at, spelled_at, value_at, named_at, single_at, item_at};
+ghost use Rattle.shortcode_atts.specs.Items.{is_white, is_bare_char, skip_white, after_char, is_ended, run_at, quoted_at, spelled_at, value_at, named_at, single_at, item_at};
 
 /// How a value is written.
 #[derive(Clone, Copy)]
@@ -15,6 +15,21 @@ pub(crate) enum Form {
     Bare,
     /// With no white space.
     Word,
+}
+
+/// Characters of which a run is taken from the front of a text.
+#[derive(Clone, Copy)]
+pub(crate) enum Run {
+    /// White space.
+    White,
+    /// Characters of a name.
+    Name,
+    /// Characters of a value without quotes.
+    Bare,
+    /// All but white space.
+    Word,
+    /// All but this quote.
+    Until(char),
 }
 
 /// An item that was found at the front of a text, and what follows it.
@@ -46,44 +61,25 @@ fn is_bare_char(c: char) -> bool
     !(is_white(c) || c == '"' || c == '\'')
 }
 
-/// How much white space stands at the front.
-fn white_len(text: &[char]) -> usize
-    ensures value { result ≡ prefix_len is_white text.now }
-    ensures within { result ≤ length text.now }
+/// Whether a character belongs to a run.
+fn belongs(run: Run, c: char) -> bool
+    ensures { result ≡ belongs run c }
 {
-    text.iter().take_while(|c| is_white(**c)).count()
+    match run {
+        Run::White => is_white(c),
+        Run::Name => is_name_char(c),
+        Run::Bare => is_bare_char(c),
+        Run::Word => !is_white(c),
+        Run::Until(quote) => c != quote,
+    }
 }
 
-/// How many characters of a name stand at the front.
-fn name_len(text: &[char]) -> usize
-    ensures value { result ≡ prefix_len is_name_byte text.now }
+/// How many characters of a run stand at the front.
+fn run_len(run: Run, text: &[char]) -> usize
+    ensures value { result ≡ prefix_len (belongs run) text.now }
     ensures within { result ≤ length text.now }
 {
-    text.iter().take_while(|c| is_name_char(**c)).count()
-}
-
-/// How many characters of a value without quotes stand at the front.
-fn bare_len(text: &[char]) -> usize
-    ensures value { result ≡ prefix_len is_bare_char text.now }
-    ensures within { result ≤ length text.now }
-{
-    text.iter().take_while(|c| is_bare_char(**c)).count()
-}
-
-/// How many characters stand before the first white space.
-fn word_len(text: &[char]) -> usize
-    ensures value { result ≡ prefix_len is_word_char text.now }
-    ensures within { result ≤ length text.now }
-{
-    text.iter().take_while(|c| !is_white(**c)).count()
-}
-
-/// How many characters stand before the next quote.
-fn quoted_len(quote: char, text: &[char]) -> usize
-    ensures value { result ≡ prefix_len (λ c. not (c == quote)) text.now }
-    ensures within { result ≤ length text.now }
-{
-    text.iter().take_while(|c| **c != quote).count()
+    text.iter().take_while(|c| belongs(run, **c)).count()
 }
 
 /// What follows the white space at the front.
@@ -91,7 +87,7 @@ pub(crate) fn skip_white(text: &[char]) -> &[char]
     ensures value { result.now ≡ skip_white text.now }
     ensures within { length result.now ≤ length text.now }
 {
-    &text[white_len(text)..]
+    &text[run_len(Run::White, text)..]
 }
 
 /// What follows this character at the front.
@@ -135,7 +131,7 @@ fn quoted_at(quote: char, text: &[char]) -> Option<(&[char], &[char])>
     ensures shorter { IfSome result (λ x. length x.1.now < length text.now) }
 {
     let body = after_char(quote, text)?;
-    let len = quoted_len(quote, body);
+    let len = run_len(Run::Until(quote), body);
     let rest = after_char(quote, &body[len..])?;
     Some((&body[..len], rest))
 }
@@ -148,8 +144,8 @@ fn spelled_at(form: Form, text: &[char]) -> Option<(&[char], &[char])>
 {
     match form {
         Form::Quoted(quote) => quoted_at(quote, text),
-        Form::Bare => split(text, bare_len(text)),
-        Form::Word => split(text, word_len(text)),
+        Form::Bare => split(text, run_len(Run::Bare, text)),
+        Form::Word => split(text, run_len(Run::Word, text)),
     }
 }
 
@@ -173,7 +169,7 @@ fn named_at(form: Form, text: &[char]) -> Option<Found<'_>>
     ensures value { option_map item_now result ≡ named_at form text.now }
     ensures shorter { IfSome result (λ it. length it.rest.now < length text.now) }
 {
-    let (name, rest) = split(text, name_len(text))?;
+    let (name, rest) = split(text, run_len(Run::Name, text))?;
     let rest = after_char('=', skip_white(rest))?;
     let (value, rest) = value_at(form, skip_white(rest))?;
     Some(Found {

@@ -1,11 +1,14 @@
 -- What a scan knows of places ahead.
-use Rattle.std.proofs.Common.{◌≡◌, ℕ, ◌+◌, ◌<◌, ◌≤◌, List, [], ◌∷◌, ◌++◌, false, length, Option, Some, None, refl, sym, arith}
+use Rattle.std.proofs.Common.{◌≡◌, ℕ, ◌+◌, ◌<◌, ◌≤◌, List, [], ◌∷◌, ◌++◌, false, length, get_or, Option, Some, None, refl, sym, arith, inl, inr}
 use Rattle.std.specs.Prelude.{◌==◌, slice_index, IfSome, IsTrue, bytes_eq, codes}
-use Rattle.std.proofs.lemmas.Bool.{false≢true}
+use Rattle.std.proofs.lemmas.Bool.{false≢true, cases_lt}
+use Rattle.std.proofs.lemmas.List.{get_or_append_left, get_or_push, get_or_read}
 use Rattle.std.proofs.Common.{length-append}
 use Rattle.memchr.specs.Find.{occurs_at}
 use Rattle.memchr.proofs.lemmas.MatchLemmas.{OccursAt-true}
 use Rattle.hook_changes.specs.Names.{is_tag_name}
+use Rattle.shortcode_scan.specs.declared.ahead.Ahead.{Ahead}
+use Rattle.shortcode_scan.specs.Memory.{IsAheadOf, from_front}
 use Rattle.shortcode_scan.specs.Places.{first_place}
 use Rattle.shortcode_scan.specs.Matches.{bracket_from, closing_tag}
 use Rattle.shortcode_scan.proofs.PlaceLemmas.{first_place-some, first_place-covered}
@@ -34,3 +37,16 @@ length-closing_tag name = omega (arith, length-append (codes "[/") name, length-
 pub tag_name-some : (name : List ℕ) → IsTrue (is_tag_name name) → bytes_eq name [] ≡ false
 tag_name-some [] h = absurd (false≢true h)
 tag_name-some (x ∷ xs) h = refl
+
+-- one name more, whose closing tag was searched for from the front on
+pub closings_more : (text : List ℕ) (names : List (List ℕ)) (found later : List Ahead) (name : List ℕ) (i : ℕ)
+    → i < length names → name ≡ get_or names i name → length found ≡ i → later ≡ found ++ from_front text (closing_tag name) ∷ []
+    → ((k : ℕ) (n : List ℕ) (a : Ahead) → k < i → IsAheadOf text (closing_tag (get_or names k n)) (get_or found k a))
+    → (k : ℕ) (n : List ℕ) (a : Ahead) → k < i + 1 → IsAheadOf text (closing_tag (get_or names k n)) (get_or later k a)
+closings_more text names found later name i within is count behind before k n a lt =
+    elim (cases_lt k i) [
+      | inl less ↦ rw (behind, get_or_append_left found (from_front text (closing_tag name) ∷ []) a k (omega (arith, count, less))) (before k n a less)
+      | inr le ↦
+          let same : k ≡ i = omega arith in
+          rw (behind, same, ← get_or_read names i name within is n, get_or_push found (from_front text (closing_tag name)) a i count) refl
+    ]

@@ -11,6 +11,10 @@ use Rattle.shortcode_scan.specs.Matches.{bracket_from, closing_tag}
 abbrev pub IsAheadOf : List ℕ → List ℕ → Ahead → Type 0
 IsAheadOf text tag a = a.next ≡ first_place (occurs_at text tag) a.from (length text)
 
+-- what a search for a tag from the front on finds
+abbrev pub from_front : List ℕ → List ℕ → Ahead
+from_front text tag = record { from = 0; next = first_place (occurs_at text tag) 0 (length text) }
+
 -- none of the names is empty
 abbrev pub IsNamed : List (List ℕ) → Type 0
 IsNamed names = list_any (λ n. bytes_eq n []) names ≡ false

@@ -1,9 +1,9 @@
 //! What a scan has found ahead of its place, so that no stretch of the text is searched twice for the same thing.
-ghost use Rattle.std.specs.Prelude.{◌≡◌, ◌+◌, ◌<◌, ◌≤◌, length, IsTrue, IfOk, IfSome};
+ghost use Rattle.std.specs.Prelude.{◌≡◌, ◌+◌, ◌<◌, ◌≤◌, ◌++◌, ◌∷◌, [], length, IsTrue, IfOk, IfSome, OnOk};
 ghost use Rattle.memchr.specs.Find.{occurs_at};
 ghost use Rattle.shortcode_scan.specs.Places.{first_place};
-ghost use Rattle.shortcode_scan.specs.Matches.{bracket_from};
-ghost use Rattle.shortcode_scan.specs.Memory.{IsAheadOf, Knows};
+ghost use Rattle.shortcode_scan.specs.Matches.{bracket_from, closing_tag};
+ghost use Rattle.shortcode_scan.specs.Memory.{IsAheadOf, Knows, from_front};
 
 use crate::places::{bracket_from, closing_tag, tag_from};
 use hook_changes::TagName;
@@ -83,6 +83,25 @@ pub(crate) fn next_closing(
     ahead.next
 }
 
+/// Adds the search for the closing tag of a name, and what it finds from the front of the text on.
+fn push_search(
+    alloc: Global,
+    name: &[u8],
+    text: &[u8],
+    tags: &mut Vec<Finder<'static>>,
+    closings: &mut Vec<Ahead>,
+) -> Result<(), AllocError>
+    ensures tags { OnOk result (tags.new.items ≡ tags.old.items ++ closing_tag name.now ∷ []) }
+    ensures closings { OnOk result (closings.new.items ≡ closings.old.items
+        ++ from_front text.now (closing_tag name.now) ∷ []) }
+{
+    let tag = closing_tag(alloc, name)?;
+    let next = tag_from(text, &tag, 0);
+    tags.push(tag)?;
+    closings.push(Ahead { from: 0, next })?;
+    Ok(())
+}
+
 /// What the first searches, from the front of the text, find.
 pub(crate) fn first_memory(
     alloc: Global,
@@ -94,12 +113,8 @@ pub(crate) fn first_memory(
     let mut tags = Vec::new(alloc);
     let mut closings = Vec::new(alloc);
     for name in names {
-        let tag = closing_tag(alloc, name.as_str().as_bytes())?;
-        closings.push(Ahead {
-            from: 0,
-            next: tag_from(text, &tag, 0),
-        })?;
-        tags.push(tag)?;
+        let name = name.as_str().as_bytes();
+        push_search(alloc, name, text, &mut tags, &mut closings)?;
     }
     let bracket = Ahead {
         from: 0,

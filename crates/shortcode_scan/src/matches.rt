@@ -148,6 +148,30 @@ fn core_of(
     }
 }
 
+/// What follows the end of a live name, where the first `]` from there on is at `bracket`.
+fn core_named(
+    names: &[TagName],
+    text: &[u8],
+    memory: &mut Memory,
+    name: Name,
+    bracket: usize,
+) -> Core
+    requires live { name.index < length names.now }
+    requires after_name { name.end ≤ bracket }
+    requires in_text { bracket < length text.now }
+    requires known { Knows names.now text.now memory.old }
+    ensures value { result ≡ core_of text.now (slice_index_or names.now name.index []) name.end bracket }
+    ensures within { (bracket < result.end) × (result.end ≤ length text.now) }
+    ensures known { Knows names.now text.now memory.new }
+{
+    let run = names[name.index].as_str().as_bytes();
+    let tag = &memory.tags[name.index];
+    let mut ahead = memory.closings[name.index];
+    let core = core_of(text, run, tag, &mut ahead, name.end, bracket);
+    memory.closings[name.index] = ahead;
+    core
+}
+
 /// The match at a place with this core.
 #[tactic(auto, unfolding(crate::specs::Matches::with_extras))]
 fn with_extras(text: &[u8], start: usize, name: Span, core: Core) -> Found
@@ -190,10 +214,7 @@ fn match_at(names: &[TagName], text: &[u8], memory: &mut Memory, at: usize) -> O
     let name = name_at(names, text, start)?;
     let end = name.end;
     let bracket = next_bracket(text, &mut memory.bracket, end)?;
-    let tag = &memory.tags[name.index];
-    let mut ahead = memory.closings[name.index];
-    let core = core_of(text, &text[start..end], tag, &mut ahead, end, bracket);
-    memory.closings[name.index] = ahead;
+    let core = core_named(names, text, memory, name, bracket);
     Some(with_extras(text, at, Span { start, end }, core))
 }
 
@@ -235,12 +256,26 @@ pub(crate) fn cut(alloc: Global, live: &[TagName], bytes: &[u8]) -> Result<Vec<P
 {
     let mut memory = first_memory(alloc, live, bytes)?;
     let mut pieces = Vec::new(alloc);
+    push_pieces(live, bytes, &mut memory, &mut pieces)?;
+    Ok(pieces)
+}
+
+/// Adds the pieces of a text to a list that has none yet.
+fn push_pieces(
+    live: &[TagName],
+    bytes: &[u8],
+    memory: &mut Memory,
+    pieces: &mut Vec<Piece>,
+) -> Result<(), AllocError>
+    requires known { Knows live.now bytes.now memory.old }
+    requires none { pieces.old.items ≡ [] }
+    ensures { OnOk result (IsPieces live.now bytes.now pieces.new.items) }
+{
     let mut at = 0;
-    'pieces: while let Some(found) = next_match(live, bytes, &mut memory, at) {
-        push_plain(&mut pieces, at, found.start)?;
+    'pieces: while let Some(found) = next_match(live, bytes, memory, at) {
+        push_plain(pieces, at, found.start)?;
         pieces.push(found.piece)?;
         at = found.end;
     }
-    push_plain(&mut pieces, at, bytes.len())?;
-    Ok(pieces)
+    push_plain(pieces, at, bytes.len())
 }

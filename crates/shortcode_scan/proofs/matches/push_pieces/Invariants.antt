@@ -2,7 +2,7 @@ use Rattle.std.proofs.Common.{◌≤◌, ◌-◌, length, List, ◌++◌}
 use Rattle.shortcode_scan.specs.declared.Piece.{Piece}
 use Rattle.shortcode_scan.specs.Memory.{Knows}
 use Rattle.shortcode_scan.specs.Pieces.{PiecesFrom, IsPieces}
-use Rattle.shortcode_scan.proofs.matches.cut.Given as goal
+use Rattle.shortcode_scan.proofs.matches.push_pieces.Given as goal
 
 -- whatever cuts the rest completes the pieces
 abbrev pub invariant-pieces : goal.invariant-pieces

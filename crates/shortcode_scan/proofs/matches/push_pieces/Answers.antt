@@ -1,5 +1,5 @@
 use Rattle.shortcode_scan.proofs.PieceLemmas.{ArePiecesUpTo-match}
-use Rattle.shortcode_scan.proofs.matches.cut.Goals as goal
+use Rattle.shortcode_scan.proofs.matches.push_pieces.Goals as goal
 
 pub pieces-preserved : goal.pieces-preserved
 pieces-preserved c =
