@@ -1,8 +1,10 @@
 //! Commands, read from a line's tree.
-ghost use Rattle.std.specs.Prelude.{◌≡◌, option_map};
+ghost use Rattle.std.specs.Prelude.{◌≡◌, Some, option_map, codes};
 ghost use Rattle.serde_json.specs.View.{view};
+ghost use Rattle.site_values.specs.Tree.{with_found, text_at, text_or};
 ghost use Rattle.site_commands.specs.Asked.{
   asked_by,
+  put,
   command_of,
   put_of,
   edit_of,
@@ -112,6 +114,17 @@ fn read_put(value: &Value) -> Option<Command<'_>>
 {
     let kind = kind_named(text_or(value, "kind", "post")?)?;
     let status = status_named(text_or(value, "status", "publish")?)?;
+    read_put_of(value, kind, status)
+}
+
+// The texts of such a post or page.
+fn read_put_of(value: &Value, kind: PostKind, status: PostStatus) -> Option<Command<'_>>
+    ensures { option_map asked_by result
+        ≡ with_found (text_or (codes "title") (codes "") (view value.now)) (λ title.
+        with_found (text_or (codes "content") (codes "") (view value.now)) (λ content.
+        with_found (text_at (codes "date") (view value.now)) (λ date.
+        Some (put kind status title content date)))) }
+{
     let title = text_or(value, "title", "")?;
     let content = text_or(value, "content", "")?;
     let date = text_at(value, "date")?;

@@ -1,6 +1,7 @@
 //! The posts of a site file.
-ghost use Rattle.std.specs.Prelude.{◌≡◌, ◌≢◌, Ok, Err, IfOk, IfErr, map, option_map};
+ghost use Rattle.std.specs.Prelude.{◌≡◌, ◌≢◌, Some, Ok, Err, IfOk, IfErr, map, option_map, codes};
 ghost use Rattle.serde_json.specs.View.{view};
+ghost use Rattle.site_values.specs.Tree.{with_found, text_at};
 ghost use Rattle.site_import.specs.Walks.{each_from, section_of};
 ghost use Rattle.site_import.specs.Posts.{post_by, shape_of, post_at, posts_in, posts_of};
 
@@ -31,6 +32,17 @@ fn read_row(value: &Value) -> Option<PostRow<'_>>
     let id = id_at(value)?;
     let kind = kind_named(text_at(value, "kind")?)?;
     let status = status_named(text_at(value, "status")?)?;
+    read_texts(value, id, kind, status)
+}
+
+// The texts of such a post.
+fn read_texts(value: &Value, id: u32, kind: PostKind, status: PostStatus) -> Option<PostRow<'_>>
+    ensures { option_map post_by result
+        ≡ with_found (text_at (codes "title") (view value.now)) (λ title.
+        with_found (text_at (codes "content") (view value.now)) (λ content.
+        with_found (text_at (codes "date") (view value.now)) (λ date.
+        Some (record { id = id; kind = kind; status = status; title = title; content = content; date = date })))) }
+{
     let title = text_at(value, "title")?;
     let content = text_at(value, "content")?;
     let date = text_at(value, "date")?;

@@ -1,15 +1,15 @@
 -- From what was taken of the input to what stands when serving ends.
-use Rattle.std.proofs.Common.{arith, ◌≡◌, ◌⊎◌, inl, inr, ℕ, ◌+◌, ◌-◌, ◌*◌, ◌<◌, ◌≤◌, List, [], ◌∷◌, ◌++◌, ◌∙◌, Option, Some, None, sym, subst, ap, take, length, append_assoc, append-nil, length-append, flat_map}
+use Rattle.std.proofs.Common.{arith, ◌≡◌, ◌⊎◌, inl, inr, ℕ, ◌+◌, ◌-◌, ◌*◌, ◌<◌, ◌≤◌, List, [], ◌∷◌, ◌++◌, ◌∙◌, Option, Some, None, Err, Bool, false, sym, subst, ap, take, length, append_assoc, append-nil, length-append, flat_map}
 use Rattle.std.specs.Prelude.{IfSome}
 use Rattle.std.proofs.lemmas.Grind.{flat_map-append}
 use Rattle.std.proofs.lemmas.List.{nil_from_length}
 use Rattle.std.proofs.lemmas.List.Elements.{All-append, All-push}
-use Rattle.std.proofs.KnownBytes.{Appends-trans, Consumes-trans}
-use Rattle.std.specs.Io.KnownBytes.{Appends, Consumes, IsAtEnd}
+use Rattle.std.proofs.KnownBytes.{Appends-trans, Consumes-trans, Consumes-kept}
+use Rattle.std.specs.Io.KnownBytes.{Appends, Consumes, Keeps, IsAtEnd}
 use Rattle.site_program.specs.Reply.{Answer, bytes_of}
 use Rattle.site_program.specs.Step.{Answers}
 use Rattle.site_program.specs.Lines.{lines_of, IsLine, max_line, max_lines, ended}
-use Rattle.site_program.specs.Serving.{IsReplies, AnswersAll, FailsAt, GoesPast, Stops, ServesAll}
+use Rattle.site_program.specs.Serving.{is_read, IsReplies, AnswersAll, FailsAt, GoesPast, Stops, ServesAll}
 use Rattle.site_program.specs.Stream.{Takes, Faults, IsTooLong}
 use Rattle.site_program.specs.declared.fault.ServeFault.{ServeFault}
 use Rattle.site_program.specs.declared.fault.ServeFault.TheVariants as fault_of
@@ -144,6 +144,18 @@ module _ (steps : Rows → List ℕ → Rows × Answer) where
         at_given (λ input. (further : List (List ℕ)) × (lines_of input ≡ t.lines ++ w.0 ∷ further)) given left stretch read
             (λ more. (lines_of (w.1 ++ more), lines_of-taken _ _ _ _ _ _ more _ _ t ∙ ap (λ ls. t.lines ++ ls) (ap lines_of (ap (λ l. l ++ more) w.2 ∙ append_assoc (ended w.0) w.1 more ∙ append_assoc w.0 (10 ∷ []) (w.1 ++ more)) ∙ lines_of-line w.0 (w.1 ++ more) w.3.one))),
       )
+
+  -- what stands after a read that failed
+  pub Stops-from_read : (old new : Rows) (left : ℕ) (stretch held : List ℕ) (given mid last before after : Option (List ℕ)) → Consumes given mid stretch → Keeps mid last → Takes steps old max_lines stretch before after new left held → IsLine held → Stops steps old given last before after new fault_of.Read
+  Stops-from_read old new left stretch held given mid last before after read kept t line =
+      (t.lines, held, AnswersAll-from _ _ _ _ _ _ _ t, line, Consumes-kept given mid last _ (subst (Consumes given mid) t.whole read) kept)
+
+  -- a fault in a stretch is none of reading
+  pub faults_but_read : (old new : Rows) (limit : ℕ) (stretch : List ℕ) (before after : Option (List ℕ)) (fault : ServeFault) (failed : Bool) → Faults steps old limit stretch before after new fault → failed ≡ false → failed ≡ is_read (Err fault)
+  faults_but_read old new limit stretch before after fault_of.Read failed f sound = absurd f.faults
+  faults_but_read old new limit stretch before after fault_of.Write failed f sound = sound
+  faults_but_read old new limit stretch before after fault_of.TooMuchInput failed f sound = sound
+  faults_but_read old new limit stretch before after fault_of.OutOfMemory failed f sound = sound
 
   -- ---- the end of the input
 

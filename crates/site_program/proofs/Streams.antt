@@ -1,6 +1,6 @@
 -- Lemmas on a stretch of input whose lines are carried out one after another.
-use Rattle.std.proofs.Common.{arith, ◌≡◌, ◌≢◌, ◌⊎◌, inl, inr, ℕ, suc, ◌+◌, ◌-◌, ◌<◌, ◌≤◌, List, [], ◌∷◌, ◌++◌, ◌∙◌, Option, Some, None, zero, true, false, refl, sym, subst, ap, length, take, drop, get_or, append_assoc, append-nil, eq-eqb, length-append, take-append-drop, flat_map}
-use Rattle.std.specs.Prelude.{◌==◌}
+use Rattle.std.proofs.Common.{arith, ◌≡◌, ◌≢◌, ◌⊎◌, inl, inr, ℕ, suc, ◌+◌, ◌-◌, ◌<◌, ◌≤◌, List, [], ◌∷◌, ◌++◌, ◌∙◌, Option, Some, None, Result, Ok, Err, zero, Bool, true, false, refl, sym, subst, ap, length, take, drop, get_or, append_assoc, append-nil, eq-eqb, length-append, take-append-drop, flat_map}
+use Rattle.std.specs.Prelude.{◌==◌, is_err, OnOk, IfErr}
 use Rattle.std.proofs.lemmas.Grind.{common_steps, flat_map-append}
 use Rattle.std.proofs.lemmas.List.Elements.{All-push, All-append, All-from_get_or, All-nil}
 use Rattle.std.proofs.lemmas.List.{drop_more, get_or-take, length-take-le}
@@ -11,7 +11,7 @@ use Rattle.memchr.specs.Find.{IsFirstByte, is_byte}
 use Rattle.site_program.specs.Reply.{Answer, bytes_of}
 use Rattle.site_program.specs.Step.{Answers}
 use Rattle.site_program.specs.Lines.{IsLine, HasNoNewline, max_line, ended}
-use Rattle.site_program.specs.Serving.{IsReplies, FailsAt}
+use Rattle.site_program.specs.Serving.{is_write, IsReplies, FailsAt}
 use Rattle.site_program.specs.declared.fault.ServeFault.{ServeFault}
 use Rattle.site_program.specs.declared.fault.ServeFault.TheVariants as fault_of
 use Rattle.site_program.specs.Stream.{Takes, Faults, FaultsAt, IsTooLong}
@@ -76,6 +76,34 @@ pub no_newline_found : (hay : List ℕ) (r : Option ℕ) → IsFirstByte (is_byt
 no_newline_found hay None found never = found
 no_newline_found hay (Some i) found never = absurd (never i refl)
 
+-- ---- how carrying out a line ends
+
+-- what holds anyway holds of every value
+pub on_every_ok : {X : Type 0} (r : Result (Unit {0}) ServeFault) → X → OnOk r X
+on_every_ok (Ok nothing) x = x
+on_every_ok (Err e) x = tt
+
+-- a reply that isn't written is the one fault
+pub write_alone : (r : Result (Unit {0}) ServeFault) → IfErr r (λ e. e ≡ fault_of.Write) → IfErr r (λ e. (e ≡ fault_of.Write) ⊎ (e ≡ fault_of.OutOfMemory))
+write_alone (Ok nothing) is = tt
+write_alone (Err e) is = inl is
+
+pub write_is_no_memory : {X : Type 0} (r : Result (Unit {0}) ServeFault) → IfErr r (λ e. e ≡ fault_of.Write) → r ≡ Err fault_of.OutOfMemory → X
+write_is_no_memory (Ok nothing) is e = absurd (cc)
+write_is_no_memory (Err fault_of.Read) is e = absurd (cc)
+write_is_no_memory (Err fault_of.Write) is e = absurd (cc)
+write_is_no_memory (Err fault_of.TooMuchInput) is e = absurd (cc)
+write_is_no_memory (Err fault_of.OutOfMemory) is e = absurd (cc)
+
+pub failed_by_write : (r : Result (Unit {0}) ServeFault) (failed : Bool) → failed ≡ is_err r → IfErr r (λ e. e ≡ fault_of.Write) → failed ≡ is_write r
+failed_by_write (Ok nothing) failed same is = same
+failed_by_write (Err e) failed same is = rw is same
+
+-- want of memory is no failed write
+pub sound_without_memory : (r : Result (Unit {0}) ServeFault) (failed : Bool) → failed ≡ false → IfErr r (λ e. e ≡ fault_of.OutOfMemory) → failed ≡ is_write r
+sound_without_memory (Ok nothing) failed same is = same
+sound_without_memory (Err e) failed same is = rw is same
+
 -- ---- what a chunk does
 
 -- the stretch goes on by the line and its newline
@@ -122,6 +150,10 @@ module _ (steps : Rows → List ℕ → Rows × Answer) where
     written = t.written;
   }
 
+  -- what follows the last newline is held
+  pub Takes-held : (old mid : Rows) (limit left : ℕ) (stretch kept more all : List ℕ) (before after : Option (List ℕ)) → Takes steps old limit stretch before after mid left kept → stretch ++ more ≡ all → Takes steps old limit all before after mid left (kept ++ more)
+  Takes-held old mid limit left stretch kept more all before after t e = subst (λ l. Takes steps old limit l before after mid left (kept ++ more)) e (Takes-more old mid limit left stretch kept more before after t)
+
   -- the next line ends
   pub Takes-line : (old mid new : Rows) (limit left : ℕ) (stretch kept part : List ℕ) (before between after : Option (List ℕ)) (reply : Answer) → Takes steps old limit stretch before between mid left kept → IsLine (kept ++ part) → 0 < left
       → Answers steps mid (kept ++ part) reply new → Appends between after (bytes_of reply) → Takes steps old limit (stretch ++ (part ++ 10 ∷ [])) before after new (left - 1) []
@@ -147,7 +179,7 @@ module _ (steps : Rows → List ℕ → Rows × Answer) where
     between = between;
     left = left;
     rest = held ++ rest;
-    taken = subst (λ l. Takes steps old limit l before between mid left (held ++ rest)) e (Takes-more old mid limit left stretch held rest before between t);
+    taken = Takes-held old mid limit left stretch held rest all before between t e;
     faults = f;
   }
 

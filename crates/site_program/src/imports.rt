@@ -1,8 +1,8 @@
 //! The command that adds what a site file holds.
-ghost use Rattle.std.specs.Prelude.{◌≡◌, ◌≢◌, ◌≤◌, IfOk, IfErr, OnOk, OnErr, All, false};
+ghost use Rattle.std.specs.Prelude.{◌≡◌, ◌≢◌, ◌≤◌, Ok, IfOk, IfErr, OnOk, OnErr, All, false};
 ghost use Rattle.serde_json.specs.View.{view};
 ghost use Rattle.site_program.specs.Reply.{answer_of};
-ghost use Rattle.site_program.specs.Imports.{import, import_refusal, added, are_known};
+ghost use Rattle.site_program.specs.Imports.{import, imported, import_refusal, added, are_known};
 ghost use Rattle.site_program.specs.Step.{comes_before_store};
 
 use crate::fault::StoreFault;
@@ -27,14 +27,25 @@ impl<'p, S: Stated> Setup<'p, S> {
         ensures late { IfErr result (λ fault. fault ≡ StoreFault.Store → comes_before_store
             (import (engine_of S.says S.number self.now).plugins tables.old (view site.now)).1 ≡ false) }
     {
-        let records = match read_site_value(self.alloc, site) {
-            Ok(file) => file.records,
-            Err(fault) => return refused_import(fault),
-        };
+        match read_site_value(self.alloc, site) {
+            Ok(file) => self.add_known(tables, &file.records),
+            Err(fault) => refused_import(fault),
+        }
+    }
+
+    /// The records of a site file are added, where there is each plugin that is active in it.
+    fn add_known(&self, tables: &mut Tables, records: &SiteRecords) -> Result<SiteReply, StoreFault>
+        requires { All (λ p. (1 ≤ p.id) × (p.id ≤ 2147483647)) records.now.posts }
+        ensures ok { IfOk result (λ reply. (tables.new, answer_of reply)
+            ≡ imported (engine_of S.says S.number self.now).plugins tables.old (Ok records.now)) }
+        ensures err { OnErr result (tables.new ≡ tables.old) }
+        ensures late { IfErr result (λ fault. fault ≡ StoreFault.Store → comes_before_store
+            (imported (engine_of S.says S.number self.now).plugins tables.old (Ok records.now)).1 ≡ false) }
+    {
         if !self.are_known(records.active.as_slice()) {
             return Ok(SiteReply::Refused(Refusal::UnknownPlugin));
         }
-        add_records(tables, &records)
+        add_records(tables, records)
     }
 
     fn are_known(&self, names: &[Text]) -> bool

@@ -87,10 +87,11 @@ impl<'p, S: Stated> Setup<'p, S> {
         ensures err { IfErr result (IsRefusedBy (page_pass (engine_of S.says S.number self.now)
             (calls_of self.now) found options.now templates.now active.now)) }
     {
+        let run = loaded_run(self.alloc, self.plugins, active, options, self.calls)?;
         let Ok(settings) = settings_for(self.alloc, found.kind, options, templates) else {
+            drop(run);
             return Err(RunFault::OutOfMemory);
         };
-        let run = loaded_run(self.alloc, self.plugins, active, options, self.calls)?;
         Page::begin(self.alloc, found, settings, run).finish()
     }
 }
@@ -111,8 +112,13 @@ fn loaded_run<'p, S: Stated>(
     ensures err { IfErr result (λ fault. fault ≡ RunFault.OutOfMemory) }
 {
     let mut run = Run::new(alloc, plugins, active, options, calls)?;
-    run.load()?;
-    Ok(run)
+    match run.load() {
+        Ok(()) => Ok(run),
+        Err(fault) => {
+            drop(run);
+            Err(fault)
+        }
+    }
 }
 
 /// What a path finds in a site with these options.

@@ -1,5 +1,8 @@
 //! Replies, and the bytes that are written for them.
-ghost use Rattle.std.specs.Prelude.{◌≡◌};
+ghost use Rattle.std.specs.Prelude.{◌≡◌, false, is_err, OnOk, OnErr};
+ghost use Rattle.std.specs.Io.KnownBytes.{Appends};
+ghost use Rattle.ends.specs.Known.{AppendsFront};
+ghost use Rattle.site_program.specs.Reply.{bytes_of, done_id, refused, page};
 
 use crate::fault::ServeFault;
 use ends::{EndFault, Sink, write_all, write_pieces};
@@ -104,10 +107,8 @@ pub enum SiteReply {
 }
 
 impl SiteReply {
-    ghost use Rattle.std.specs.Prelude.{◌≡◌, false, is_err, OnOk, IfErr, OnErr};
-    ghost use Rattle.std.specs.Io.KnownBytes.{Appends};
-    ghost use Rattle.ends.specs.Known.{AppendsFront};
-    ghost use Rattle.site_program.specs.Reply.{answer_of, bytes_of};
+    ghost use Rattle.std.specs.Prelude.{IfErr};
+    ghost use Rattle.site_program.specs.Reply.{answer_of};
 
     /// Writes the reply's bytes: `ok`, `ok N` or `refused N Name` and a newline, or `page STATUS LENGTH`, a newline,
     /// the page and a newline. It takes no memory, and writes a short reply in one piece, a long page in three. At an
@@ -138,27 +139,60 @@ impl SiteReply {
     {
         match self {
             SiteReply::Ok => write_all(writer, b"ok\n"),
-            SiteReply::OkId(id) => {
-                let mut buffer = Buffer::new();
-                let digits = buffer.format(*id).as_bytes();
-                write_pieces(writer, &[b"ok ", digits, b"\n"])
-            }
-            SiteReply::Refused(refusal) => {
-                let mut buffer = Buffer::new();
-                let digits = buffer.format(refusal.number()).as_bytes();
-                let name = refusal.name().as_bytes();
-                write_pieces(writer, &[b"refused ", digits, b" ", name, b"\n"])
-            }
-            SiteReply::Page { status, body } => {
-                let mut status_buffer = Buffer::new();
-                let status = status_buffer.format(*status).as_bytes();
-                let mut length_buffer = Buffer::new();
-                let length = length_buffer.format(body.len()).as_bytes();
-                write_pieces(
-                    writer,
-                    &[b"page ", status, b" ", length, b"\n", body, b"\n"],
-                )
-            }
+            SiteReply::OkId(id) => write_ok_id(writer, *id),
+            SiteReply::Refused(refusal) => write_refused(writer, *refusal),
+            SiteReply::Page { status, body } => write_page(writer, *status, body),
         }
     }
+}
+
+/// Writes `ok N` and a newline.
+#[tactic(auto, unfolding(crate::specs::Reply::bytes_of))]
+fn write_ok_id<W: Sink>(writer: &mut W, id: u32) -> Result<(), EndFault>
+    requires { W.has_failed writer.old ≡ false }
+    ensures ok { OnOk result
+        (Appends (W.contents writer.old) (W.contents writer.new) (bytes_of (done_id id))) }
+    ensures part { OnErr result
+        (AppendsFront (W.contents writer.old) (W.contents writer.new) (bytes_of (done_id id))) }
+    ensures failed { W.has_failed writer.new ≡ is_err result }
+{
+    let mut buffer = Buffer::new();
+    let digits = buffer.format(id).as_bytes();
+    write_pieces(writer, &[b"ok ", digits, b"\n"])
+}
+
+/// Writes `refused N Name` and a newline.
+#[tactic(auto, unfolding(crate::specs::Reply::bytes_of))]
+fn write_refused<W: Sink>(writer: &mut W, refusal: Refusal) -> Result<(), EndFault>
+    requires { W.has_failed writer.old ≡ false }
+    ensures ok { OnOk result
+        (Appends (W.contents writer.old) (W.contents writer.new) (bytes_of (refused refusal))) }
+    ensures part { OnErr result
+        (AppendsFront (W.contents writer.old) (W.contents writer.new) (bytes_of (refused refusal))) }
+    ensures failed { W.has_failed writer.new ≡ is_err result }
+{
+    let mut buffer = Buffer::new();
+    let digits = buffer.format(refusal.number()).as_bytes();
+    let name = refusal.name().as_bytes();
+    write_pieces(writer, &[b"refused ", digits, b" ", name, b"\n"])
+}
+
+/// Writes `page STATUS LENGTH`, a newline, the page and a newline.
+#[tactic(auto, unfolding(crate::specs::Reply::bytes_of))]
+fn write_page<W: Sink>(writer: &mut W, status: u16, body: &[u8]) -> Result<(), EndFault>
+    requires { W.has_failed writer.old ≡ false }
+    ensures ok { OnOk result
+        (Appends (W.contents writer.old) (W.contents writer.new) (bytes_of (page status body.now))) }
+    ensures part { OnErr result
+        (AppendsFront (W.contents writer.old) (W.contents writer.new) (bytes_of (page status body.now))) }
+    ensures failed { W.has_failed writer.new ≡ is_err result }
+{
+    let mut status_buffer = Buffer::new();
+    let status = status_buffer.format(status).as_bytes();
+    let mut length_buffer = Buffer::new();
+    let length = length_buffer.format(body.len()).as_bytes();
+    write_pieces(
+        writer,
+        &[b"page ", status, b" ", length, b"\n", body, b"\n"],
+    )
 }

@@ -1,4 +1,6 @@
 //! Serving an input, line by line.
+ghost use Rattle.std.specs.Prelude.{◌≡◌, ◌++◌, OnOk, IfErr};
+
 use crate::fault::ServeFault;
 use crate::setup::Setup;
 use crate::site::Site;
@@ -17,7 +19,7 @@ const MAX_LINE: usize = 1_048_576;
 const CHUNK: usize = 65_536;
 
 impl<'p, S: Stated> Site<'p, S> {
-    ghost use Rattle.std.specs.Prelude.{◌≡◌, ℕ, List, Some, ◌++◌, false, OnOk, IfErr, IfSome};
+    ghost use Rattle.std.specs.Prelude.{ℕ, List, Some, false, IfSome};
     ghost use Rattle.site_program.specs.Site.{setup_of, rows_of};
     ghost use Rattle.site_program.specs.Step.{steps_of};
     ghost use Rattle.site_program.specs.Lines.{lines_of};
@@ -78,7 +80,7 @@ impl<'p, S: Stated> Site<'p, S> {
 }
 
 impl<'p, S: Stated> Setup<'p, S> {
-    ghost use Rattle.std.specs.Prelude.{◌≡◌, ◌⊎◌, ◌<◌, ◌≤◌, ◌++◌, [], false, length, is_err, OnOk, OnErr, IfErr, IsErrOf};
+    ghost use Rattle.std.specs.Prelude.{◌⊎◌, ◌<◌, ◌≤◌, [], false, length, is_err, OnErr, IsErrOf};
     ghost use Rattle.std.specs.Io.KnownBytes.{Appends};
     ghost use Rattle.site_program.specs.Reply.{Answer, bytes_of};
     ghost use Rattle.site_program.specs.Step.{Answers, steps_of};
@@ -123,10 +125,7 @@ impl<'p, S: Stated> Setup<'p, S> {
         if *left == 0 || rest.len() > MAX_LINE - held.len() {
             return Err(ServeFault::TooMuchInput);
         }
-        match held.extend_from_slice(rest) {
-            Ok(()) => Ok(()),
-            Err(_) => Err(ServeFault::OutOfMemory),
-        }
+        hold(held, rest)
     }
 
     // Carries out the line that ends with this part, and holds nothing more.
@@ -155,10 +154,7 @@ impl<'p, S: Stated> Setup<'p, S> {
         if held.is_empty() {
             return self.answer(tables, part, writer);
         }
-        match held.extend_from_slice(part) {
-            Ok(()) => {}
-            Err(_) => return Err(ServeFault::OutOfMemory),
-        }
+        hold(held, part)?;
         self.answer(tables, held, writer)?;
         held.clear();
         Ok(())
@@ -182,5 +178,16 @@ impl<'p, S: Stated> Setup<'p, S> {
     {
         let reply = self.command(tables, line);
         reply.write_to(writer)
+    }
+}
+
+// Holds these bytes behind those that are held.
+fn hold(held: &mut Vec<u8>, part: &[u8]) -> Result<(), ServeFault>
+    ensures ok { OnOk result (held.new.items ≡ held.old.items ++ part.now) }
+    ensures err { IfErr result (λ e. e ≡ ServeFault.OutOfMemory) }
+{
+    match held.extend_from_slice(part) {
+        Ok(()) => Ok(()),
+        Err(_) => Err(ServeFault::OutOfMemory),
     }
 }

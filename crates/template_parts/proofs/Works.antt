@@ -36,15 +36,21 @@ module _ (engine : Engine) (settings : Settings) (shows : Text → Text) (world 
       ends_err_then (filtered engine world hook value args) (λ later v. printed later (shows v)) why mid last
       (subst (λ a. Ends (filtered engine world hook value a) (Err why) mid) handed_is (subst (λ v. Ends (filtered engine world hook v handed) (Err why) mid) given_is refused))
 
-  -- a filter gave a value, and what is shown of it was printed
-  pub shown_ends : (answer text : Text) (result : Result (Unit {0}) RunFault) → given ≡ value → handed ≡ args → Ends (filtered engine world hook given handed) (Ok answer) mid → text ≡ shows answer
-      → OnOk result (last ≡ record mid { output = mid.output ++ text }) → IfErr result (λ fault. fault ≡ OutOfMemory) → Ends (shown_pass engine settings shows world hook value args) result last
+  -- a filter gave a value, and what is shown of it was printed or refused
+  pub shown_by : (answer text : Text) (result : Result (Unit {0}) RunFault) → given ≡ value → handed ≡ args → Ends (filtered engine world hook given handed) (Ok answer) mid → text ≡ answer
+      → Ends (printed mid (shows text)) result last → Ends (shown_pass engine settings shows world hook value args) result last
   unfolding shown_pass
-  shown_ends answer text result given_is handed_is ended text_is same memory =
+  shown_by answer text result given_is handed_is ended text_is ends =
       let trace = filtered engine world hook value args in
       let next = λ (later : World) (v : Text). printed later (shows v) in
       let done : end_of trace ≡ Ended mid answer = subst (λ a. Ends (filtered engine world hook value a) (Ok answer) mid) handed_is (subst (λ v. Ends (filtered engine world hook v handed) (Ok answer) mid) given_is ended) in
-      ends_alike (printed mid (shows answer)) (and_then trace next) result last (sym (end_then trace next mid answer done)) (printed_ends mid last (shows answer) text result text_is same memory)
+      ends_alike (printed mid (shows answer)) (and_then trace next) result last (sym (end_then trace next mid answer done)) (subst (λ t. Ends (printed mid (shows t)) result last) text_is ends)
+
+  -- a filter gave a value, and what is shown of it was printed
+  pub shown_ends : (answer text : Text) (result : Result (Unit {0}) RunFault) → given ≡ value → handed ≡ args → Ends (filtered engine world hook given handed) (Ok answer) mid → text ≡ shows answer
+      → OnOk result (last ≡ record mid { output = mid.output ++ text }) → IfErr result (λ fault. fault ≡ OutOfMemory) → Ends (shown_pass engine settings shows world hook value args) result last
+  shown_ends answer text result given_is handed_is ended text_is same memory =
+      shown_by answer answer result given_is handed_is ended refl (printed_ends mid last (shows answer) text result text_is same memory)
 
 module _ {X : Type 0} (work : World → X → Work) where
   -- one piece on, what is left ends as before

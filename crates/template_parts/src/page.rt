@@ -54,7 +54,9 @@ impl<'p, S: Stated> Page<'p, S> {
             settings,
             mut run,
         } = self;
-        printed(alloc, &mut run, &settings, &found)
+        let page = printed(alloc, &mut run, &settings, &found);
+        drop(run);
+        page
     }
 }
 

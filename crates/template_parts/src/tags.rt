@@ -35,26 +35,44 @@ pub(crate) fn print_tag<S: Stated>(
             Some(post) => print_post_tag(alloc, run, settings, tag, post),
             None => Ok(()),
         },
-        Tag::SiteName => print_site_name(alloc, run, settings),
+        Tag::SiteName => print_html_escaped(alloc, run, settings.site_name.as_str()),
         Tag::WpHead => run.do_action("wp_head", &Listed::empty(alloc)),
         Tag::WpFooter => run.do_action("wp_footer", &Listed::empty(alloc)),
     }
 }
 
-fn print_site_name<S: Stated>(
+/// Prints a text with the characters that HTML reads as its own escaped.
+fn print_html_escaped<S: Stated>(
     alloc: Global,
     run: &mut Run<'_, S>,
-    settings: &Settings,
+    text: &str,
 ) -> Result<(), RunFault>
     requires { fault_of run.old ≡ None }
-    ensures ends { Ends (printed (world_of run.old) (html_escaped settings.now.site_name)) result (world_of run.new) }
+    ensures ends { Ends (printed (world_of run.old) (html_escaped text.now)) result (world_of run.new) }
     ensures sound { OnOk result (fault_of run.new ≡ None) }
     ensures engine { engine_of S.says S.number run.new ≡ engine_of S.says S.number run.old }
 {
-    let Ok(name) = escape_html(alloc, settings.site_name.as_str()) else {
+    let Ok(escaped) = escape_html(alloc, text) else {
         return Err(RunFault::OutOfMemory);
     };
-    run.print(name.as_str())
+    run.print(escaped.as_str())
+}
+
+/// Prints a text with each `]]>` escaped.
+fn print_ends_escaped<S: Stated>(
+    alloc: Global,
+    run: &mut Run<'_, S>,
+    text: &str,
+) -> Result<(), RunFault>
+    requires { fault_of run.old ≡ None }
+    ensures ends { Ends (printed (world_of run.old) (ends_escaped text.now)) result (world_of run.new) }
+    ensures sound { OnOk result (fault_of run.new ≡ None) }
+    ensures engine { engine_of S.says S.number run.new ≡ engine_of S.says S.number run.old }
+{
+    let Ok(escaped) = escape_ends(alloc, text) else {
+        return Err(RunFault::OutOfMemory);
+    };
+    run.print(escaped.as_str())
 }
 
 #[tactic(auto, unfolding(crate::specs::Pages::post_tag_pass))]
@@ -116,10 +134,7 @@ fn print_escaped_title<S: Stated>(
         return Err(RunFault::OutOfMemory);
     };
     let title = run.apply_filters("the_title", title, &args)?;
-    let Ok(title) = escape_html(alloc, title.as_str()) else {
-        return Err(RunFault::OutOfMemory);
-    };
-    run.print(title.as_str())
+    print_html_escaped(alloc, run, title.as_str())
 }
 
 fn print_content<S: Stated>(
@@ -138,10 +153,7 @@ fn print_content<S: Stated>(
         return Err(RunFault::OutOfMemory);
     };
     let value = run.apply_filters("the_content", content, &Listed::empty(alloc))?;
-    let Ok(value) = escape_ends(alloc, value.as_str()) else {
-        return Err(RunFault::OutOfMemory);
-    };
-    run.print(value.as_str())
+    print_ends_escaped(alloc, run, value.as_str())
 }
 
 fn print_permalink<S: Stated>(

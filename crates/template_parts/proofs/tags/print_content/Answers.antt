@@ -1,7 +1,5 @@
-use Rattle.std.proofs.Common.{◌∙◌, ap}
 use Rattle.std.proofs.lemmas.Result.{err_from_is_err_and}
-use Rattle.page_escapes.specs.Escapes.{ends_escaped}
-use Rattle.template_parts.proofs.Works.{shown_refused, shown_ends}
+use Rattle.template_parts.proofs.Works.{shown_refused, shown_by}
 use Rattle.template_parts.proofs.tags.print_content.Goals as goal
 
 -- the filter was refused
@@ -10,8 +8,7 @@ returns-in_err-value-clause-ends g c =
     let p = err_from_is_err_and c.from_residual.result c.from_residual.ensures.1 in
     rw (p.1, p.2) (shown_refused _ _ _ _ _ _ _ _ _ _ _ _ c.in-Ok.ensures c.empty.ensures (c.in_err-value.ensures.filtered c.requires))
 
--- the filter gave a value, and it was printed
+-- the filter gave a value, and it was printed escaped
 pub returns-clause-ends : goal.returns-clause-ends
 returns-clause-ends g c =
-    shown_ends _ _ _ _ _ _ _ _ _ _ _ _ _ _ c.in-Ok.ensures c.empty.ensures (c.in_ok-value.ensures.filtered c.requires) (c.as_str-2.ensures ∙ c.in-Ok-escape_ends.ensures ∙ ap ends_escaped c.as_str.ensures)
-    (c.print.ensures.printed c.in_ok-value.ensures.sound) (c.print.ensures.memory c.in_ok-value.ensures.sound)
+    shown_by _ _ _ _ _ _ _ _ _ _ _ _ _ _ c.in-Ok.ensures c.empty.ensures (c.in_ok-value.ensures.filtered c.requires) c.as_str.ensures c.print_ends_escaped.ensures.ends

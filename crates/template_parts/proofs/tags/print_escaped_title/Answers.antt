@@ -1,7 +1,5 @@
-use Rattle.std.proofs.Common.{◌∙◌, ap}
 use Rattle.std.proofs.lemmas.Result.{err_from_is_err_and}
-use Rattle.page_escapes.specs.Escapes.{html_escaped}
-use Rattle.template_parts.proofs.Works.{shown_refused, shown_ends}
+use Rattle.template_parts.proofs.Works.{shown_refused, shown_by}
 use Rattle.template_parts.proofs.tags.print_escaped_title.Goals as goal
 
 -- the filter was refused
@@ -13,5 +11,4 @@ returns-in_err-title-clause-ends g c =
 -- the filter gave a title, and it was printed escaped
 pub returns-clause-ends : goal.returns-clause-ends
 returns-clause-ends g c =
-    shown_ends _ _ _ _ _ _ _ _ _ _ _ _ _ _ c.in-Ok.ensures.value c.in-Ok.ensures.args (c.in_ok-title.ensures.filtered c.requires) (c.as_str-2.ensures ∙ c.in-Ok-escape_html.ensures ∙ ap html_escaped c.as_str.ensures)
-    (c.print.ensures.printed c.in_ok-title.ensures.sound) (c.print.ensures.memory c.in_ok-title.ensures.sound)
+    shown_by _ _ _ _ _ _ _ _ _ _ _ _ _ _ c.in-Ok.ensures.value c.in-Ok.ensures.args (c.in_ok-title.ensures.filtered c.requires) c.as_str.ensures c.print_html_escaped.ensures.ends

@@ -3,8 +3,8 @@ use Rattle.std.proofs.lemmas.Grind.{common_steps}
 use Rattle.std.proofs.KnownBytes.{Appends-nil}
 use Rattle.site_program.specs.Lines.{IsLine, max_line}
 use Rattle.site_program.specs.Stream.{IsTooLong}
-use Rattle.site_program.proofs.Streams.{Takes-line, IsLine-nil, IsLine-before, IsLine-whole, IsTooLong-before, IsTooLong-whole, whole_line, fault_at, FaultsAt-finish, some_of, no_newline_found}
-use Rattle.std.proofs.lemmas.Result.{err_from_is_err_and}
+use Rattle.site_program.proofs.Streams.{Takes-nil, Takes-held, Takes-line, on_every_ok, sound_without_memory, IsLine-nil, IsLine-before, IsLine-whole, IsTooLong-before, IsTooLong-whole, whole_line, fault_at, FaultsAt-finish, some_of, no_newline_found}
+use Rattle.std.proofs.lemmas.Result.{err_from_is_err_and, IfOk-weaker, IfErr-weaker}
 use Rattle.site_program.proofs.setup.Setup.take_chunk.Goals as goal
 use Rattle.site_program.proofs.setup.Setup.take_chunk.Goals.{then-left-eq0-via-then-left-eq0, then-left-eq0-via-else-left-eq0+then-end-len, then-left-eq0-2-via-then-left-eq0-2, then-left-eq0-2-via-else-left-eq0-2+then-rest-len}
 
@@ -37,16 +37,6 @@ returns-then-left-eq0-2-clause-err g c =
       | then-left-eq0-2-via-else-left-eq0-2+then-rest-len w ↦ let same = c.loop-end.held.ok.0 in inr (IsTooLong-whole held rest i.line none (omega (arith, same)))
     ] in
     fault_at _ _ _ _ _ _ _ _ _ _ _ _ _ _ i.taken i.whole (refl, Appends-nil _, some, past)
-
--- what follows the last newline found no memory
-pub returns-in-Err-clause-err : goal.returns-in-Err-clause-err
-returns-in-Err-clause-err g c =
-    let i = c.loop-end.invariant in
-    let held = c.loop-end.held.items in
-    let rest = c.loop-end.rest.now in
-    let more : 0 < length rest = some_of (length rest) (sym c.is_empty.ensures ∙ c.if-is_empty.false) in
-    let some : 0 < length (held ++ rest) = simp length-append (omega arith) in
-    fault_at _ _ _ _ _ _ _ _ _ _ _ _ _ _ i.taken i.whole (refl, Appends-nil _, some)
 
 -- the line is carried out, and its newline goes
 pub loop-end-preserved : goal.loop-end-preserved
@@ -86,9 +76,68 @@ returns-in_err-finish_line-clause-err g c =
     let faults = FaultsAt-finish _ _ _ _ held rest _ _ _ _ _ refl found line err.only (λ e. err.write (ap Err e)) (λ e. err.memory (ap Err e)) in
     rw (p.1, p.2) (fault_at _ _ _ _ _ _ _ _ _ _ _ _ _ _ i.taken i.whole faults)
 
-pub returns-in-Ok-clause-line : goal.returns-in-Ok-clause-line
-returns-in-Ok-clause-line g c =
+-- what follows the last newline is held, or found no memory
+pub returns-clause-ok : goal.returns-clause-ok
+returns-clause-ok g c =
+    let i = c.loop-end.invariant in
+    IfOk-weaker c.hold.result _ _ (λ nothing e. rw e (Takes-held _ _ _ _ _ _ _ _ _ _ _ i.taken i.whole)) c.hold.ensures.ok
+
+pub returns-clause-line : goal.returns-clause-line
+returns-clause-line g c =
     let i = c.loop-end.invariant in
     let same = c.loop-end.held.ok.0 in
     let none = no_newline_found c.loop-end.rest.now c.memchr.result c.memchr.ensures c.in_default.not-Some in
-    rw c.in-Ok.ensures.items (IsLine-whole c.loop-end.held.items c.loop-end.rest.now i.line none (omega (arith, same)))
+    let whole = IsLine-whole c.loop-end.held.items c.loop-end.rest.now i.line none (omega (arith, same)) in
+    IfOk-weaker c.hold.result _ _ (λ nothing e. rw e whole) c.hold.ensures.ok
+
+pub returns-clause-room : goal.returns-clause-room
+returns-clause-room g c = on_every_ok c.hold.result (λ some. omega arith)
+
+pub returns-clause-err : goal.returns-clause-err
+returns-clause-err g c =
+    let i = c.loop-end.invariant in
+    let held = c.loop-end.held.items in
+    let rest = c.loop-end.rest.now in
+    let more : 0 < length rest = some_of (length rest) (sym c.is_empty.ensures ∙ c.if-is_empty.false) in
+    let some : 0 < length (held ++ rest) = simp length-append (omega arith) in
+    IfErr-weaker c.hold.result _ _ (λ fault is. rw is (fault_at _ _ _ _ _ _ _ _ _ _ _ _ _ _ i.taken i.whole (refl, Appends-nil _, some))) c.hold.ensures.err
+
+pub returns-clause-failed : goal.returns-clause-failed
+returns-clause-failed g c = sound_without_memory c.hold.result _ c.loop-end.invariant.sound c.hold.ensures.err
+
+-- nothing was taken yet
+pub loop-end-init : goal.loop-end-init
+loop-end-init g c = record {
+  stretch = c.args.held.now.items;
+  whole = refl;
+  taken = Takes-nil _ _ _ _ _;
+  line = c.requires.line;
+  room = c.requires.room;
+  sound = c.requires.whole;
+}
+
+-- what is held leaves room within a line
+pub overflow_sub-len : goal.overflow_sub-len
+overflow_sub-len g c =
+    let short = c.loop-end.invariant.line.short in
+    let same = c.loop-end.held.ok.0 in
+    omega (arith, short, same)
+
+pub overflow_sub-len-else-left-eq0-2 : goal.overflow_sub-len-else-left-eq0-2
+overflow_sub-len-else-left-eq0-2 g c =
+    let short = c.loop-end.invariant.line.short in
+    let same = c.loop-end.held.ok.0 in
+    omega (arith, short, same)
+
+pub finish_line-requires-clause-short : goal.finish_line-requires-clause-short
+finish_line-requires-clause-short g c =
+    let held = c.loop-end.held.items in
+    let rest = c.loop-end.rest.now in
+    let end = c.in-Some.end in
+    let same = c.loop-end.held.ok.0 in
+    let fits : end ≤ max_line - length held = omega (arith, same) in
+    let line : IsLine (held ++ take end rest) = IsLine-before held rest (take end rest) end refl c.loop-end.invariant.line c.in-Some.ensures fits in
+    line.short
+
+pub loop-end-smaller : goal.loop-end-smaller
+loop-end-smaller g c = grind (arith, common_steps)

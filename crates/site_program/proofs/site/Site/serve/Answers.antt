@@ -2,10 +2,11 @@ use Rattle.std.proofs.Common.{rules, arith, ◌≡◌, ◌<◌, ◌∙◌, sym, 
 use Rattle.site_program.specs.Serving.{FailsAt}
 use Rattle.site_program.specs.Step.{Answers, steps_of}
 use Rattle.std.proofs.KnownBytes.{Consumes-trans}
+use Rattle.std.proofs.lemmas.Grind.{common_steps}
 use Rattle.std.proofs.lemmas.Bool.{eqb-true}
 use Rattle.std.proofs.lemmas.Result.{err_from_is_err_and}
 use Rattle.site_program.proofs.Streams.{some_of}
-use Rattle.site_program.proofs.Endings.{Stops-from_faults, Faults-after, Takes-trans, Consumes-none, ServesAll-from, ServesAll-from_last, Stops-from_last, answers_told}
+use Rattle.site_program.proofs.Endings.{falls, faults_but_read, Stops-from_read, Stops-from_faults, Faults-after, Takes-trans, Consumes-none, ServesAll-from, ServesAll-from_last, Stops-from_last, answers_told}
 use Rattle.site_program.proofs.site.Site.serve.Goals as goal
 use Rattle.site_program.proofs.site.Site.serve.Goals.{then-not-is_empty+in_ok-answer, else-not-is_empty}
 
@@ -22,6 +23,21 @@ chunks-preserved g c =
       reader_sound = search rules;
       writer_sound = search rules;
     }
+
+pub chunks-smaller : goal.chunks-smaller
+chunks-smaller g c =
+    let ok = c.in_ok-take_chunk.ensures in
+    falls _ _ _ _ _ _ _ _ _ _ ok.ok (grind (arith, common_steps)) c.chunks.invariant.line.short ok.room
+
+pub returns-in-Err-clause-stopped : goal.returns-in-Err-clause-stopped
+returns-in-Err-clause-stopped g c =
+    let i = c.chunks.invariant in
+    Stops-from_read _ _ _ _ _ _ _ _ _ _ _ i.read c.in-Err.ensures.bytes i.taken i.line
+
+pub returns-in_err-take_chunk-clause-read : goal.returns-in_err-take_chunk-clause-read
+returns-in_err-take_chunk-clause-read g c =
+    let p = err_from_is_err_and c.from_residual.result c.from_residual.ensures.1 in
+    rw (p.1, p.2) (faults_but_read _ _ _ _ _ _ _ _ _ c.in_err-take_chunk.ensures.err (search rules))
 
 pub returns-in_err-take_chunk-clause-stopped : goal.returns-in_err-take_chunk-clause-stopped
 returns-in_err-take_chunk-clause-stopped g c =
