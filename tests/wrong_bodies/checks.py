@@ -1,0 +1,125 @@
+"""One check of a crate with some texts of its own changed."""
+
+import importlib.machinery
+import importlib.util
+import os
+import re
+import shutil
+import subprocess
+import tempfile
+
+# A function's verdict, as `fn hook_changes::kept::Text::new: not proved`.
+VERDICT = re.compile(r"^fn ([\w:+]+): (.*)$", re.M)
+# A goal or an answer that failed, as `./proofs/kept/Text/new/Answers.antt:5:13: error: ...`.
+ERROR = re.compile(r"^(?:\./)?proofs/(\S+)/\w+\.antt:\d+:\d+: error: (.*)$", re.M)
+# What is said of an answer that names what isn't there.
+ONLY_A_NAME = re.compile(r"has no field|is not in scope|has no `|that can be named|was not admitted")
+LAST_LINE = re.compile(r"^(logic=|only=)", re.M)
+UNANSWERED = re.compile(r"no proof: expected answers in \S+; `search` did not prove (.*)")
+
+
+class ToolchainFault(Exception):
+    """The toolchain isn't there, or stopped without a verdict."""
+
+
+class Rejected(Exception):
+    """The text doesn't compile, so the prover wasn't asked."""
+
+
+def processors():
+    return len(os.sched_getaffinity(0))
+
+
+class Said:
+    """What a check said of each function."""
+
+    def __init__(self, crate, text):
+        self.crate = crate
+        self.verdicts = dict(VERDICT.findall(text))
+        self.errors = {}
+        for folder, error in ERROR.findall(text):
+            self.errors.setdefault(folder.replace("/", "::"), []).append(error)
+
+    def verdict(self, edit):
+        return self.verdicts.get(f"{edit.crate}::{edit.turns}")
+
+    def goals(self, edit):
+        """The goals of the turned function that failed; of a recursion, which has one proof, those of all of it."""
+        if edit.cycle is None:
+            return self.errors.get(edit.turns, [])
+        return [it for folder, of in self.errors.items() if folder.endswith(f"+{edit.cycle}") for it in of]
+
+    def refusal(self, edit):
+        """By what the edit's own function refuses it, or None if nothing shows that it does."""
+        shown = [it for it in self.goals(edit) if not ONLY_A_NAME.search(it)]
+        if shown:
+            return shown[0]
+        verdict = self.verdict(edit) or ""
+        unanswered = UNANSWERED.match(verdict)
+        if unanswered:
+            return f"not proved: {unanswered[1]}"
+        # What a proof file names in vain is said as an error above, and a callee after the word.
+        return verdict if verdict == "not proved" and not self.goals(edit) else None
+
+
+class Toolchain:
+    """The prover, called as `rt must-fail` calls it."""
+
+    def __init__(self):
+        rt = shutil.which("rt")
+        if not rt:
+            raise ToolchainFault("the command 'rt' of the Rattle toolchain isn't on the PATH")
+        library = os.path.join(os.path.dirname(os.path.realpath(rt)), "rtlib.py")
+        loader = importlib.machinery.SourceFileLoader("rtlib", library)
+        self.rtlib = importlib.util.module_from_spec(importlib.util.spec_from_loader("rtlib", loader))
+        loader.exec_module(self.rtlib)
+        # Its first call sets a signal's handler, which only the main thread may.
+        self.guard = self.rtlib.guarded()
+        # How many checks each crate had, and their seconds of a processor.
+        self.spent = {}
+
+    def crates(self, root):
+        """The repository's crates, those below before those above."""
+        return sorted(self.rtlib.crates_below(str(root)), key=lambda it: len(it.below()))
+
+    def build_below(self, crate):
+        """Builds the libraries below a crate where they have changed."""
+        for library in crate.below():
+            if library.build_rlib(["--jobs", "1"], anew=False):
+                raise ToolchainFault(f"its library {library.name} isn't proved")
+
+    def check(self, crate, texts, functions, kept):
+        """Checks these functions of a copy of the crate, with these texts in place of its own, over what kept holds."""
+        with tempfile.TemporaryDirectory(prefix="wrong-body-") as room:
+            for part in self.rtlib.PARTS:
+                if os.path.isdir(f"{crate.folder}/{part}"):
+                    shutil.copytree(f"{crate.folder}/{part}", f"{room}/{part}")
+            for path, text in texts.items():
+                with open(f"{room}/{path}", "w", encoding="utf-8") as file:
+                    file.write(text)
+            words = [*crate.words(["--jobs", "1"], keeps=False), "--incremental", kept]
+            for function in functions:
+                words += ["--only", function]
+            said = self.run(crate.name, ["check", *words], room)
+        if self.rtlib.STALE.search(said):
+            raise ToolchainFault("the kept work of a library can't be used")
+        if not LAST_LINE.search(said):
+            raise Rejected(first_error(said))
+        return Said(crate.name, said)
+
+    def run(self, name, words, folder):
+        """What the prover says, on either stream; its seconds are counted to the crate's."""
+        how = {"stdin": subprocess.DEVNULL, "stdout": subprocess.PIPE, "stderr": subprocess.STDOUT}
+        child = subprocess.Popen([*self.guard, self.rtlib.RATTLE, *words], cwd=folder, errors="replace", **how)
+        with child.stdout:
+            said = child.stdout.read()
+        _, status, usage = os.wait4(child.pid, 0)
+        child.returncode = os.waitstatus_to_exitcode(status)
+        checks, seconds = self.spent.get(name, (0, 0.0))
+        self.spent[name] = checks + 1, seconds + usage.ru_utime + usage.ru_stime
+        return said
+
+
+def first_error(text):
+    lines = [it for it in text.split("\n") if "error" in it] or text.strip().split("\n")[-1:]
+    return lines[0][:200]

@@ -1,0 +1,119 @@
+"""The edits: what each changes, and how far its change reaches."""
+
+import re
+from pathlib import Path
+
+NAME = re.compile(r"[A-Za-z0-9_-][A-Za-z0-9_.-]*\.edit")
+FUNCTION = re.compile(r"(\s*)(?:pub(?:\([a-z]+\))? )?(?:const )?fn (\w+)")
+CYCLE = re.compile(r"\s*#\[cycle\((\w+)\)\]")
+
+
+class BadEdit(Exception):
+    """An edit that can't be applied, or that doesn't have the form that the head of the script states."""
+
+
+class Edit:
+    """One wrong body: the function that it turns, and the texts that it replaces, as (file, old, new)."""
+
+    def __init__(self, crate, stem, turns, pairs):
+        self.crate = crate
+        self.label = f"{crate}/{stem}"
+        self.turns = turns
+        self.pairs = pairs
+        # Set by read_edits: the recursion that the function is part of, if any, and whether all lies in its body.
+        self.cycle = None
+        self.in_body = True
+
+    def applied(self, texts, read):
+        """The texts with this edit made in them, or None if an old text doesn't stand once in its file.
+
+        texts has the files that were changed already, by their paths; read gives the text of any other."""
+        changed = dict(texts)
+        for file, old, new in self.pairs:
+            text = changed[file] if file in changed else read(file)
+            if text.count(old) != 1:
+                return None
+            changed[file] = text.replace(old, new)
+        return changed
+
+
+def parsed(crate, path):
+    """The edit that a file holds."""
+    turns, file, old, pairs = [], None, None, []
+    for line in path.read_text(encoding="utf-8").split("\n"):
+        if line.startswith("turns: "):
+            turns.append(line[len("turns: ") :].strip())
+        elif line.startswith("file: "):
+            file = line[len("file: ") :].strip()
+            if not file.startswith(("src/", "specs/", "proofs/")) or ".." in file:
+                raise BadEdit("a 'file:' line names no file below src/, specs/ or proofs/")
+        elif line.startswith("old: "):
+            old = line[len("old: ") :]
+        elif line.startswith("new:"):
+            if not file or not old:
+                raise BadEdit("a 'new:' line stands before any 'file:' or 'old:' line")
+            pairs.append((file, old, line[len("new:") :].removeprefix(" ")))
+            old = None
+    if len(turns) != 1 or not re.fullmatch(r"[\w:+]+", turns[0]):
+        raise BadEdit("it has not exactly one line 'turns: FUNCTION'")
+    if not pairs:
+        raise BadEdit("it has no 'old:' and 'new:' pair")
+    return Edit(crate, path.stem, turns[0], pairs)
+
+
+def function_around(text, at):
+    """The function in whose body a place of a source lies, as its name and its recursion, or None.
+
+    It is the nearest one above whose body has begun: rt fmt puts the brace that opens the body of a function with
+    clauses on a line of its own, and of one without at the end of the line that ends its signature."""
+    lines = text[:at].split("\n")
+    for number in range(len(lines) - 1, -1, -1):
+        head = FUNCTION.match(lines[number])
+        if not head:
+            continue
+        opens = {f"{head[1]}{{", f"{head[1]}{{}}"}
+        stated = False
+        for line in lines[number:-1]:
+            stated = stated or re.match(r"\s*(requires|ensures|ghost)\b", line) is not None
+            if line in opens or not stated and line.endswith("{"):
+                return head[2], cycle_above(lines, number)
+        return None
+    return None
+
+
+def cycle_above(lines, number):
+    """The recursion that an attribute above a function names."""
+    while number > 0 and re.match(r"\s*(#\[|///|//)", lines[number - 1]):
+        number -= 1
+        named = CYCLE.match(lines[number])
+        if named:
+            return named[1]
+    return None
+
+
+def read_edits(crate, folder, path):
+    """The edit that a file holds, once it has been seen to apply."""
+    if not NAME.fullmatch(path.name) or not path.is_file():
+        raise BadEdit("an edit is a file whose name is of letters, digits, _, - and . and ends in .edit")
+    try:
+        edit = parsed(crate, path)
+    except (OSError, UnicodeDecodeError) as fault:
+        raise BadEdit(f"it can't be read ({fault})") from fault
+
+    def read(file):
+        try:
+            return Path(folder, file).read_text(encoding="utf-8")
+        except OSError as fault:
+            raise BadEdit(f"there is no file {file}") from fault
+
+    texts = {}
+    for file, old, new in edit.pairs:
+        text = texts[file] if file in texts else read(file)
+        if text.count(old) != 1:
+            raise BadEdit(f"an 'old:' text is in {file} {text.count(old)} times, and not once")
+        found = function_around(text, text.index(old)) if file.startswith("src/") else None
+        name = edit.turns.rpartition("::")[2]
+        edit.in_body = edit.in_body and found is not None and found[0] == name
+        edit.cycle = edit.cycle or (found and found[1])
+        texts[file] = text.replace(old, new)
+    return edit

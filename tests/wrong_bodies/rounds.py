@@ -1,0 +1,89 @@
+"""Rounds: which edits share a check, and what each check shows of them."""
+
+from pathlib import Path
+
+from checks import Rejected
+
+# How often an edit is tried in company before it is tried alone.
+TRIES = 2
+
+
+class Round:
+    """Edits of a crate that can share one check, and the texts with all of them made."""
+
+    def __init__(self, crate):
+        self.crate = crate
+        self.edits = []
+        self.texts = {}
+
+    def read(self, file):
+        return Path(self.crate.folder, file).read_text(encoding="utf-8")
+
+    def takes(self, edit):
+        """Adds an edit, if it turns a function and a recursion of its own and its texts are still there."""
+        if any(it.turns == edit.turns or it.cycle and it.cycle == edit.cycle for it in self.edits):
+            return False
+        texts = edit.applied(self.texts, self.read)
+        if texts is None:
+            return False
+        self.texts = texts
+        self.edits.append(edit)
+        return True
+
+
+def round_of(crate, edits):
+    made = Round(crate)
+    for edit in edits:
+        made.takes(edit)
+    return made
+
+
+def try_round(toolchain, made, kept):
+    """What a check of a round says of its edits, as pairs of an edit and what was said, halved where it can't be read."""
+    try:
+        said = toolchain.check(made.crate, made.texts, [it.turns for it in made.edits], kept)
+        return [(it, said) for it in made.edits]
+    except Rejected as fault:
+        if len(made.edits) == 1:
+            return [(made.edits[0], fault)]
+        half = len(made.edits) // 2
+        halves = round_of(made.crate, made.edits[:half]), round_of(made.crate, made.edits[half:])
+        return [pair for it in halves for pair in try_round(toolchain, it, kept)]
+
+
+def judged(edit, said, is_alone):
+    """An edit's verdict, or None if another round has to show it."""
+    if isinstance(said, Rejected):
+        return False, f"{edit.label}: BAD EDIT: it doesn't compile: {said}"
+    refusal = said.refusal(edit)
+    if refusal:
+        return True, f"{edit.label}: refused by {edit.turns}: {refusal[:160]}"
+    verdict = said.verdict(edit)
+    if verdict is None:
+        return False, f"{edit.label}: BAD EDIT: the check has no function {edit.turns}"
+    if verdict == "proved":
+        return False, f"{edit.label}: NOT REFUSED: {edit.turns} is still proved"
+    if is_alone:
+        why = "; ".join(it[:200] for it in said.goals(edit)) or verdict
+        return False, f"{edit.label}: NOT SHOWN: {edit.turns} is not proved, but by no goal of its contract: {why}"
+    return None
+
+
+def try_edits(toolchain, crate, edits, kept):
+    """Tries a crate's edits, in as few rounds as show them all."""
+    verdicts, tries = [], {it.label: 0 for it in edits}
+    left = [it for it in edits if it.in_body]
+    alone = [it for it in edits if not it.in_body]
+    while left or alone:
+        made = round_of(crate, left or alone[:1])
+        for edit, said in try_round(toolchain, made, kept):
+            (left if edit in left else alone).remove(edit)
+            verdict = judged(edit, said, is_alone=len(made.edits) == 1)
+            tries[edit.label] += 1
+            if verdict:
+                verdicts.append(verdict)
+            elif tries[edit.label] < TRIES:
+                left.append(edit)
+            else:
+                alone.append(edit)
+    return verdicts
