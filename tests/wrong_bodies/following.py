@@ -5,7 +5,8 @@ import threading
 import time
 
 PROVED = re.compile(r"^rt: (\w+) (proved|NOT PROVED.*)$", re.M)
-ENDED = re.compile(r"^\d+ passed, \d+ failed$", re.M)
+# What ./test writes behind the output, however the run ended.
+ENDED = re.compile(r"^rt ci has ended$", re.M)
 
 
 class Log:

@@ -1,0 +1,73 @@
+"""What the scripts of this folder know of the repository: its crates, what each stands on, and what it is made from."""
+
+import hashlib
+import os
+from concurrent.futures import FIRST_COMPLETED, ThreadPoolExecutor, wait
+from pathlib import Path
+
+ROOT = Path(__file__).resolve().parent.parent
+# The folders of a crate that a proof reads, and those of its edits.
+SOURCES = ("src", "specs", "proofs")
+EDITS = ("must-fail", "wrong-bodies")
+
+
+def read_crates():
+    """The repository's crates as crates.txt lists them: the names of its own crates that each names."""
+    listed = {}
+    for line in (ROOT / "crates.txt").read_text(encoding="utf-8").splitlines():
+        name, colon, libraries = line.partition("#")[0].partition(":")
+        if colon:
+            listed[name.split()[0]] = libraries.split()
+    return {name: [it for it in libraries if it in listed] for name, libraries in listed.items()}
+
+
+def below(crates, name):
+    """All crates that a crate stands on."""
+    found = set()
+    for it in crates[name]:
+        found |= {it} | below(crates, it)
+    return found
+
+
+def lowest_first(crates, names):
+    return sorted(names, key=lambda it: (len(below(crates, it)), it))
+
+
+def is_program(name):
+    return (ROOT / "crates" / name / "src" / "main.rt").is_file()
+
+
+def has_tests(name):
+    return any("#[test]" in it.read_text(encoding="utf-8") for it in (ROOT / "crates" / name / "src").rglob("*.rt"))
+
+
+def sum_of(name, parts):
+    """A sum of a crate's files in some of its folders."""
+    found = hashlib.sha256()
+    folder = ROOT / "crates" / name
+    for path in sorted(it for part in parts for it in (folder / part).rglob("*") if it.is_file()):
+        found.update(f"{path.relative_to(folder)}\0".encode() + path.read_bytes() + b"\0")
+    return found.hexdigest()
+
+
+def processors():
+    return len(os.sched_getaffinity(0))
+
+
+def side_by_side(crates, names, work, lanes):
+    """Calls work for each name, a crate after all below it and as many at once as there are lanes.
+
+    The result has what each call gave; no further call begins after one that gave false."""
+    left, given, running = lowest_first(crates, names), {}, {}
+    with ThreadPoolExecutor(lanes) as pool:
+        while left or running:
+            done = {name for name in given if given[name]}
+            ready = [it for it in left if not (below(crates, it) & set(names)) - done]
+            if not all(given.values()):
+                left = ready = []
+            for name in ready[: lanes - len(running)]:
+                left.remove(name)
+                running[pool.submit(work, name)] = name
+            for it in wait(running, return_when=FIRST_COMPLETED).done if running else ():
+                given[running.pop(it)] = it.result()
+    return given
