@@ -6,7 +6,7 @@ use std::marker::Model;
 /// The number by which a bundle of plugins names one of its callbacks, where WordPress has a PHP callable.
 ///
 /// Number 0 is core's own callback, `do_shortcode`; no plugin has it.
-#[derive(Clone, Copy, Debug, PartialEq, Eq)]
+#[derive(Clone, Copy, PartialEq, Eq)]
 pub struct CallbackId {
     number: u32,
 }

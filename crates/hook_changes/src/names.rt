@@ -32,7 +32,7 @@ impl From<AllocError> for NameFault {
 
 /// The name of a hook, action or filter alike: 1 to 64 bytes of text (Plugin Handbook, Hooks; the lengths are this
 /// engine's own).
-#[derive(Debug, Drop)]
+#[derive(Drop)]
 pub struct HookName {
     name: String,
 }
@@ -90,7 +90,7 @@ impl Clone for HookName {
 
 /// The name of a shortcode: 1 to 64 ASCII letters, digits, `_` and `-` (Shortcode API; the alphabet is this
 /// engine's own). Names of plugins are of this form too.
-#[derive(Debug, Drop)]
+#[derive(Drop)]
 pub struct TagName {
     name: String,
 }

@@ -5,7 +5,7 @@ use hook_changes::CallbackId;
 use std::marker::Model;
 
 /// A priority, which contracts see as a whole number of 32 bits. Lower ones run earlier.
-#[derive(Clone, Copy, Debug)]
+#[derive(Clone, Copy)]
 pub struct Priority {
     number: i32,
 }
@@ -35,7 +35,7 @@ impl Priority {
 }
 
 /// A callback that is registered under a hook, as `add_filter` and `add_action` do.
-#[derive(Clone, Copy, Debug)]
+#[derive(Clone, Copy)]
 pub struct Registration {
     pub priority: Priority,
     pub callback: CallbackId,
@@ -44,7 +44,7 @@ pub struct Registration {
 }
 
 /// A callback of a group, with how many arguments it takes.
-#[derive(Clone, Copy, Debug)]
+#[derive(Clone, Copy)]
 pub struct Entry {
     pub callback: CallbackId,
     /// 0 to 16.

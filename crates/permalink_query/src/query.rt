@@ -22,7 +22,7 @@ use std::alloc::{AllocError, Global};
 use std::borrow::CowStr;
 
 /// What a request asks for (class WP_Query). Parts are counted from 1; part 0 is the first too.
-#[derive(Clone, Copy, Debug, PartialEq, Eq)]
+#[derive(Clone, Copy, PartialEq, Eq)]
 pub enum Query {
     /// A part of all posts, newest first.
     Front { part: u32 },

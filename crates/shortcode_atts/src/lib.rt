@@ -21,7 +21,7 @@ use values::{lowered, meaning, plain_chars};
 
 /// The attributes of a shortcode: values under names, each name once, and values without a name, each in the order of
 /// the text (Shortcode API, Handlers). Names are in lower case.
-#[derive(Debug, Drop)]
+#[derive(Drop)]
 pub struct Atts {
     pairs: IndexMap<String, String>,
     values: Vec<String>,

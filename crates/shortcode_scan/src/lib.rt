@@ -19,14 +19,14 @@ mod matches;
 mod places;
 
 /// A stretch of a text, from `start` up to and without `end`, in bytes counted from 0.
-#[derive(Clone, Copy, Debug, PartialEq, Eq)]
+#[derive(Clone, Copy, PartialEq, Eq)]
 pub struct Span {
     pub start: usize,
     pub end: usize,
 }
 
 /// A piece of a text: plain text, or a shortcode (Shortcode API, get_shortcode_regex).
-#[derive(Clone, Copy, Debug, PartialEq, Eq)]
+#[derive(Clone, Copy, PartialEq, Eq)]
 pub enum Piece {
     /// Text in which no shortcode begins.
     Plain(Span),

@@ -25,7 +25,7 @@ use site_values::{
 
 /// A command, over the texts of its tree. Sizes of texts and paths, dates, and whether a post or a
 /// plugin is there, aren't looked at: whoever carries the command out refuses those by name.
-#[derive(Clone, Copy, Debug)]
+#[derive(Clone, Copy)]
 pub enum Command<'v> {
     /// Store one more post or page.
     Put {

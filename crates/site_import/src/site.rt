@@ -13,7 +13,7 @@ use site_records::SiteRecords;
 use std::alloc::Global;
 
 /// What a site file adds to a site.
-#[derive(Debug, Drop)]
+#[derive(Drop)]
 pub struct SiteFile {
     pub records: SiteRecords,
 }

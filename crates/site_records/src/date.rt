@@ -84,7 +84,7 @@ fn is_post_date(text: &str) -> bool
 /// The date and time of a post, which contracts see as its 19 bytes: `YYYY-MM-DD HH:MM:SS`, as `2024-02-29 10:00:00`
 /// (WordPress, wp_insert_post, `post_date`). The year is 0001 to 9999, the day is one of the Gregorian calendar, hours
 /// are 00 to 23, minutes and seconds 00 to 59. There is no time zone. Of two dates the earlier one is the lesser text.
-#[derive(Debug, Drop)]
+#[derive(Drop)]
 pub struct PostDate {
     bytes: [u8; 19],
 }

@@ -3,7 +3,7 @@ use crate::post::Post;
 use hook_changes::Listed;
 
 /// The kind of what is found, by which its template is chosen (Theme Handbook, Template Hierarchy).
-#[derive(Clone, Copy, Debug, PartialEq, Eq)]
+#[derive(Clone, Copy, PartialEq, Eq)]
 pub enum FoundKind {
     Front,
     Single,
@@ -13,7 +13,7 @@ pub enum FoundKind {
 }
 
 /// What a query finds.
-#[derive(Debug, Drop)]
+#[derive(Drop)]
 pub struct Found {
     pub kind: FoundKind,
     /// In the order in which they are shown.

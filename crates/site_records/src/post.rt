@@ -3,14 +3,14 @@ use crate::date::PostDate;
 use hook_changes::{Listed, Text};
 
 /// The kind of an entry (Theme Handbook, Post Types): posts are listed by date, a page stands on its own.
-#[derive(Clone, Copy, Debug, PartialEq, Eq)]
+#[derive(Clone, Copy, PartialEq, Eq)]
 pub enum PostKind {
     Post,
     Page,
 }
 
 /// Whether a visitor sees an entry (WordPress documentation, Post Status).
-#[derive(Clone, Copy, Debug, PartialEq, Eq)]
+#[derive(Clone, Copy, PartialEq, Eq)]
 pub enum PostStatus {
     /// It is shown.
     Publish,
@@ -19,7 +19,7 @@ pub enum PostStatus {
 }
 
 /// A stored post or page.
-#[derive(Debug, Drop)]
+#[derive(Drop)]
 pub struct Post {
     /// From 1 to 2,147,483,647, and never given twice.
     pub id: u32,
@@ -32,7 +32,7 @@ pub struct Post {
 }
 
 /// All that a site file holds, to be added to a site at once.
-#[derive(Debug, Drop)]
+#[derive(Drop)]
 pub struct SiteRecords {
     pub posts: Listed<Post>,
     /// Names and values. Where a name stands twice, the later value counts.

@@ -3,7 +3,7 @@ use hook_changes::Text;
 use template_trees::Template;
 
 /// What a page needs of its site, beside the posts that were found.
-#[derive(Debug, Drop)]
+#[derive(Drop)]
 pub struct Settings {
     /// The option `blogname`, empty where it isn't set.
     pub site_name: Text,

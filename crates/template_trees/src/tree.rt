@@ -2,7 +2,7 @@
 use hook_changes::{Listed, Text};
 
 /// A template tag: a word for what a page prints in its place (Theme Handbook, Template Tags).
-#[derive(Clone, Copy, Debug, PartialEq, Eq)]
+#[derive(Clone, Copy, PartialEq, Eq)]
 pub enum Tag {
     /// What it prints is that of the loop's post; outside a loop it prints nothing.
     OfPost(PostTag),
@@ -15,7 +15,7 @@ pub enum Tag {
 }
 
 /// A template tag that speaks of a post.
-#[derive(Clone, Copy, Debug, PartialEq, Eq)]
+#[derive(Clone, Copy, PartialEq, Eq)]
 pub enum PostTag {
     /// The title, behind the filter `the_title`.
     TheTitle,
@@ -32,7 +32,7 @@ pub enum PostTag {
 }
 
 /// A part of a template that a site stores under its own name (Theme Handbook, Template Parts).
-#[derive(Clone, Copy, Debug, PartialEq, Eq)]
+#[derive(Clone, Copy, PartialEq, Eq)]
 pub enum Part {
     /// It is preceded by the action `get_header`.
     Header,
@@ -42,7 +42,7 @@ pub enum Part {
 }
 
 /// What may stand anywhere in a template.
-#[derive(Debug, Drop)]
+#[derive(Drop)]
 pub enum Item {
     /// A text, printed as it is.
     Text(Text),
@@ -52,14 +52,14 @@ pub enum Item {
 }
 
 /// What may stand in a loop: no other loop.
-#[derive(Debug, Drop)]
+#[derive(Drop)]
 pub enum Element {
     Item(Item),
     Part(Part),
 }
 
 /// What a template is a list of.
-#[derive(Debug, Drop)]
+#[derive(Drop)]
 pub enum Node {
     Element(Element),
     /// The body once for each post that was found, in order, and the other body once where none was.
@@ -70,7 +70,7 @@ pub enum Node {
 }
 
 /// A template. That of a part holds items alone.
-#[derive(Debug, Drop)]
+#[derive(Drop)]
 pub struct Template {
     pub nodes: Listed<Node>,
 }
