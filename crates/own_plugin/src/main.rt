@@ -1,11 +1,10 @@
-//! A site with a plugin of its own in place of the bundle: it serves lines of JSON from standard input to standard
+//! A site with the plugin `notices` in place of the bundle: it serves lines of JSON from standard input to standard
 //! output, as the program `site` does. docs/PLUGINS.md goes through it.
 #![tactic(auto)]
 
-mod notices;
-
 use anyhow::Result;
 use callback_store::Plugins;
+use notices::listed;
 use site_program::{Reading, Site, Writing};
 use std::io;
 
@@ -17,7 +16,7 @@ const CACHE: u32 = 64;
 
 fn main(rt: HostRuntime) -> Result<()> {
     let alloc = rt.alloc();
-    let plugins = Plugins::new(alloc, notices::listed(alloc)?)?;
+    let plugins = Plugins::new(alloc, listed(alloc)?)?;
     let mut site = Site::new(alloc, &plugins, CALLS, CACHE)?;
     let mut reader = Reading::new(rt.reader());
     let mut writer = Writing::new(io::writer(&rt));

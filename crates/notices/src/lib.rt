@@ -1,9 +1,12 @@
 //! The plugin `notices`: a shortcode that draws a box round its content, and titles with their post's ID before them.
+//! docs/PLUGINS.md goes through it.
+#![tactic(auto)]
+
 ghost use Rattle.std.specs.Prelude.{◌≡◌, ◌∷◌, [], IfOk, map};
 ghost use Rattle.shortcode_atts.specs.Attributes.{pair_bytes, with_defaults};
 ghost use Rattle.callback_store.specs.Shape.{shape_of};
-ghost use Rattle.own_plugin.specs.Notices.{load, notices, notice, notice_html, defaults, boxed, numbered};
-ghost use Rattle.own_plugin.specs.Numbers.{number_of};
+ghost use Rattle.notices.specs.Notices.{load, notices, notice, notice_html, defaults, boxed, numbered};
+ghost use Rattle.notices.specs.Numbers.{number_of};
 
 use callback_store::{Plugin, Stated};
 use hook_changes::{Answer, Ask, Atts, Call, CallbackId, Change, Listed, Reply, Text, Then};
@@ -20,8 +23,8 @@ pub enum Callback {
 }
 
 impl Stated for Callback {
-    ghost use Rattle.own_plugin.specs.Notices.{says};
-    ghost use Rattle.own_plugin.specs.Numbers.{number_of};
+    ghost use Rattle.notices.specs.Notices.{says};
+    ghost use Rattle.notices.specs.Numbers.{number_of};
 
     ghost says = { says };
 

@@ -1,7 +1,7 @@
 -- The numbers by which the plugin's callbacks are known.
 use Rattle.std.specs.Prelude.{ℕ}
-use Rattle.own_plugin.specs.declared.notices.Callback.{Callback}
-use Rattle.own_plugin.specs.declared.notices.Callback.TheVariants.{Notice, NumberedTitle}
+use Rattle.notices.specs.declared.Callback.{Callback}
+use Rattle.notices.specs.declared.Callback.TheVariants.{Notice, NumberedTitle}
 
 abbrev pub number_of : Callback → ℕ
 number_of Notice = 1
