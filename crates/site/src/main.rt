@@ -4,12 +4,11 @@
 ghost use Rattle.std.specs.Prelude.{◌≡◌, ◌≤◌, map};
 ghost use Rattle.bundled_plugins.specs.Bundle.{numbers};
 
+use bundled_plugins::{NUMBERS, Stored, bundle, bundled_reply};
 use callback_store::{PluginFault, Plugins, Stated};
 use hook_changes::{Call, CallbackId, Listed, Reply};
-use site_program::{
-    ArgsAnswer, NUMBERS, Reading, Site, StoreFault, Stored, Writing, bundle, bundled_reply,
-    read_args,
-};
+use site_args::{ArgsAnswer, read_args};
+use site_program::{Reading, Site, StoreFault, Writing};
 use std::alloc::{AllocError, Global};
 use std::fmt::Display;
 use std::process::ExitCode;

@@ -4,4 +4,3 @@ pub mod Endings
 pub mod Machine
 pub mod Pages
 pub mod Refusals
-pub mod WorkedPages

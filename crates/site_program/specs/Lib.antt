@@ -8,4 +8,3 @@ pub mod Site
 pub mod Step
 pub mod Stream
 pub mod Templates
-pub mod Worked

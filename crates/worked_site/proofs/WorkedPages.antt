@@ -22,7 +22,7 @@ use Rattle.site_commands.specs.Tree.{tree_of}
 use Rattle.site_commands.specs.Asked.{command_of, get_of}
 use Rattle.site_program.specs.Step.{step, got}
 use Rattle.site_program.specs.Reply.{Answer, refused, page, bytes_of}
-use Rattle.site_program.specs.Worked.{bundled, IsMarked, one_post}
+use Rattle.worked_site.specs.Worked.{bundled, IsMarked, one_post}
 
 -- what computes in the pages below
 computes : ℕ

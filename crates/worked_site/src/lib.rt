@@ -1,9 +1,12 @@
-//! Worked pages and edits that are theorems: each clause below is computed from the definitions.
+//! Worked pages of a site with the bundled plugins that are theorems: each clause below is computed from the
+//! definitions.
+#![tactic(auto)]
+
 ghost use Rattle.std.specs.Prelude.{◌≡◌, codes};
 ghost use Rattle.site_program.specs.declared.reply.Refusal.{Refusal};
 ghost use Rattle.site_program.specs.Requests.{request};
 ghost use Rattle.site_program.specs.Reply.{refused, page, bytes_of};
-ghost use Rattle.site_program.specs.Worked.{IsMarked, bundled};
+ghost use Rattle.worked_site.specs.Worked.{IsMarked, bundled};
 ghost use Rattle.site_program.specs.Step.{step};
 
 /// What the bundled plugin `marks` makes of a site with one post. The call itself does nothing: it carries these facts.

@@ -1,5 +1,0 @@
-use Rattle.site_program.proofs.WorkedPages.{first_line, first_page, first_page_bytes, missing_page, three_calls, two_calls}
-use Rattle.site_program.proofs.worked.worked_pages.Goals as goal
-
-pub returns : goal.returns
-returns c = record { line = first_line; first = first_page; bytes = first_page_bytes; missing = missing_page; enough = three_calls; too_few = two_calls }
