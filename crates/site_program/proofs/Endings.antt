@@ -6,13 +6,13 @@ use Rattle.std.proofs.lemmas.List.{nil_from_length}
 use Rattle.std.proofs.lemmas.List.Elements.{All-append, All-push}
 use Rattle.std.proofs.KnownBytes.{Appends-trans, Consumes-trans, Consumes-kept}
 use Rattle.std.specs.Io.KnownBytes.{Appends, Consumes, Keeps, IsAtEnd}
-use Rattle.site_program.specs.Reply.{Answer, bytes_of}
+use Rattle.site_replies.specs.Reply.{Answer, bytes_of}
 use Rattle.site_program.specs.Step.{Answers}
 use Rattle.site_program.specs.Lines.{lines_of, IsLine, max_line, max_lines, ended}
 use Rattle.site_program.specs.Serving.{is_read, IsReplies, AnswersAll, FailsAt, GoesPast, Stops, ServesAll}
 use Rattle.site_program.specs.Stream.{Takes, Faults, IsTooLong}
-use Rattle.site_program.specs.declared.fault.ServeFault.{ServeFault}
-use Rattle.site_program.specs.declared.fault.ServeFault.TheVariants as fault_of
+use Rattle.site_replies.specs.declared.fault.ServeFault.{ServeFault}
+use Rattle.site_replies.specs.declared.fault.ServeFault.TheVariants as fault_of
 use Rattle.site_program.proofs.Streams.{IsReplies-push}
 use Rattle.site_program.proofs.LineLists.{lines_of-nil, lines_of-ended, lines_of-last, lines_of-line, lines_of-some, GoesPast-long, GoesPast-many}
 use Rattle.post_tables.specs.Rows.{Rows}

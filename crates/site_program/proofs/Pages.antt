@@ -1,22 +1,23 @@
 -- Lemmas on what a request is answered.
-use Rattle.std.proofs.Common.{◌≡◌, ◌≢◌, ◌≤◌, ℕ, List, ◌∙◌, Ok, Err, refl, sym, ap, subst, length}
+use Rattle.std.proofs.Common.{◌≡◌, ◌≢◌, ◌≤◌, ℕ, List, ◌∙◌, Ok, Err, refl, sym, ap, length}
 use Rattle.std.proofs.lemmas.Bool.{le-leb}
 use Rattle.std.specs.Prelude.{Result, IfErr, false}
 use Rattle.hook_machine.specs.World.{Text, World, fresh, loaded}
 use Rattle.hook_machine.specs.declared.fault.RunFault.{RunFault}
 use Rattle.hook_machine.specs.declared.fault.RunFault.TheVariants as fault
-use Rattle.hook_machine.specs.Trace.{End, Ended, Fault, end_of}
+use Rattle.hook_machine.specs.Trace.{End, Ended, Fault}
 use Rattle.hook_machine.specs.Meaning.{Engine}
 use Rattle.site_records.specs.declared.found.Found.{Found}
 use Rattle.post_tables.specs.Rows.{Rows}
 use Rattle.template_parts.specs.Pages as template
 use Rattle.template_parts.specs.Pages.{Work, IsPage, IsRefusedBy}
 use Rattle.template_parts.specs.declared.settings.Settings.{Settings}
-use Rattle.site_program.specs.Reply.{Answer, page}
-use Rattle.site_program.specs.Step.{got, max_path, comes_before_store}
+use Rattle.site_replies.specs.Reply.{Answer, page}
+use Rattle.site_edits.specs.Late.{comes_before_store}
+use Rattle.site_program.specs.Step.{got, max_path}
 use Rattle.site_program.specs.Requests.{Texts, settings_for, page_pass, page_of, options_of, templates_of, active_of, found_by, shown, refusal_of, request}
-use Rattle.site_program.specs.declared.fault.StoreFault.{StoreFault}
-use Rattle.site_program.specs.declared.fault.StoreFault.TheVariants as store
+use Rattle.site_edits.specs.declared.fault.StoreFault.{StoreFault}
+use Rattle.site_edits.specs.declared.fault.StoreFault.TheVariants as store
 
 -- ---- the page of what was found
 

@@ -1,94 +1,20 @@
 -- A refused command keeps the rows.
-use Rattle.std.proofs.Common.{◌≡◌, ℕ, ◌∙◌, List, Option, Some, None, Result, Ok, Err, true, false, cond, refl, sym, ap, length}
-use Rattle.std.specs.Prelude.{Bool, not, ◌&&◌, nat_le, nat_lt, is_some, option_and_then}
+use Rattle.std.proofs.Common.{◌≡◌, ℕ, ◌∙◌, List, Option, Some, None, true, false, sym, ap, length}
+use Rattle.std.specs.Prelude.{nat_le, option_and_then}
 use Rattle.hook_machine.specs.Meaning.{Engine}
-use Rattle.callback_store.specs.Shape.{Shape, load_of}
-use Rattle.site_records.specs.Dates.{is_post_date}
-use Rattle.site_records.specs.declared.post.PostKind.{PostKind}
-use Rattle.site_records.specs.declared.post.PostStatus.{PostStatus}
-use Rattle.site_records.specs.declared.post.SiteRecords.{SiteRecords}
-use Rattle.post_tables.specs.Rows.{Rows, Text, PostEdit, has_post, are_new}
-use Rattle.serde_json.specs.Data.{Data}
-use Rattle.serde_json.specs.Find.{as_null}
-use Rattle.template_trees.specs.Trees.{is_template_name, template_of}
-use Rattle.template_trees.specs.declared.fault.TemplateFault.{TemplateFault}
-use Rattle.template_trees.specs.declared.tree.Template.{Template}
-use Rattle.site_import.specs.Walks.{Read}
-use Rattle.site_import.specs.Site.{site_file_of}
+use Rattle.post_tables.specs.Rows.{Rows}
 use Rattle.site_commands.specs.Tree.{tree_of}
 use Rattle.site_commands.specs.Asked.{Asked, command_of}
 use Rattle.site_commands.specs.Asked as asked
-use Rattle.site_program.specs.declared.reply.Refusal.{Refusal}
-use Rattle.site_program.specs.Reply.{Answer, refused}
-use Rattle.site_program.specs.Edits.{put, edit, edited, delete, set_option, set_active, if_given, max_id}
-use Rattle.site_values.specs.Limits.{fits, max_title, max_content, max_value}
-use Rattle.site_program.specs.Templates.{removed, stored, set_template}
-use Rattle.site_program.specs.Imports.{are_known, added, imported, import}
+use Rattle.site_replies.specs.declared.reply.Refusal.{Refusal}
+use Rattle.site_replies.specs.Reply.{Answer, refused}
+use Rattle.site_edits.proofs.Refusals.{Keeps, either, same, put-keeps, edit-keeps, delete-keeps, option-keeps, active-keeps, template-keeps, import-keeps}
 use Rattle.site_program.specs.Step.{step, got, carried_out, max_path}
-
--- what a refusal among these keeps
-abbrev Keeps : Rows → Rows × Answer → Type 0
-Keeps rows p = (r : Refusal) → p.1 ≡ refused r → p.0 ≡ rows
-
--- of two outcomes that keep the rows when they are refused, each does
-either : (b : Bool) (rows : Rows) (p q : Rows × Answer) → Keeps rows p → Keeps rows q → Keeps rows (cond b p q)
-either true rows p q x y = x
-either false rows p q x y = y
-
-same : (rows : Rows) (a : Answer) → Keeps rows (rows, a)
-same rows a = λ r h. refl
-
-put-keeps : (rows : Rows) (kind : PostKind) (status : PostStatus) (title content date : Text) → Keeps rows (put rows kind status title content date)
-unfolding put
-put-keeps rows kind status title content date =
-    either (not (fits max_title title && fits max_content content)) rows _ _ (same rows _)
-    (either (not (is_post_date date)) rows _ _ (same rows _) (either (nat_lt rows.largest max_id) rows _ _ (λ r h. cc) (same rows _)))
-
-edited-keeps : (rows : Rows) (id : ℕ) (given : PostEdit) → Keeps rows (edited rows id given)
-unfolding edited
-edited-keeps rows id given = either (has_post id rows.posts) rows _ _ (λ r h. cc) (same rows _)
-
-edit-keeps : (rows : Rows) (id : ℕ) (given : PostEdit) → Keeps rows (edit rows id given)
-unfolding edit
-edit-keeps rows id given =
-    either (not (if_given (fits max_title) given.title && if_given (fits max_content) given.content)) rows _ _ (same rows _)
-    (either (not (if_given is_post_date given.date)) rows _ _ (same rows _) (edited-keeps rows id given))
-
-delete-keeps : (rows : Rows) (id : ℕ) → Keeps rows (delete rows id)
-unfolding delete
-delete-keeps rows id = either (has_post id rows.posts) rows _ _ (λ r h. cc) (same rows _)
-
-option-keeps : (rows : Rows) (name value : Text) → Keeps rows (set_option rows name value)
-unfolding set_option
-option-keeps rows name value = either (fits max_value value) rows _ _ (λ r h. cc) (same rows _)
-
-active-keeps : (plugins : List Shape) (rows : Rows) (name : Text) (active : Bool) → Keeps rows (set_active plugins rows name active)
-unfolding set_active
-active-keeps plugins rows name active = either (is_some (load_of plugins name)) rows _ _ (λ r h. cc) (same rows _)
 
 -- a page changes no row, refused or not
 got-keeps : (engine : Engine) (calls : ℕ) (rows : Rows) (path : List ℕ) → Keeps rows (got engine calls rows path)
 unfolding got
 got-keeps engine calls rows path = either (nat_le (length path) max_path) rows _ _ (same rows _) (same rows _)
-
-stored-keeps : (rows : Rows) (name : Text) (body : Data) (read : Result Template TemplateFault) → Keeps rows (stored rows name body read)
-stored-keeps rows name body (Ok template) = λ r h. cc
-stored-keeps rows name body (Err why) = same rows _
-
-template-keeps : (rows : Rows) (name : Text) (body : Data) → Keeps rows (set_template rows name body)
-unfolding set_template
-template-keeps rows name body =
-    either (is_some (as_null body)) rows _ _ (either (is_template_name name) rows _ _ (λ r h. cc) (same rows _))
-    (stored-keeps rows name body (template_of name body))
-
-imported-keeps : (plugins : List Shape) (rows : Rows) (read : Read SiteRecords) → Keeps rows (imported plugins rows read)
-imported-keeps plugins rows (Err why) = same rows _
-imported-keeps plugins rows (Ok records) =
-    either (are_known plugins records.active) rows _ _ (either (are_new records.posts rows.posts) rows _ _ (λ r h. cc) (same rows _)) (same rows _)
-
-import-keeps : (plugins : List Shape) (rows : Rows) (site : Data) → Keeps rows (import plugins rows site)
-unfolding import
-import-keeps plugins rows site = imported-keeps plugins rows (site_file_of site)
 
 carried_out-keeps : (engine : Engine) (calls : ℕ) (rows : Rows) (command : Option Asked) → Keeps rows (carried_out engine calls rows command)
 carried_out-keeps engine calls rows None = same rows _

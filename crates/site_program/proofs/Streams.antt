@@ -8,12 +8,12 @@ use Rattle.std.proofs.lemmas.Bool.{eqb-true}
 use Rattle.std.proofs.KnownBytes.{Appends-trans, Appends-nil}
 use Rattle.std.specs.Io.KnownBytes.{Appends}
 use Rattle.memchr.specs.Find.{IsFirstByte, is_byte}
-use Rattle.site_program.specs.Reply.{Answer, bytes_of}
+use Rattle.site_replies.specs.Reply.{Answer, bytes_of}
 use Rattle.site_program.specs.Step.{Answers}
 use Rattle.site_program.specs.Lines.{IsLine, HasNoNewline, max_line, ended}
 use Rattle.site_program.specs.Serving.{is_write, IsReplies, FailsAt}
-use Rattle.site_program.specs.declared.fault.ServeFault.{ServeFault}
-use Rattle.site_program.specs.declared.fault.ServeFault.TheVariants as fault_of
+use Rattle.site_replies.specs.declared.fault.ServeFault.{ServeFault}
+use Rattle.site_replies.specs.declared.fault.ServeFault.TheVariants as fault_of
 use Rattle.site_program.specs.Stream.{Takes, Faults, FaultsAt, IsTooLong}
 use Rattle.post_tables.specs.Rows.{Rows}
 

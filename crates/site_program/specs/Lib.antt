@@ -1,10 +1,6 @@
-pub mod Edits
-pub mod Imports
 pub mod Lines
-pub mod Reply
 pub mod Requests
 pub mod Serving
 pub mod Site
 pub mod Step
 pub mod Stream
-pub mod Templates

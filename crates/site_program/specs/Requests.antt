@@ -2,12 +2,11 @@
 use Rattle.std.specs.Prelude.{ℕ, List, [], map, find, codes, Option, option_map, option_and_then, unwrap_or}
 use Rattle.std.specs.FinMap.{entries, keys}
 use Rattle.std.specs.Str.{bytes_eq}
-use Rattle.hook_machine.specs.World.{Text, World, fresh, loaded}
+use Rattle.hook_machine.specs.World.{Text, fresh, loaded}
 use Rattle.hook_machine.specs.Trace.{End, Ended, Fault, end_of}
 use Rattle.hook_machine.specs.Meaning.{Engine}
 use Rattle.hook_machine.specs.declared.fault.RunFault.{RunFault}
 use Rattle.hook_machine.specs.declared.fault.RunFault.TheVariants as fault
-use Rattle.site_records.specs.declared.post.Post.{Post}
 use Rattle.post_tables.specs.Rows.{Rows}
 use Rattle.site_records.specs.declared.found.Found.{Found}
 use Rattle.site_records.specs.declared.found.FoundKind.{FoundKind}
@@ -19,8 +18,8 @@ use Rattle.template_parts.specs.Choice.{template_choice}
 use Rattle.template_parts.specs.Pages as template
 use Rattle.template_parts.specs.Pages.{Work}
 use Rattle.template_parts.specs.declared.settings.Settings.{Settings}
-use Rattle.site_program.specs.declared.reply.Refusal.TheVariants.{TooManyCalls, TooDeep, OutOfMemory}
-use Rattle.site_program.specs.Reply.{Answer, refused, page}
+use Rattle.site_replies.specs.declared.reply.Refusal.TheVariants.{TooManyCalls, TooDeep, OutOfMemory}
+use Rattle.site_replies.specs.Reply.{Answer, refused, page}
 
 abbrev pub refusal_of : RunFault → Answer
 refusal_of fault.TooManyCalls = refused TooManyCalls

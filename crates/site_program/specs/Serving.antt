@@ -2,12 +2,12 @@
 use Rattle.std.specs.Prelude.{◌≡◌, ◌⊎◌, ℕ, ◌<◌, ◌≤◌, List, [], ◌∷◌, ◌++◌, length, Option, Result, Ok, Err, Bool, true, false, IfSome, All, flat_map}
 use Rattle.std.specs.Io.KnownBytes.{Appends, Consumes, IsAtEnd}
 use Rattle.ends.specs.Known.{AppendsFront}
-use Rattle.site_program.specs.Reply.{Answer, bytes_of}
+use Rattle.site_replies.specs.Reply.{Answer, bytes_of}
 use Rattle.site_program.specs.Step.{Answers}
 use Rattle.site_program.specs.Lines.{lines_of, max_lines, max_line, IsLine, ended}
 use Rattle.post_tables.specs.Rows.{Rows}
-use Rattle.site_program.specs.declared.fault.ServeFault.{ServeFault}
-use Rattle.site_program.specs.declared.fault.ServeFault.TheVariants as fault
+use Rattle.site_replies.specs.declared.fault.ServeFault.{ServeFault}
+use Rattle.site_replies.specs.declared.fault.ServeFault.TheVariants as fault
 
 -- whether reading failed, and whether writing did
 abbrev pub is_read : Result (Unit {0}) ServeFault → Bool

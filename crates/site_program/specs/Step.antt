@@ -1,5 +1,5 @@
 -- What the site does at a line.
-use Rattle.std.specs.Prelude.{◌≡◌, ◌⊎◌, ℕ, Bool, true, false, nat_le, List, length, Option, None, Some, option_and_then, if◌then◌else◌}
+use Rattle.std.specs.Prelude.{◌≡◌, ◌⊎◌, ℕ, true, false, nat_le, List, length, Option, None, Some, option_and_then, if◌then◌else◌}
 use Rattle.hook_machine.specs.Meaning.{Engine}
 use Rattle.hook_changes.specs.declared.reply.Call.{Call}
 use Rattle.hook_changes.specs.declared.reply.Reply.{Reply}
@@ -7,14 +7,15 @@ use Rattle.post_tables.specs.Rows.{Rows}
 use Rattle.site_commands.specs.Tree.{tree_of}
 use Rattle.site_commands.specs.Asked.{Asked, command_of}
 use Rattle.site_commands.specs.Asked as asked
-use Rattle.site_program.specs.declared.reply.Refusal.TheVariants.{BadCommand, BadImport, BadDate, UnknownPlugin, BadTemplate, TooLarge, OutOfMemory, Store, NoSuchPage, TooManyPages}
+use Rattle.site_replies.specs.declared.reply.Refusal.TheVariants.{BadCommand, TooLarge, OutOfMemory, Store}
 use Rattle.site_program.specs.declared.setup.Setup.{Setup}
 use Rattle.site_program.specs.Site.{engine_of, calls_of}
 use Rattle.site_program.specs.Requests.{request}
-use Rattle.site_program.specs.Edits.{put, edit, delete, set_option, set_active}
-use Rattle.site_program.specs.Templates.{set_template}
-use Rattle.site_program.specs.Imports.{import}
-use Rattle.site_program.specs.Reply.{Answer, refused}
+use Rattle.site_edits.specs.Edits.{put, edit, delete, set_option, set_active}
+use Rattle.site_edits.specs.Templates.{set_template}
+use Rattle.site_edits.specs.Imports.{import}
+use Rattle.site_edits.specs.Late.{comes_before_store}
+use Rattle.site_replies.specs.Reply.{Answer, refused}
 
 -- the most bytes that a path may have
 abbrev pub max_path : ℕ
@@ -41,18 +42,6 @@ carried_out engine calls rows (Some (asked.get path)) = got engine calls rows pa
 -- the rows after a line, and the reply
 unfoldable pub step : Engine → ℕ → Rows → List ℕ → Rows × Answer
 step engine calls rows line = carried_out engine calls rows (option_and_then command_of (tree_of line))
-
--- replies that are settled before the database is asked: its refusal may not stand in their place
-abbrev pub comes_before_store : Answer → Bool
-comes_before_store (refused BadCommand) = true
-comes_before_store (refused BadImport) = true
-comes_before_store (refused BadDate) = true
-comes_before_store (refused UnknownPlugin) = true
-comes_before_store (refused BadTemplate) = true
-comes_before_store (refused TooLarge) = true
-comes_before_store (refused NoSuchPage) = true
-comes_before_store (refused TooManyPages) = true
-comes_before_store _ = false
 
 module _ (steps : Rows → List ℕ → Rows × Answer) where
   -- The line is answered so, and the rows are left so: by its step, or, for want of memory or by the database, refused with the rows unchanged.

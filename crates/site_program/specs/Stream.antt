@@ -1,12 +1,12 @@
 -- What carrying out the lines in a stretch of the input does: the words of private clauses.
 use Rattle.std.specs.Prelude.{◌≡◌, ◌⊎◌, ℕ, ◌+◌, ◌<◌, List, [], ◌++◌, length, Option, All, flat_map}
 use Rattle.std.specs.Io.KnownBytes.{Appends}
-use Rattle.site_program.specs.Reply.{Answer}
+use Rattle.site_replies.specs.Reply.{Answer}
 use Rattle.site_program.specs.Lines.{IsLine, HasNoNewline, max_line, ended}
 use Rattle.site_program.specs.Serving.{IsReplies, FailsAt}
 use Rattle.post_tables.specs.Rows.{Rows}
-use Rattle.site_program.specs.declared.fault.ServeFault.{ServeFault}
-use Rattle.site_program.specs.declared.fault.ServeFault.TheVariants as fault
+use Rattle.site_replies.specs.declared.fault.ServeFault.{ServeFault}
+use Rattle.site_replies.specs.declared.fault.ServeFault.TheVariants as fault
 
 -- it begins with more bytes of one line than there may be
 pub record IsTooLong (rest : List ℕ) : Type 0 where

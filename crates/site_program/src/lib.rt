@@ -4,18 +4,13 @@
 //! definition `step`; what an input means is `IsReplies`. The plugins come from the program that owns the site.
 #![tactic(auto)]
 
-mod edits;
-mod fault;
-mod imports;
 mod page;
-mod reply;
 mod serve;
 mod settings;
 mod setup;
 mod site;
-mod templates;
 
 pub use ends::{EndFault, Reading, Sink, Source, Writing};
-pub use fault::{ServeFault, StoreFault};
-pub use reply::{Refusal, SiteReply};
 pub use site::Site;
+pub use site_edits::StoreFault;
+pub use site_replies::{Refusal, ServeFault, SiteReply};

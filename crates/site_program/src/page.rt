@@ -5,21 +5,21 @@ ghost use Rattle.hook_machine.specs.World.{fresh, loaded};
 ghost use Rattle.hook_machine.specs.Ends.{engine_with};
 ghost use Rattle.hook_machine.specs.Runs.{world_of, fault_of};
 ghost use Rattle.hook_machine.specs.Runs as runs;
-ghost use Rattle.site_program.specs.Reply.{answer_of};
+ghost use Rattle.site_replies.specs.Reply.{answer_of};
 ghost use Rattle.permalink_query.specs.Paths.{query_of};
 ghost use Rattle.permalink_query.specs.Found.{found};
 ghost use Rattle.template_parts.specs.Pages.{IsPage, IsRefusedBy};
 ghost use Rattle.site_program.specs.Requests.{page_pass, page_of};
 
-use crate::fault::StoreFault;
-use crate::reply::{Refusal, SiteReply};
 use crate::settings::settings_for;
 use crate::setup::Setup;
 use callback_store::{Plugins, Stated};
 use hook_changes::Text;
 use hook_machine::{Run, RunFault};
-use permalink_query::{Found, find, read};
+use permalink_query::{FindFault, Found, find, read};
 use post_tables::Tables;
+use site_edits::StoreFault;
+use site_replies::{Refusal, SiteReply};
 use std::alloc::Global;
 use template_parts::Page;
 
@@ -28,7 +28,8 @@ const MAX_PATH: usize = 8_192;
 
 impl<'p, S: Stated> Setup<'p, S> {
     ghost use Rattle.site_program.specs.Site.{engine_of, calls_of};
-    ghost use Rattle.site_program.specs.Step.{got, comes_before_store};
+    ghost use Rattle.site_edits.specs.Late.{comes_before_store};
+    ghost use Rattle.site_program.specs.Step.{got};
 
     /// The page of a path, over the site as it now is.
     #[tactic(auto, unfolding(crate::specs::Step::got))]
@@ -133,5 +134,9 @@ fn found_by(
     ensures same { tables.new ≡ tables.old }
 {
     let query = read(alloc, path)?;
-    Ok(find(alloc, tables, &query, options)?)
+    match find(alloc, tables, &query, options) {
+        Ok(found) => Ok(found),
+        Err(FindFault::OutOfMemory) => Err(StoreFault::OutOfMemory),
+        Err(FindFault::Store) => Err(StoreFault::Store),
+    }
 }

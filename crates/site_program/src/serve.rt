@@ -1,13 +1,13 @@
 //! Serving an input, line by line.
 ghost use Rattle.std.specs.Prelude.{◌≡◌, ◌++◌, OnOk, IfErr};
 
-use crate::fault::ServeFault;
 use crate::setup::Setup;
 use crate::site::Site;
 use callback_store::Stated;
 use ends::{Sink, Source};
 use memchr::memchr;
 use post_tables::Tables;
+use site_replies::ServeFault;
 
 // The most lines that are served.
 const MAX_LINES: u32 = 1_000_000;
@@ -82,7 +82,7 @@ impl<'p, S: Stated> Site<'p, S> {
 impl<'p, S: Stated> Setup<'p, S> {
     ghost use Rattle.std.specs.Prelude.{◌⊎◌, ◌<◌, ◌≤◌, [], false, length, is_err, OnErr, IsErrOf};
     ghost use Rattle.std.specs.Io.KnownBytes.{Appends};
-    ghost use Rattle.site_program.specs.Reply.{Answer, bytes_of};
+    ghost use Rattle.site_replies.specs.Reply.{Answer, bytes_of};
     ghost use Rattle.site_program.specs.Step.{Answers, steps_of};
     ghost use Rattle.site_program.specs.Lines.{IsLine};
     ghost use Rattle.site_program.specs.Serving.{is_write, FailsAt};

@@ -2,16 +2,14 @@
 ghost use Rattle.std.specs.Prelude.{◌≡◌, ◌≤◌, IfOk, IfErr, OnErr, false};
 ghost use Rattle.post_tables.specs.Rows.{no_rows};
 ghost use Rattle.site_commands.specs.Asked.{asked_by};
-ghost use Rattle.site_program.specs.Reply.{answer_of};
+ghost use Rattle.site_replies.specs.Reply.{answer_of};
 
-use crate::edits;
-use crate::fault::StoreFault;
-use crate::reply::{Refusal, SiteReply};
 use crate::setup::Setup;
-use crate::templates::set_template;
 use callback_store::{Plugins, Stated};
 use post_tables::Tables;
 use site_commands::{Command, read_command, read_line};
+use site_edits::{StoreFault, delete, edit, import, put, set_active, set_option, set_template};
+use site_replies::{Refusal, SiteReply};
 use std::alloc::Global;
 
 /// A site with its plugins: it carries out lines of JSON, each a command, and replies to each.
@@ -26,8 +24,8 @@ pub struct Site<'p, S> {
 impl<'p, S: Stated> Site<'p, S> {
     ghost use Rattle.std.specs.Prelude.{Some};
     ghost use Rattle.callback_store.specs.Shape.{shapes_of};
-    ghost use Rattle.site_program.specs.declared.reply.Refusal.{Refusal};
-    ghost use Rattle.site_program.specs.Reply.{refused};
+    ghost use Rattle.site_replies.specs.declared.reply.Refusal.{Refusal};
+    ghost use Rattle.site_replies.specs.Reply.{refused};
     ghost use Rattle.site_program.specs.Site.{engine_of, calls_of, setup_of, rows_of};
     ghost use Rattle.site_program.specs.Step.{Answers, steps_of};
 
@@ -71,10 +69,11 @@ impl<'p, S: Stated> Site<'p, S> {
 
 impl<'p, S: Stated> Setup<'p, S> {
     ghost use Rattle.std.specs.Prelude.{Some};
-    ghost use Rattle.site_program.specs.declared.reply.Refusal.{Refusal};
-    ghost use Rattle.site_program.specs.Reply.{refused};
+    ghost use Rattle.site_replies.specs.declared.reply.Refusal.{Refusal};
+    ghost use Rattle.site_replies.specs.Reply.{refused};
     ghost use Rattle.site_program.specs.Site.{engine_of, calls_of};
-    ghost use Rattle.site_program.specs.Step.{Answers, steps_of, carried_out, comes_before_store};
+    ghost use Rattle.site_edits.specs.Late.{comes_before_store};
+    ghost use Rattle.site_program.specs.Step.{Answers, steps_of, carried_out};
 
     /// Carries out one line over the tables.
     pub(crate) fn command(&self, tables: &mut Tables, line: &[u8]) -> SiteReply
@@ -123,20 +122,20 @@ impl<'p, S: Stated> Setup<'p, S> {
                 title,
                 content,
                 date,
-            } => edits::put(tables, kind, status, title, content, date),
+            } => put(tables, kind, status, title, content, date),
             Command::Edit {
                 id,
                 status,
                 title,
                 content,
                 date,
-            } => edits::edit(tables, id, status, title, content, date),
-            Command::Delete { id } => edits::delete(tables, id),
-            Command::Option { name, value } => edits::set_option(tables, name, value),
-            Command::Activate { plugin } => self.set_active(tables, plugin, true),
-            Command::Deactivate { plugin } => self.set_active(tables, plugin, false),
+            } => edit(tables, id, status, title, content, date),
+            Command::Delete { id } => delete(tables, id),
+            Command::Option { name, value } => set_option(tables, name, value),
+            Command::Activate { plugin } => set_active(self.plugins, tables, plugin, true),
+            Command::Deactivate { plugin } => set_active(self.plugins, tables, plugin, false),
             Command::Template { name, body } => set_template(self.alloc, tables, name, body),
-            Command::Import { site } => self.import(tables, site),
+            Command::Import { site } => import(self.alloc, self.plugins, tables, site),
             Command::Get { path } => self.get(tables, path),
         }
     }

@@ -5,7 +5,7 @@ use Rattle.std.specs.Str.{is_utf8, chars}
 use Rattle.hook_machine.specs.World.{loaded}
 use Rattle.hook_machine.specs.Meaning.{deeper, group_pass, priorities_pass, pass, filter_pass, action_pass, handled, piece_pass, pieces_pass, shortcodes_pass, answered, follow, invoked, invoked_with, invoke_within, invoke, filtered, acted}
 use Rattle.post_tables.specs.Rows.{Rows}
-use Rattle.site_program.specs.declared.reply.Refusal.TheVariants.{TooManyCalls}
+use Rattle.site_replies.specs.declared.reply.Refusal.TheVariants.{TooManyCalls}
 use Rattle.shortcode_scan.specs.Places.{first_place}
 use Rattle.shortcode_scan.specs.Matches.{match_at, name_start, name_at, core_of, with_extras}
 use Rattle.shortcode_scan.specs.Pieces.{match_from, pieces_within}
@@ -21,7 +21,7 @@ use Rattle.serde_json.proofs.OnLiterals.{serde_json_on_literals}
 use Rattle.site_commands.specs.Tree.{tree_of}
 use Rattle.site_commands.specs.Asked.{command_of, get_of}
 use Rattle.site_program.specs.Step.{step, got}
-use Rattle.site_program.specs.Reply.{Answer, refused, page, bytes_of}
+use Rattle.site_replies.specs.Reply.{Answer, refused, page, bytes_of}
 use Rattle.worked_site.specs.Worked.{bundled, IsMarked, one_post}
 
 -- what computes in the pages below

@@ -3,9 +3,9 @@
 #![tactic(auto)]
 
 ghost use Rattle.std.specs.Prelude.{◌≡◌, codes};
-ghost use Rattle.site_program.specs.declared.reply.Refusal.{Refusal};
+ghost use Rattle.site_replies.specs.declared.reply.Refusal.{Refusal};
 ghost use Rattle.site_program.specs.Requests.{request};
-ghost use Rattle.site_program.specs.Reply.{refused, page, bytes_of};
+ghost use Rattle.site_replies.specs.Reply.{refused, page, bytes_of};
 ghost use Rattle.worked_site.specs.Worked.{IsMarked, bundled};
 ghost use Rattle.site_program.specs.Step.{step};
 

@@ -1,6 +1,6 @@
 use Rattle.std.proofs.Common.{rules, ◌≡◌, ◌∙◌}
 use Rattle.std.proofs.lemmas.Result.{IfOk-weaker}
-use Rattle.site_program.specs.Reply.{answer_of}
+use Rattle.site_replies.specs.Reply.{answer_of}
 use Rattle.site_program.specs.Step.{got}
 use Rattle.site_program.specs.Requests.{page_of, options_of, templates_of, active_of, found_by}
 use Rattle.site_program.specs.Site.{engine_of, calls_of}

@@ -1,4 +1,4 @@
-use Rattle.std.proofs.Common.{◌≡◌, ◌∙◌, IfOk, IfErr, ap, subst}
+use Rattle.std.proofs.Common.{◌∙◌, IfOk, IfErr, ap, subst}
 use Rattle.std.proofs.lemmas.Result.{err_from_is_err_and}
 use Rattle.hook_machine.specs.Runs.{world_of}
 use Rattle.hook_machine.specs.Runs as runs

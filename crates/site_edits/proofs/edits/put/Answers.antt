@@ -1,0 +1,7 @@
+use Rattle.std.proofs.Common.{rules}
+use Rattle.site_edits.specs.Edits.{put}
+use Rattle.site_edits.proofs.edits.put.Goals as goal
+
+pub returns-then-title-gt-MAX_TITLE-clause-ok : goal.returns-then-title-gt-MAX_TITLE-clause-ok
+unfolding put
+returns-then-title-gt-MAX_TITLE-clause-ok c = search rules

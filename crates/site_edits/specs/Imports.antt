@@ -1,0 +1,40 @@
+-- What the command `import` does to a site's rows.
+use Rattle.std.specs.Prelude.{List, Bool, is_some, Ok, Err, if◌then◌else◌}
+use Rattle.std.specs.List.{list_all}
+use Rattle.callback_store.specs.Shape.{Shape, load_of}
+use Rattle.serde_json.specs.Data.{Data}
+use Rattle.post_tables.specs.Rows.{Rows, Text, are_new, with_records}
+use Rattle.site_records.specs.declared.post.SiteRecords.{SiteRecords}
+use Rattle.site_import.specs.Walks.{Read}
+use Rattle.site_import.specs.Site.{site_file_of}
+use Rattle.site_import.specs.declared.fault.ImportFault.{ImportFault}
+use Rattle.site_import.specs.declared.fault.ImportFault.TheVariants as fault
+use Rattle.site_replies.specs.declared.reply.Refusal.TheVariants.{BadImport, BadDate, BadTemplate, TooLarge, OutOfMemory, UnknownPlugin, DuplicateId}
+use Rattle.site_replies.specs.Reply.{Answer, done, refused}
+
+abbrev pub import_refusal : ImportFault → Answer
+import_refusal (fault.BadImport place) = refused BadImport
+import_refusal (fault.BadDate place) = refused BadDate
+import_refusal (fault.BadTemplate place) = refused BadTemplate
+import_refusal (fault.TooLarge place) = refused TooLarge
+import_refusal fault.OutOfMemory = refused OutOfMemory
+
+abbrev pub are_known : List Shape → List Text → Bool
+are_known plugins names = list_all (λ name. is_some (load_of plugins name)) names
+
+-- the records are added, where no ID of theirs stands twice or is there already
+abbrev pub added : Rows → SiteRecords → Rows × Answer
+added rows records =
+    if are_new records.posts rows.posts
+    then (with_records records rows, done)
+    else (rows, refused DuplicateId)
+
+-- all of a site file's records are added, or none: its active plugins have to be there
+abbrev pub imported : List Shape → Rows → Read SiteRecords → Rows × Answer
+imported plugins rows (Err why) = (rows, import_refusal why)
+imported plugins rows (Ok records) =
+    if are_known plugins records.active then added rows records else (rows, refused UnknownPlugin)
+
+-- `import`: what a site file holds is added to what there is (WordPress Importer)
+unfoldable pub import : List Shape → Rows → Data → Rows × Answer
+import plugins rows site = imported plugins rows (site_file_of site)

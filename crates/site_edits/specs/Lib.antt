@@ -1,0 +1,4 @@
+pub mod Edits
+pub mod Imports
+pub mod Late
+pub mod Templates

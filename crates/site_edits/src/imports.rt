@@ -1,0 +1,94 @@
+//! The command that adds what a site file holds.
+ghost use Rattle.std.specs.Prelude.{◌≡◌, ◌≢◌, ◌≤◌, Ok, IfOk, IfErr, OnOk, OnErr, All, false};
+ghost use Rattle.callback_store.specs.Shape.{shapes_of};
+ghost use Rattle.serde_json.specs.View.{view};
+ghost use Rattle.site_replies.specs.Reply.{answer_of};
+ghost use Rattle.site_edits.specs.Imports.{import, imported, import_refusal, added, are_known};
+ghost use Rattle.site_edits.specs.Late.{comes_before_store};
+
+use crate::fault::StoreFault;
+use callback_store::{Plugins, Stated};
+use hook_changes::Text;
+use post_tables::{Tables, TablesFault};
+use serde_json::Value;
+use site_import::{ImportFault, read_site_value};
+use site_records::SiteRecords;
+use site_replies::{Refusal, SiteReply};
+use std::alloc::Global;
+
+/// Adds all records of a site file, or none. Refused as `BadImport`, `BadDate`, `BadTemplate`, `TooLarge`,
+/// `UnknownPlugin` or `DuplicateId`.
+#[tactic(auto, unfolding(crate::specs::Imports::import))]
+pub fn import<S: Stated>(
+    alloc: Global,
+    plugins: &Plugins<S>,
+    tables: &mut Tables,
+    site: &Value,
+) -> Result<SiteReply, StoreFault>
+    ensures ok { IfOk result (λ reply. (tables.new, answer_of reply)
+        ≡ import (shapes_of S.number plugins.now) tables.old (view site.now)) }
+    ensures err { OnErr result (tables.new ≡ tables.old) }
+    ensures late { IfErr result (λ fault. fault ≡ StoreFault.Store → comes_before_store
+        (import (shapes_of S.number plugins.now) tables.old (view site.now)).1 ≡ false) }
+{
+    match read_site_value(alloc, site) {
+        Ok(file) => add_known(plugins, tables, &file.records),
+        Err(fault) => refused_import(fault),
+    }
+}
+
+/// The records of a site file are added, where there is each plugin that is active in it.
+fn add_known<S: Stated>(
+    plugins: &Plugins<S>,
+    tables: &mut Tables,
+    records: &SiteRecords,
+) -> Result<SiteReply, StoreFault>
+    requires { All (λ p. (1 ≤ p.id) × (p.id ≤ 2147483647)) records.now.posts }
+    ensures ok { IfOk result (λ reply. (tables.new, answer_of reply)
+        ≡ imported (shapes_of S.number plugins.now) tables.old (Ok records.now)) }
+    ensures err { OnErr result (tables.new ≡ tables.old) }
+    ensures late { IfErr result (λ fault. fault ≡ StoreFault.Store → comes_before_store
+        (imported (shapes_of S.number plugins.now) tables.old (Ok records.now)).1 ≡ false) }
+{
+    if !are_known(plugins, records.active.as_slice()) {
+        return Ok(SiteReply::Refused(Refusal::UnknownPlugin));
+    }
+    add_records(tables, records)
+}
+
+fn are_known<S: Stated>(plugins: &Plugins<S>, names: &[Text]) -> bool
+    ensures { result ≡ are_known (shapes_of S.number plugins.now) names.now }
+{
+    names
+        .iter()
+        .all(|name| plugins.load_of(name.as_str()).is_some())
+}
+
+/// The reply for a site file that is refused.
+fn refused_import(fault: ImportFault) -> Result<SiteReply, StoreFault>
+    ensures ok { IfOk result (λ reply. answer_of reply ≡ import_refusal fault) }
+    ensures err { IfErr result (λ e. (e ≡ StoreFault.OutOfMemory) × (fault ≡ ImportFault.OutOfMemory)) }
+    ensures other { OnOk result (fault ≢ ImportFault.OutOfMemory) }
+{
+    match fault {
+        ImportFault::BadImport(_) => Ok(SiteReply::Refused(Refusal::BadImport)),
+        ImportFault::BadDate(_) => Ok(SiteReply::Refused(Refusal::BadDate)),
+        ImportFault::BadTemplate(_) => Ok(SiteReply::Refused(Refusal::BadTemplate)),
+        ImportFault::TooLarge(_) => Ok(SiteReply::Refused(Refusal::TooLarge)),
+        ImportFault::OutOfMemory => Err(StoreFault::OutOfMemory),
+    }
+}
+
+fn add_records(tables: &mut Tables, records: &SiteRecords) -> Result<SiteReply, StoreFault>
+    requires { All (λ p. (1 ≤ p.id) × (p.id ≤ 2147483647)) records.now.posts }
+    ensures ok { IfOk result (λ reply. (tables.new, answer_of reply) ≡ added tables.old records.now) }
+    ensures err { OnErr result (tables.new ≡ tables.old) }
+    ensures late { IfErr result (λ fault. fault ≡ StoreFault.Store
+        → comes_before_store (added tables.old records.now).1 ≡ false) }
+{
+    match tables.import(records) {
+        Ok(()) => Ok(SiteReply::Ok),
+        Err(TablesFault::DuplicateId) => Ok(SiteReply::Refused(Refusal::DuplicateId)),
+        Err(fault) => Err(StoreFault::from(fault)),
+    }
+}

@@ -1,0 +1,55 @@
+//! The command that stores templates.
+ghost use Rattle.std.specs.Prelude.{◌≡◌, IfOk, IfErr, OnErr, false};
+ghost use Rattle.serde_json.specs.View.{view};
+ghost use Rattle.site_replies.specs.Reply.{answer_of};
+ghost use Rattle.site_edits.specs.Templates.{set_template, removed};
+ghost use Rattle.site_edits.specs.Late.{comes_before_store};
+
+use crate::fault::StoreFault;
+use post_tables::Tables;
+use serde_json::Value;
+use site_replies::{Refusal, SiteReply};
+use std::alloc::Global;
+use template_trees::{TemplateFault, is_template_name, read_template, template_text};
+
+/// Stores a body in place of the one before under its name; `null` removes that. Refused as `BadTemplate` or `TooLarge`.
+#[tactic(auto, unfolding(crate::specs::Templates::set_template))]
+pub fn set_template(
+    alloc: Global,
+    tables: &mut Tables,
+    name: &str,
+    body: &Value,
+) -> Result<SiteReply, StoreFault>
+    ensures ok { IfOk result (λ reply. (tables.new, answer_of reply)
+        ≡ set_template tables.old name.now (view body.now)) }
+    ensures err { OnErr result (tables.new ≡ tables.old) }
+    ensures late { IfErr result (λ fault. fault ≡ StoreFault.Store → comes_before_store
+        (set_template tables.old name.now (view body.now)).1 ≡ false) }
+{
+    if body.is_null() {
+        return remove_template(tables, name);
+    }
+    match read_template(alloc, name, body) {
+        Ok(_) => {
+            let text = template_text(alloc, body)?;
+            tables.set_template(name, Some(text.as_str()))?;
+            Ok(SiteReply::Ok)
+        }
+        Err(TemplateFault::BadTemplate) => Ok(SiteReply::Refused(Refusal::BadTemplate)),
+        Err(TemplateFault::TooLarge) => Ok(SiteReply::Refused(Refusal::TooLarge)),
+        Err(TemplateFault::OutOfMemory) => Err(StoreFault::OutOfMemory),
+    }
+}
+
+fn remove_template(tables: &mut Tables, name: &str) -> Result<SiteReply, StoreFault>
+    ensures ok { IfOk result (λ reply. (tables.new, answer_of reply) ≡ removed tables.old name.now) }
+    ensures err { OnErr result (tables.new ≡ tables.old) }
+    ensures late { IfErr result (λ fault. fault ≡ StoreFault.Store
+        → comes_before_store (removed tables.old name.now).1 ≡ false) }
+{
+    if !is_template_name(name) {
+        return Ok(SiteReply::Refused(Refusal::BadTemplate));
+    }
+    tables.set_template(name, None)?;
+    Ok(SiteReply::Ok)
+}

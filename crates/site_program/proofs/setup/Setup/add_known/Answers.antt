@@ -1,5 +1,0 @@
-use Rattle.std.proofs.Common.{rules}
-use Rattle.site_program.proofs.setup.Setup.add_known.Goals as goal
-
-pub returns-then-not-are_known-clause-ok : goal.returns-then-not-are_known-clause-ok
-returns-then-not-are_known-clause-ok g c = search rules
