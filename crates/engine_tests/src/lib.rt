@@ -1,0 +1,23 @@
+//! Tests of what no run of the program shows, of the crates below `site_program`: what is refused of names and plugins,
+//! passes over plugins that are not the bundle's, site files that are given as bytes, copies, and the ends of the
+//! program. Each goes over a table of inputs, and what is expected is worked out from the rules.
+#![tactic(auto)]
+
+#[cfg(test)]
+mod callbacks;
+#[cfg(test)]
+mod copies;
+#[cfg(test)]
+mod expecting;
+#[cfg(test)]
+mod inputs_and_outputs;
+#[cfg(test)]
+mod names;
+#[cfg(test)]
+mod passes;
+#[cfg(test)]
+mod plugin_lists;
+#[cfg(test)]
+mod plugins;
+#[cfg(test)]
+mod site_files;

@@ -1,0 +1,56 @@
+//! Which texts are names of hooks, and which of shortcodes.
+use hook_changes::{HookName, NameFault, TagName};
+use std::alloc::Global;
+
+const LONGEST: &str = "aaaaaaaaaaaaaaaaaaaaaaaaaaaaaaaaaaaaaaaaaaaaaaaaaaaaaaaaaaaaaaaa";
+
+const TOO_LONG: &str = "aaaaaaaaaaaaaaaaaaaaaaaaaaaaaaaaaaaaaaaaaaaaaaaaaaaaaaaaaaaaaaaaa";
+
+const _: () = prove!(LONGEST.len() == 64);
+
+const _: () = prove!(TOO_LONG.len() == 65);
+
+const NO: Option<NameFault> = Some(NameFault::BadName);
+
+/// Texts, each with how it is refused as the name of a hook, and as that of a shortcode.
+static TEXTS: [(&str, Option<NameFault>, Option<NameFault>); 12] = [
+    // 1 to 64 bytes.
+    ("", NO, NO),
+    ("a", None, None),
+    (LONGEST, None, None),
+    (TOO_LONG, NO, NO),
+    // Letters, digits, `_` and `-` are in both.
+    ("a-B_9", None, None),
+    ("-", None, None),
+    // Any other character is in names of hooks alone.
+    ("a b", None, NO),
+    ("a.b", None, NO),
+    ("a/b", None, NO),
+    ("[a]", None, NO),
+    ("é", None, NO),
+    ("the é [content]", None, NO),
+];
+
+/// Whether a text is refused so as the name of a hook, or else read and given back.
+fn is_hook(alloc: Global, text: &str, fault: Option<NameFault>) -> bool {
+    match HookName::read(alloc, text) {
+        Ok(name) => fault.is_none() && name.as_str() == text,
+        Err(found) => fault == Some(found),
+    }
+}
+
+/// Whether a text is refused so as the name of a shortcode, or else read and given back.
+fn is_tag(alloc: Global, text: &str, fault: Option<NameFault>) -> bool {
+    match TagName::read(alloc, text) {
+        Ok(name) => fault.is_none() && name.as_str() == text,
+        Err(found) => fault == Some(found),
+    }
+}
+
+#[test]
+fn texts_are_names(rt: HostRuntime) {
+    let alloc = rt.alloc();
+    for (text, hook, tag) in &TEXTS {
+        assert!(rt; is_hook(alloc, text, *hook) && is_tag(alloc, text, *tag));
+    }
+}

@@ -1,0 +1,73 @@
+//! Which lists of plugins are refused, and why.
+use crate::plugins::{Given, Load, plugins};
+use callback_store::PluginFault;
+use std::alloc::{AllocError, Global};
+
+const SAME_NAME: Option<PluginFault> = Some(PluginFault::SameName);
+
+const SAME_CALLBACK: Option<PluginFault> = Some(PluginFault::SameCallback);
+
+const BAD_NAME: Option<PluginFault> = Some(PluginFault::BadName);
+
+const TOO_MANY: Option<PluginFault> = Some(PluginFault::TooMany);
+
+/// Two names, the number of a callback of each, and how a list of two such plugins is refused.
+static PAIRS: [([&str; 2], [u32; 2], Option<PluginFault>); 8] = [
+    (["a", "b"], [101, 102], None),
+    // Each name stands once.
+    (["a", "a"], [101, 102], SAME_NAME),
+    (["a", "a"], [101, 101], SAME_NAME),
+    // Each number stands once, and 0 is core's.
+    (["a", "b"], [101, 0], SAME_CALLBACK),
+    (["a", "b"], [0, 101], SAME_CALLBACK),
+    (["a", "b"], [101, 101], SAME_CALLBACK),
+    // A bad name is told before one that stands twice, and before numbers.
+    (["a", "a b"], [101, 101], BAD_NAME),
+    (["", ""], [101, 102], BAD_NAME),
+];
+
+/// How a list of two plugins with a callback each is refused.
+fn fault_of_pair(alloc: Global, names: &[&str; 2], numbers: &[u32; 2]) -> Option<PluginFault> {
+    let first = Given(names[0], &numbers[..1], &[]);
+    let second = Given(names[1], &numbers[1..], &[]);
+    plugins(alloc, &[first, second]).err()
+}
+
+#[test]
+fn pairs_are_refused(rt: HostRuntime) {
+    for (names, numbers, fault) in &PAIRS {
+        assert!(rt; fault_of_pair(rt.alloc(), names, numbers) == *fault);
+    }
+}
+
+/// How many plugins of one name, how many callbacks of one number each has, how many changes, and how they are refused.
+static SIZES: [(usize, usize, usize, Option<PluginFault>); 7] = [
+    (0, 0, 0, None),
+    (1, 1, 256, None),
+    // Too many of anything is told before all else.
+    (64, 0, 0, SAME_NAME),
+    (65, 0, 0, TOO_MANY),
+    (1, 256, 256, SAME_CALLBACK),
+    (1, 257, 0, TOO_MANY),
+    (1, 0, 257, TOO_MANY),
+];
+
+/// How a list of so many plugins, with so many callbacks and changes each, is refused.
+fn fault_of_many(
+    alloc: Global,
+    count: usize,
+    callbacks: usize,
+    changes: usize,
+) -> Result<Option<PluginFault>, AllocError> {
+    let numbers = vec![in alloc; 101u32; callbacks]?;
+    let load = vec![in alloc; Load::Add(10, 101); changes]?;
+    let given = vec![in alloc; Given("a", &numbers, &load); count]?;
+    Ok(plugins(alloc, &given).err())
+}
+
+#[test]
+fn sizes_are_refused(rt: HostRuntime) {
+    for (count, callbacks, changes, fault) in &SIZES {
+        assert!(rt; fault_of_many(rt.alloc(), *count, *callbacks, *changes) == Ok(*fault));
+    }
+}
