@@ -12,8 +12,11 @@ import tempfile
 VERDICT = re.compile(r"^fn ([\w:+]+): (.*)$", re.M)
 # A goal or an answer that failed, as `./proofs/kept/Text/new/Answers.antt:5:13: error: ...`.
 ERROR = re.compile(r"^(?:\./)?proofs/(\S+)/\w+\.antt:\d+:\d+: error: (.*)$", re.M)
-# What is said of an answer that names what isn't there.
-ONLY_A_NAME = re.compile(r"has no field|is not in scope|has no `|that can be named|was not admitted")
+# A lemma that failed, as `./proofs/Folding.antt:241:16: error: ...`.
+LEMMA = re.compile(r"^(?:\./)?proofs/\w+\.antt:\d+:\d+: error: (.*)$", re.M)
+# What is said of an answer that names what isn't there, and of what only cites a failed one.
+ONLY_A_NAME = re.compile(r"has no field|is not in scope|has no `|that can be named|not admitted|not checked")
+NO_FUNCTION = re.compile(r"has no function `([\w:+]+)`")
 LAST_LINE = re.compile(r"^(logic=|only=)", re.M)
 UNANSWERED = re.compile(r"no proof: expected answers in \S+; `search` did not prove (.*)")
 
@@ -24,6 +27,10 @@ class ToolchainFault(Exception):
 
 class Rejected(Exception):
     """The text doesn't compile, so the prover wasn't asked."""
+
+
+class NoFunction(Rejected):
+    """The crate has no function of the name that an edit says it turns."""
 
 
 def processors():
@@ -39,15 +46,18 @@ class Said:
         self.errors = {}
         for folder, error in ERROR.findall(text):
             self.errors.setdefault(folder.replace("/", "::"), []).append(error)
+        self.lemmas = LEMMA.findall(text)
 
     def verdict(self, edit):
         return self.verdicts.get(f"{edit.crate}::{edit.turns}")
 
     def goals(self, edit):
-        """The goals of the turned function that failed; of a recursion, which has one proof, those of all of it."""
-        if edit.cycle is None:
-            return self.errors.get(edit.turns, [])
-        return [it for folder, of in self.errors.items() if folder.endswith(f"+{edit.cycle}") for it in of]
+        """The goals of the turned function that failed; of a recursion, which has one proof, those of all of it.
+
+        A law is proved by lemmas, so of an edit that turns what a law says those count that failed."""
+        if edit.cycle is not None:
+            return [it for folder, of in self.errors.items() if folder.endswith(f"+{edit.cycle}") for it in of]
+        return self.errors.get(edit.turns, []) + ([] if edit.in_body else self.lemmas)
 
     def refusal(self, edit):
         """By what the edit's own function refuses it, or None if nothing shows that it does."""
@@ -104,7 +114,8 @@ class Toolchain:
         if self.rtlib.STALE.search(said):
             raise ToolchainFault("the kept work of a library can't be used")
         if not LAST_LINE.search(said):
-            raise Rejected(first_error(said))
+            missing = NO_FUNCTION.search(said)
+            raise NoFunction(missing[1]) if missing else Rejected(first_error(said))
         return Said(crate.name, said)
 
     def run(self, name, words, folder):
@@ -121,5 +132,5 @@ class Toolchain:
 
 
 def first_error(text):
-    lines = [it for it in text.split("\n") if "error" in it] or text.strip().split("\n")[-1:]
+    lines = [it for it in text.split("\n") if re.search(r"\berror[:\[]", it)] or text.strip().split("\n")[-1:]
     return lines[0][:200]

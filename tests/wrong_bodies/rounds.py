@@ -2,7 +2,7 @@
 
 from pathlib import Path
 
-from checks import Rejected
+from checks import NoFunction, Rejected
 
 # How often an edit is tried in company before it is tried alone.
 TRIES = 2
@@ -44,6 +44,11 @@ def try_round(toolchain, made, kept):
         said = toolchain.check(made.crate, made.texts, [it.turns for it in made.edits], kept)
         return [(it, said) for it in made.edits]
     except Rejected as fault:
+        named = [it for it in made.edits if isinstance(fault, NoFunction) and it.turns == str(fault)]
+        if named:
+            others = round_of(made.crate, [it for it in made.edits if it not in named])
+            found = [(it, Rejected(f"the crate has no function {fault}")) for it in named]
+            return found + (try_round(toolchain, others, kept) if others.edits else [])
         if len(made.edits) == 1:
             return [(made.edits[0], fault)]
         half = len(made.edits) // 2
@@ -54,7 +59,7 @@ def try_round(toolchain, made, kept):
 def judged(edit, said, is_alone):
     """An edit's verdict, or None if another round has to show it."""
     if isinstance(said, Rejected):
-        return False, f"{edit.label}: BAD EDIT: it doesn't compile: {said}"
+        return False, f"{edit.label}: BAD EDIT: the prover can't be asked: {said}"
     refusal = said.refusal(edit)
     if refusal:
         return True, f"{edit.label}: refused by {edit.turns}: {refusal[:160]}"
