@@ -55,7 +55,7 @@ impl<'p, S: Stated> Page<'p, S> {
             mut run,
         } = self;
         let page = printed(alloc, &mut run, &settings, &found);
-        drop(run);
+        run.end();
         page
     }
 }
