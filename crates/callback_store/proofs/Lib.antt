@@ -3,3 +3,4 @@ pub mod Repeats
 pub mod Owners
 pub mod Choosing
 pub mod InOrder
+mod Walks

@@ -42,8 +42,12 @@ impl<S: Stated> Plugin<S> {
     fn has_callback(&self, id: CallbackId) -> bool
         ensures { result ≡ list_any (λ c. S.number c == id) self.now.callbacks }
     {
-        let callbacks = self.callbacks.as_slice();
-        callbacks.iter().any(|callback| callback.id() == id)
+        for callback in self.callbacks.as_slice() {
+            if callback.id() == id {
+                return true;
+            }
+        }
+        false
     }
 
     fn callback_at(&self, place: usize) -> Option<&S>
@@ -55,8 +59,12 @@ impl<S: Stated> Plugin<S> {
     fn callback(&self, id: CallbackId) -> Option<&S>
         ensures { option_copied result ≡ find (λ c. S.number c == id) self.entry.now.callbacks }
     {
-        let callbacks = self.callbacks.as_slice();
-        callbacks.iter().find(|callback| callback.id() == id)
+        for callback in self.callbacks.as_slice() {
+            if callback.id() == id {
+                return Some(callback);
+            }
+        }
+        None
     }
 }
 
@@ -98,15 +106,23 @@ impl<S: Stated> Plugins<S> {
     fn with_callback(&self, id: CallbackId) -> Option<&Plugin<S>>
         ensures { option_copied result ≡ find (λ p. list_any (λ c. S.number c == id) p.callbacks) self.entry.now.list }
     {
-        let plugins = self.list.as_slice();
-        plugins.iter().find(|plugin| plugin.has_callback(id))
+        for plugin in self.list.as_slice() {
+            if plugin.has_callback(id) {
+                return Some(plugin);
+            }
+        }
+        None
     }
 
     fn named(&self, name: &str) -> Option<&Plugin<S>>
         ensures { option_copied result ≡ find (λ p. bytes_eq p.name name.now) self.entry.now.list }
     {
-        let plugins = self.list.as_slice();
-        plugins.iter().find(|plugin| plugin.name.as_str() == name)
+        for plugin in self.list.as_slice() {
+            if plugin.name.as_str() == name {
+                return Some(plugin);
+            }
+        }
+        None
     }
 
     /// The name of the plugin that has the callback, where one has it. Core's callback 0 has none.
@@ -215,19 +231,34 @@ fn are_too_many<S: Stated>(list: &[Plugin<S>]) -> bool
 fn has_large<S: Stated>(list: &[Plugin<S>]) -> bool
     ensures { result ≡ list_any (λ p. is_large (shape_of S.number p)) list.now }
 {
-    list.iter().any(|plugin| plugin.is_large())
+    for plugin in list {
+        if plugin.is_large() {
+            return true;
+        }
+    }
+    false
 }
 
 fn has_bad_name<S>(list: &[Plugin<S>]) -> bool
     ensures { result ≡ list_any (λ p. not (is_tag_name p.name)) list.now }
 {
-    list.iter().any(|plugin| !is_tag_name(plugin.name.as_str()))
+    for plugin in list {
+        if !is_tag_name(plugin.name.as_str()) {
+            return true;
+        }
+    }
+    false
 }
 
 fn is_named_before<S>(list: &[Plugin<S>], name: &str) -> bool
     ensures { result ≡ list_any (λ p. bytes_eq name.now p.name) list.now }
 {
-    list.iter().any(|plugin| name == plugin.name.as_str())
+    for plugin in list {
+        if name == plugin.name.as_str() {
+            return true;
+        }
+    }
+    false
 }
 
 fn has_same_name<S>(list: &[Plugin<S>]) -> bool
