@@ -90,7 +90,7 @@ impl<'p, S: Stated> Setup<'p, S> {
     {
         let run = loaded_run(self.alloc, self.plugins, active, options, self.calls)?;
         let Ok(settings) = settings_for(self.alloc, found.kind, options, templates) else {
-            drop(run);
+            run.end();
             return Err(RunFault::OutOfMemory);
         };
         Page::begin(self.alloc, found, settings, run).finish()
@@ -116,7 +116,7 @@ fn loaded_run<'p, S: Stated>(
     match run.load() {
         Ok(()) => Ok(run),
         Err(fault) => {
-            drop(run);
+            run.end();
             Err(fault)
         }
     }
