@@ -1,6 +1,6 @@
 //! What a callback reads of its call, and the forms of its reply.
-ghost use Rattle.std.specs.Prelude.{◌≡◌, ◌++◌, ◌∷◌, [], IfOk, OnOk, codes, flat_map};
-ghost use Rattle.bundled_plugins.specs.Calls.{first_argument, second_argument, text_in, shown, listed, answers_text, changes_and_answers, prints_and_answers, changes_and_asks, asks};
+ghost use Rattle.std.specs.Prelude.{◌≡◌, ◌++◌, IfOk, OnOk, codes, flat_map};
+ghost use Rattle.bundled_plugins.specs.Calls.{first_argument, second_argument, text_in, shown, listed, answers_text, changes_and_answers, changes_and_asks, asks};
 
 use hook_changes::{Answer, Ask, Call, Change, Listed, Reply, Text, Then};
 use itoa::Buffer;
@@ -47,7 +47,7 @@ pub fn push_all(text: &mut Text, parts: &[&str]) -> Result<(), AllocError>
 }
 
 /// These texts, joined.
-fn joined(alloc: Global, parts: &[&str]) -> Result<Text, AllocError>
+pub fn joined(alloc: Global, parts: &[&str]) -> Result<Text, AllocError>
     ensures { IfOk result (λ text. text ≡ flat_map (λ part. part.now) parts.now) }
 {
     let mut text = Text::empty(alloc);
@@ -95,33 +95,25 @@ fn show_more(text: &mut Text, answers: &[Answer]) -> Result<(), AllocError>
 pub fn answer(alloc: Global, parts: &[&str]) -> Result<Reply, AllocError>
     ensures { IfOk result (λ reply. reply ≡ answers_text (flat_map (λ part. part.now) parts.now)) }
 {
-    change_and_answer(alloc, Listed::empty(alloc), parts)
+    Ok(answer_text(alloc, joined(alloc, parts)?))
 }
 
-/// The reply that carries out changes and answers these texts, joined.
-pub fn change_and_answer(
-    alloc: Global,
-    changes: Listed<Change>,
-    parts: &[&str],
-) -> Result<Reply, AllocError>
-    ensures { IfOk result (λ reply. reply ≡ changes_and_answers changes (flat_map (λ part. part.now) parts.now)) }
+/// The reply that answers a text and does nothing else. It takes no memory.
+pub fn answer_text(alloc: Global, text: Text) -> Reply
+    ensures { result ≡ answers_text text }
 {
-    Ok(Reply {
+    change_and_answer(alloc, Listed::empty(alloc), text)
+}
+
+/// The reply that carries out changes and answers a text. It takes no memory.
+pub fn change_and_answer(alloc: Global, changes: Listed<Change>, text: Text) -> Reply
+    ensures { result ≡ changes_and_answers changes text }
+{
+    Reply {
         changes,
         echo: Text::empty(alloc),
-        next: Then::Answer(joined(alloc, parts)?),
-    })
-}
-
-/// The reply that prints these texts, joined, and answers a text.
-pub fn print_and_answer(alloc: Global, printed: &[&str], text: &str) -> Result<Reply, AllocError>
-    ensures { IfOk result (λ reply. reply ≡ prints_and_answers (flat_map (λ part. part.now) printed.now) text.now) }
-{
-    Ok(Reply {
-        changes: Listed::empty(alloc),
-        echo: joined(alloc, printed)?,
-        next: Then::Answer(Text::copied(alloc, text)?),
-    })
+        next: Then::Answer(text),
+    }
 }
 
 /// The reply that carries out changes and asks. It takes no memory.
@@ -140,13 +132,4 @@ pub fn ask(alloc: Global, ask: Ask) -> Reply
     ensures { result ≡ asks ask }
 {
     change_and_ask(alloc, Listed::empty(alloc), ask)
-}
-
-/// A list of one change.
-pub fn one_change(alloc: Global, change: Change) -> Result<Listed<Change>, AllocError>
-    ensures { IfOk result (λ changes. changes ≡ change ∷ []) }
-{
-    let mut changes = Listed::empty(alloc);
-    changes.push(change)?;
-    Ok(changes)
 }

@@ -6,6 +6,7 @@
 
 mod calls;
 mod replies;
+mod rows;
 mod shipped;
 mod stored;
 

@@ -1,0 +1,124 @@
+//! Changes and replies as rows of tables, and what is made of a row.
+ghost use Rattle.std.specs.Prelude.{◌≡◌, ◌++◌, IfOk, OnOk, map};
+ghost use Rattle.bundled_plugins.specs.Rows.{change_of, part_of, text_of, reply_of};
+
+use crate::calls::{first_argument, second_argument};
+use hook_changes::{Call, CallbackId, Change, Listed, Reply, Text, Then};
+use itoa::Buffer;
+use std::alloc::{AllocError, Global};
+
+/// A change of the registrations or of the shortcodes.
+pub enum ChangeRow {
+    /// `add_filter`: the hook, the priority, the callback's number, and how many arguments it accepts.
+    Add(&'static str, i32, u32, u8),
+    /// `remove_filter`: the hook, the priority and the callback's number.
+    Remove(&'static str, i32, u32),
+    /// `remove_all_filters`: the hook and the priority.
+    RemoveAll(&'static str, i32),
+    /// `add_shortcode`: the tag and the handler's number.
+    AddTag(&'static str, u32),
+    /// `remove_shortcode`: the tag.
+    RemoveTag(&'static str),
+    /// `remove_all_shortcodes`.
+    RemoveAllTags,
+}
+
+/// A part of a text that a callback prints or answers.
+pub enum Part {
+    /// The same text for every call.
+    Fixed(&'static str),
+    /// The first argument, or empty text if there is none.
+    First,
+    /// The second argument, or empty text if there is none.
+    Second,
+    /// The number of arguments, in decimal.
+    Count,
+    /// The text between the shortcode's tags.
+    Content,
+}
+
+/// A reply that asks nothing: changes, a text to print and a text to answer, of the same parts for every call.
+pub struct ReplyRow {
+    /// The callback's number.
+    pub number: u32,
+    pub changes: &'static [ChangeRow],
+    pub prints: &'static [Part],
+    pub answers: &'static [Part],
+}
+
+/// Makes the change of a row.
+fn change_of(alloc: Global, row: &ChangeRow) -> Result<Change, AllocError>
+    ensures { IfOk result (λ change. change ≡ change_of row.now) }
+{
+    Ok(match row {
+        ChangeRow::Add(hook, priority, number, accepted) => Change::Add {
+            hook: Text::copied(alloc, hook)?,
+            priority: *priority,
+            callback: CallbackId::new(*number),
+            accepted: *accepted,
+        },
+        ChangeRow::Remove(hook, priority, number) => Change::Remove {
+            hook: Text::copied(alloc, hook)?,
+            priority: *priority,
+            callback: CallbackId::new(*number),
+        },
+        ChangeRow::RemoveAll(hook, priority) => Change::RemoveAll {
+            hook: Text::copied(alloc, hook)?,
+            priority: Some(*priority),
+        },
+        ChangeRow::AddTag(tag, number) => Change::AddTag {
+            tag: Text::copied(alloc, tag)?,
+            callback: CallbackId::new(*number),
+        },
+        ChangeRow::RemoveTag(tag) => Change::RemoveTag {
+            tag: Text::copied(alloc, tag)?,
+        },
+        ChangeRow::RemoveAllTags => Change::RemoveAllTags,
+    })
+}
+
+/// Makes the changes of rows, in order.
+pub fn changes_of(alloc: Global, rows: &[ChangeRow]) -> Result<Listed<Change>, AllocError>
+    ensures { IfOk result (λ changes. changes ≡ map change_of rows.now) }
+{
+    let mut changes = Listed::empty(alloc);
+    for row in rows {
+        changes.push(change_of(alloc, row)?)?;
+    }
+    Ok(changes)
+}
+
+/// Appends a part to a text.
+fn push_part(text: &mut Text, part: &Part, call: &Call) -> Result<(), AllocError>
+    ensures { OnOk result (text.new ≡ text.old ++ part_of call.now part.now) }
+{
+    match part {
+        Part::Fixed(fixed) => text.push_str(fixed),
+        Part::First => text.push_str(first_argument(call)),
+        Part::Second => text.push_str(second_argument(call)),
+        Part::Count => text.push_str(Buffer::new().format(call.args.as_slice().len())),
+        Part::Content => text.push_str(call.content.as_str()),
+    }
+}
+
+/// Joins parts.
+fn text_of(alloc: Global, parts: &[Part], call: &Call) -> Result<Text, AllocError>
+    ensures { IfOk result (λ text. text ≡ text_of call.now parts.now) }
+{
+    let mut text = Text::empty(alloc);
+    for part in parts {
+        push_part(&mut text, part, call)?;
+    }
+    Ok(text)
+}
+
+/// Makes the reply of a row to a call.
+pub fn reply_of(alloc: Global, row: &ReplyRow, call: &Call) -> Result<Reply, AllocError>
+    ensures { IfOk result (λ reply. reply ≡ reply_of row.now call.now) }
+{
+    Ok(Reply {
+        changes: changes_of(alloc, row.changes)?,
+        echo: text_of(alloc, row.prints, call)?,
+        next: Then::Answer(text_of(alloc, row.answers, call)?),
+    })
+}
