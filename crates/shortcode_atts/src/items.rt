@@ -1,7 +1,7 @@
 //! The items of an attribute text.
 ghost use Rattle.std.specs.Prelude.{◌≡◌, ℕ, ◌<◌, ◌≤◌, List, length, take, drop, nat_lt, Option, option_map, IfSome};
 ghost use Rattle.std.specs.List.{prefix_len};
-ghost use Rattle.shortcode_atts.specs.Found.{pair_now, item_now, belongs};
+ghost use Rattle.shortcode_atts.specs.Found.{pair_now, item_now, belongs, first_of};
 ghost use Rattle.shortcode_atts.specs.Steps.{only_if};
 ghost use Rattle.shortcode_atts.specs.NameByte.{is_name_byte};
 ghost use Rattle.shortcode_atts.specs.Items.{is_white, is_bare_char, skip_white, after_char, is_ended, run_at, quoted_at, spelled_at, value_at, named_at, single_at, item_at};
@@ -16,6 +16,11 @@ pub(crate) enum Form {
     /// With no white space.
     Word,
 }
+
+// The forms of a value after a name, and of a value alone, each in the order in which they are tried.
+const NAMED_FORMS: [Form; 3] = [Form::Quoted('"'), Form::Quoted('\''), Form::Bare];
+
+const SINGLE_FORMS: [Form; 3] = [Form::Quoted('"'), Form::Quoted('\''), Form::Word];
 
 /// Characters of which a run is taken from the front of a text.
 #[derive(Clone, Copy)]
@@ -79,7 +84,12 @@ fn run_len(run: Run, text: &[char]) -> usize
     ensures value { result ≡ prefix_len (belongs run) text.now }
     ensures within { result ≤ length text.now }
 {
-    text.iter().take_while(|c| belongs(run, **c)).count()
+    for (len, c) in text.iter().enumerate() {
+        if !belongs(run, *c) {
+            return len;
+        }
+    }
+    text.len()
 }
 
 /// What follows the white space at the front.
@@ -193,16 +203,40 @@ fn single_at(form: Form, text: &[char]) -> Option<Found<'_>>
     })
 }
 
+/// `name = value` at the front, in the first of the forms that fits.
+fn first_named<'t>(forms: &[Form], text: &'t [char]) -> Option<Found<'t>>
+    ensures value { option_map item_now result ≡ first_of (λ form. named_at form text.now) forms.now }
+    ensures shorter { IfSome result (λ it. length it.rest.now < length text.now) }
+{
+    for form in forms {
+        if let Some(found) = named_at(*form, text) {
+            return Some(found);
+        }
+    }
+    None
+}
+
+/// A value alone at the front, in the first of the forms that fits.
+fn first_single<'t>(forms: &[Form], text: &'t [char]) -> Option<Found<'t>>
+    ensures value { option_map item_now result ≡ first_of (λ form. single_at form text.now) forms.now }
+    ensures shorter { IfSome result (λ it. length it.rest.now < length text.now) }
+{
+    for form in forms {
+        if let Some(found) = single_at(*form, text) {
+            return Some(found);
+        }
+    }
+    None
+}
+
 /// The item at the front of a text: the first of the six forms that fits.
 #[tactic(auto, unfolding(crate::specs::Items::item_at))]
 pub(crate) fn item_at(text: &[char]) -> Option<Found<'_>>
     ensures value { option_map item_now result ≡ item_at text.now }
     ensures shorter { IfSome result (λ it. length it.rest.now < length text.now) }
 {
-    named_at(Form::Quoted('"'), text)
-        .or_else(|| named_at(Form::Quoted('\''), text))
-        .or_else(|| named_at(Form::Bare, text))
-        .or_else(|| single_at(Form::Quoted('"'), text))
-        .or_else(|| single_at(Form::Quoted('\''), text))
-        .or_else(|| single_at(Form::Word, text))
+    match first_named(&NAMED_FORMS, text) {
+        Some(found) => Some(found),
+        None => first_single(&SINGLE_FORMS, text),
+    }
 }
