@@ -47,8 +47,12 @@ def best(words, given=b"", expected=None):
 def pass_over(spread, count):
     """The time of one pass over so many callbacks."""
     times = max(200_000 // count, 20)
-    words = [str(PASSES), spread, str(count)]
-    return (best([*words, str(times)]) - best([*words, "0"])) / times
+    rest = ["many"] if spread == "many" else []
+
+    def spent(passes):
+        return best([str(PASSES), str(count), str(passes), *rest], expected=b"value\n")
+
+    return (spent(times) - spent(0)) / times
 
 
 def page_of(lines, replies, page, times):

@@ -1,0 +1,83 @@
+//! The plugins whose callbacks are passed over.
+use crate::kept::Kept;
+use callback_store::Plugin;
+use hook_changes::{CallbackId, Change, Listed, Text};
+use std::alloc::{AllocError, Global};
+
+/// The hook that they are registered on.
+pub const HOOK: &str = "the_title";
+
+/// The names of the plugins, by bytes.
+const NAMES: [&str; 4] = ["p1", "p2", "p3", "p4"];
+
+/// How many callbacks each plugin has at most.
+const EACH: u16 = 250;
+
+/// Where callbacks are registered.
+#[derive(Clone, Copy)]
+pub enum Spread {
+    /// All at one priority.
+    One,
+    /// Each at its own.
+    Many,
+}
+
+impl Spread {
+    fn priority(self, number: u16) -> i32 {
+        match self {
+            Spread::One => 10,
+            Spread::Many => i32::from(number),
+        }
+    }
+}
+
+/// Plugins of so many callbacks, numbered from 1.
+pub fn crowd(
+    alloc: Global,
+    spread: Spread,
+    count: u16,
+) -> Result<Listed<Plugin<Kept>>, AllocError> {
+    let last = count.saturating_add(1);
+    let mut list = Listed::empty(alloc);
+    let mut first = 1u16;
+    for name in &NAMES {
+        let end = first.saturating_add(EACH).min(last);
+        list.push(Plugin {
+            name: Text::copied(alloc, name)?,
+            load: load(alloc, spread, first, end)?,
+            callbacks: callbacks(alloc, first, end)?,
+        })?;
+        first = end;
+    }
+    Ok(list)
+}
+
+fn load(alloc: Global, spread: Spread, first: u16, end: u16) -> Result<Listed<Change>, AllocError> {
+    let mut load = Listed::empty(alloc);
+    for number in first..end {
+        load.push(Change::Add {
+            hook: Text::copied(alloc, HOOK)?,
+            priority: spread.priority(number),
+            callback: CallbackId::new(u32::from(number)),
+            accepted: 1,
+        })?;
+    }
+    Ok(load)
+}
+
+fn callbacks(alloc: Global, first: u16, end: u16) -> Result<Listed<Kept>, AllocError> {
+    let mut callbacks = Listed::empty(alloc);
+    for number in first..end {
+        callbacks.push(Kept::new(CallbackId::new(u32::from(number))))?;
+    }
+    Ok(callbacks)
+}
+
+/// The names of the plugins, which are all active.
+pub fn active(alloc: Global) -> Result<Listed<Text>, AllocError> {
+    let mut names = Listed::empty(alloc);
+    for name in &NAMES {
+        names.push(Text::copied(alloc, name)?)?;
+    }
+    Ok(names)
+}
