@@ -7,9 +7,9 @@ use hook_changes::{Listed, Text};
 use hook_machine::{Run, RunFault};
 use std::alloc::{AllocError, Global};
 
-/// What the load lists of the plugins `a-b` and `B` add, whether `B` is active beside `a-b`, how many calls a run has, and
-/// what is answered: two passes of the filter `the_title` over empty text, and `TEXT` with its shortcodes replaced. All
-/// callbacks but 103 are those of `a-b`.
+/// What the load lists of the plugins `a-b` and `B` add, whether `B` is active beside `a-b`, how many calls a run has,
+/// and what is answered: two passes of the filter `the_title` over empty text, and `TEXT` with its shortcodes replaced.
+/// All callbacks but 103 are those of `a-b`.
 struct Case([Load; 3], [Load; 2], bool, u32, Answer, Answer, Answer);
 
 type Answer = Result<&'static str, RunFault>;

@@ -1,5 +1,6 @@
 //! Site files that are given as bytes. The program reads them from a command's JSON tree, which shows all but where the
 //! first fault is.
+use hook_changes::Text;
 use site_import::{ImportFault, Place, Section, read_site};
 use site_records::{Post, PostKind, PostStatus, SiteRecords};
 use std::alloc::Global;
@@ -18,19 +19,23 @@ fn is_post(post: &Post) -> bool {
         && post.date.as_str() == "9999-12-31 23:59:59"
 }
 
+fn is_one(pairs: &[(Text, Text)], name: &str, text: &str) -> bool {
+    pairs.len() == 1 && pairs[0].0.as_str() == name && pairs[0].1.as_str() == text
+}
+
 fn are_one_of_each(records: &SiteRecords) -> bool {
-    let ([post], [option], [template], [active]) = (
-        records.posts.as_slice(),
-        records.options.as_slice(),
-        records.templates.as_slice(),
-        records.active.as_slice(),
-    ) else {
-        return false;
-    };
-    is_post(post)
-        && (option.0.as_str(), option.1.as_str()) == ("a", "1")
-        && (template.0.as_str(), template.1.as_str()) == ("index", r#"[{"tag":"the_title"},"x"]"#)
-        && active.as_str() == "bold"
+    let posts = records.posts.as_slice();
+    let active = records.active.as_slice();
+    posts.len() == 1
+        && is_post(&posts[0])
+        && is_one(records.options.as_slice(), "a", "1")
+        && is_one(
+            records.templates.as_slice(),
+            "index",
+            r#"[{"tag":"the_title"},"x"]"#,
+        )
+        && active.len() == 1
+        && active[0].as_str() == "bold"
 }
 
 fn are_none(records: &SiteRecords) -> bool {

@@ -1,2 +1,0 @@
-pub mod Echoing
-pub mod Tested

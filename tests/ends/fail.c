@@ -1,0 +1,85 @@
+/*
+ * read, write and writev that give and take little, and fail: a read of standard input gives at most FAIL_PIECE bytes,
+ * and fails once FAIL_GOOD bytes were given; standard output takes FAIL_ROOM bytes, and then fails. A variable that
+ * isn't set limits nothing. It is compiled by the toolchain's own compiler, which brings no headers, so what it takes
+ * from the C library is declared here.
+ */
+typedef unsigned long size_t;
+typedef long ssize_t;
+
+struct part {
+    const void *bytes;
+    size_t count;
+};
+
+extern void *dlsym(void *handle, const char *name);
+extern char *getenv(const char *name);
+extern unsigned long strtoul(const char *text, char **end, int base);
+extern int *__errno_location(void);
+
+/* The next definition behind this one, as the loader finds it. */
+#define NEXT ((void *)-1L)
+#define INPUT_OUTPUT_ERROR 5
+
+static size_t piece;
+static size_t good;
+static size_t room;
+
+static size_t limit(const char *name)
+{
+    const char *text = getenv(name);
+    return text ? strtoul(text, 0, 10) : ~0UL;
+}
+
+__attribute__((constructor)) static void begin(void)
+{
+    piece = limit("FAIL_PIECE");
+    good = limit("FAIL_GOOD");
+    room = limit("FAIL_ROOM");
+}
+
+static size_t least(size_t one, size_t other)
+{
+    return one < other ? one : other;
+}
+
+static ssize_t failed(void)
+{
+    *__errno_location() = INPUT_OUTPUT_ERROR;
+    return -1;
+}
+
+ssize_t read(int file, void *bytes, size_t count)
+{
+    ssize_t (*next)(int, void *, size_t) = (ssize_t(*)(int, void *, size_t))dlsym(NEXT, "read");
+    if (file != 0)
+        return next(file, bytes, count);
+    if (good == 0)
+        return failed();
+    ssize_t given = next(file, bytes, least(count, least(piece, good)));
+    if (given > 0)
+        good -= (size_t)given;
+    return given;
+}
+
+ssize_t write(int file, const void *bytes, size_t count)
+{
+    ssize_t (*next)(int, const void *, size_t) = (ssize_t(*)(int, const void *, size_t))dlsym(NEXT, "write");
+    if (file != 1)
+        return next(file, bytes, count);
+    if (room == 0)
+        return failed();
+    ssize_t taken = next(file, bytes, least(count, room));
+    if (taken > 0)
+        room -= (size_t)taken;
+    return taken;
+}
+
+/* As many bytes as its first part that isn't empty. */
+ssize_t writev(int file, const struct part *parts, int count)
+{
+    for (int at = 0; at < count; at++)
+        if (parts[at].count > 0)
+            return write(file, parts[at].bytes, parts[at].count);
+    return 0;
+}
