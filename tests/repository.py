@@ -1,8 +1,6 @@
 """What the scripts of this folder know of the repository: its crates, what each stands on, and what it is made from."""
 
 import hashlib
-import os
-from concurrent.futures import FIRST_COMPLETED, ThreadPoolExecutor, wait
 from pathlib import Path
 
 ROOT = Path(__file__).resolve().parent.parent
@@ -48,26 +46,3 @@ def sum_of(name, parts):
     for path in sorted(it for part in parts for it in (folder / part).rglob("*") if it.is_file()):
         found.update(f"{path.relative_to(folder)}\0".encode() + path.read_bytes() + b"\0")
     return found.hexdigest()
-
-
-def processors():
-    return len(os.sched_getaffinity(0))
-
-
-def side_by_side(crates, names, work, lanes):
-    """Calls work for each name, a crate after all below it and as many at once as there are lanes.
-
-    The result has what each call gave; no further call begins after one that gave false."""
-    left, given, running = lowest_first(crates, names), {}, {}
-    with ThreadPoolExecutor(lanes) as pool:
-        while left or running:
-            done = {name for name in given if given[name]}
-            ready = [it for it in left if not (below(crates, it) & set(names)) - done]
-            if not all(given.values()):
-                left = ready = []
-            for name in ready[: lanes - len(running)]:
-                left.remove(name)
-                running[pool.submit(work, name)] = name
-            for it in wait(running, return_when=FIRST_COMPLETED).done if running else ():
-                given[running.pop(it)] = it.result()
-    return given
