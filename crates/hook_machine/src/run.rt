@@ -4,6 +4,7 @@ ghost use Rattle.hook_machine.specs.Runs.{fault_in};
 
 use crate::fault::RunFault;
 use crate::machine::{run_action, run_filter, run_shortcodes};
+use crate::pass::copies;
 use crate::state::State;
 use callback_store::{Plugins, Stated};
 use hook_changes::{Listed, Text};
@@ -17,17 +18,6 @@ pub struct Run<'a, S> {
     plugins: &'a Plugins<S>,
     state: State,
     fault: Option<RunFault>,
-}
-
-/// Copies texts.
-fn copied(alloc: Global, texts: &[Text]) -> Result<Listed<Text>, AllocError>
-    ensures { IfOk result (λ copies. copies ≡ texts.now) }
-{
-    let mut copies = Listed::empty(alloc);
-    for text in texts {
-        copies.push(text.clone()?)?;
-    }
-    Ok(copies)
 }
 
 /// Copies pairs of texts.
@@ -74,7 +64,7 @@ impl<'a, S: Stated> Run<'a, S> {
         ensures engine { IfOk result (λ run. engine_of S.says S.number run ≡ engine_with S.says (shapes_of S.number plugins.entry.now)) }
         ensures err { IfErr result (λ fault. fault ≡ RunFault.OutOfMemory) }
     {
-        let active = copied(alloc, active)?;
+        let active = Listed::new(copies(alloc, active)?);
         let options = copied_pairs(alloc, options)?;
         Ok(Run {
             plugins,

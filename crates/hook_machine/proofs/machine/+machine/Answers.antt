@@ -1,4 +1,4 @@
-use Rattle.std.proofs.Common.{[], ◌++◌, ◌-◌, None, Err, refl, sym, ap, subst, ◌∙◌, ◌∷◌, eq-eqb}
+use Rattle.std.proofs.Common.{[], ◌++◌, None, Err, refl, sym, ap, subst, ◌∙◌, ◌∷◌, eq-eqb}
 use Rattle.std.proofs.lemmas.Result.{err_from_is_err_and}
 use Rattle.callback_store.specs.Shape.{shapes_of}
 use Rattle.hook_registry.specs.Table.{next_priority}
