@@ -1,5 +1,5 @@
 -- How the parts of a page end.
-use Rattle.std.proofs.Common.{arith, ◌≡◌, ◌∙◌, ◌<◌, ◌==◌, true, false, ℕ, zero, suc, ◌+◌, List, [], ◌∷◌, ◌++◌, Option, None, Some, Result, Ok, Err, refl, sym, ap, subst, length, drop, get_or, codes}
+use Rattle.std.proofs.Common.{arith, ◌≡◌, ◌∙◌, ◌<◌, ◌==◌, true, false, ℕ, zero, suc, ◌+◌, List, [], ◌∷◌, ◌++◌, Option, None, Some, Result, Ok, Err, refl, sym, ap, subst, length, drop, get_or}
 use Rattle.std.specs.Prelude.{OnOk, IfErr}
 use Rattle.hook_machine.specs.World.{Text, World}
 use Rattle.hook_machine.specs.declared.fault.RunFault.{RunFault}
@@ -9,16 +9,13 @@ use Rattle.hook_machine.specs.Meaning.{Engine, filtered, acted}
 use Rattle.hook_machine.specs.Ends.{Ends}
 use Rattle.hook_machine.proofs.Ending.{end_then, ends_err_then, ends_alike, drop_at}
 use Rattle.site_records.specs.declared.post.Post.{Post}
-use Rattle.template_trees.specs.declared.tree.Tag.{Tag}
 use Rattle.template_trees.specs.declared.tree.Tag.TheVariants as tag
 use Rattle.template_trees.specs.declared.tree.PostTag.{PostTag}
-use Rattle.template_trees.specs.declared.tree.Item.{Item}
-use Rattle.template_trees.specs.declared.tree.Item.TheVariants as item
 use Rattle.template_trees.specs.declared.tree.Element.{Element}
 use Rattle.template_trees.specs.declared.tree.Node.{Node}
 use Rattle.template_trees.specs.declared.tree.Template.{Template}
 use Rattle.template_parts.specs.declared.settings.Settings.{Settings}
-use Rattle.template_parts.specs.Pages.{Work, printed, each, shown_pass, action_pass, post_tag_pass, tag_pass, item_pass, part_node_pass, stored_part_pass, announced_pass, element_pass, elements_pass, loop_pass, node_pass, nodes_pass, page_pass, request_actions}
+use Rattle.template_parts.specs.Pages.{Work, printed, each, shown_pass, action_pass, post_tag_pass, tag_pass, part_node_pass, stored_part_pass, announced_pass, element_pass, elements_pass, loop_pass, node_pass, nodes_pass, page_pass, request_actions}
 
 -- a text was printed, or there was no memory for it
 pub printed_ends : (world last : World) (text shown : Text) (result : Result (Unit {0}) RunFault) → shown ≡ text

@@ -1,7 +1,8 @@
 //! Printing template tags.
-ghost use Rattle.std.specs.Prelude.{◌≡◌, [], ◌∷◌, None, IfOk, OnOk, option_map, decimal};
+ghost use Rattle.std.specs.Prelude.{◌≡◌, [], ◌∷◌, None, IfOk, OnOk, option_map, codes, decimal};
 ghost use Rattle.hook_machine.specs.Runs.{world_of, fault_of, engine_of};
 ghost use Rattle.hook_machine.specs.Ends.{Ends};
+ghost use Rattle.hook_machine.specs.Meaning.{filtered};
 ghost use Rattle.page_escapes.specs.Escapes.{ends_escaped, html_escaped};
 ghost use Rattle.template_parts.specs.Pages.{printed, permalink, title_pass, content_pass, post_tag_pass, tag_pass};
 
@@ -99,6 +100,24 @@ fn print_post_tag<S: Stated>(
     }
 }
 
+/// The title of a post, after the filter `the_title`.
+fn filtered_title<S: Stated>(
+    alloc: Global,
+    run: &mut Run<'_, S>,
+    post: &Post,
+) -> Result<Text, RunFault>
+    requires { fault_of run.old ≡ None }
+    ensures ends { Ends (filtered (engine_of S.says S.number run.old) (world_of run.old) (codes "the_title")
+        post.now.title (decimal post.now.id ∷ [])) result (world_of run.new) }
+    ensures sound { OnOk result (fault_of run.new ≡ None) }
+    ensures engine { engine_of S.says S.number run.new ≡ engine_of S.says S.number run.old }
+{
+    let Ok((title, args)) = title_call(alloc, post) else {
+        return Err(RunFault::OutOfMemory);
+    };
+    run.apply_filters("the_title", title, &args)
+}
+
 fn print_title<S: Stated>(
     alloc: Global,
     run: &mut Run<'_, S>,
@@ -111,10 +130,7 @@ fn print_title<S: Stated>(
     ensures sound { OnOk result (fault_of run.new ≡ None) }
     ensures engine { engine_of S.says S.number run.new ≡ engine_of S.says S.number run.old }
 {
-    let Ok((title, args)) = title_call(alloc, post) else {
-        return Err(RunFault::OutOfMemory);
-    };
-    let title = run.apply_filters("the_title", title, &args)?;
+    let title = filtered_title(alloc, run, post)?;
     run.print(title.as_str())
 }
 
@@ -130,10 +146,7 @@ fn print_escaped_title<S: Stated>(
     ensures sound { OnOk result (fault_of run.new ≡ None) }
     ensures engine { engine_of S.says S.number run.new ≡ engine_of S.says S.number run.old }
 {
-    let Ok((title, args)) = title_call(alloc, post) else {
-        return Err(RunFault::OutOfMemory);
-    };
-    let title = run.apply_filters("the_title", title, &args)?;
+    let title = filtered_title(alloc, run, post)?;
     print_html_escaped(alloc, run, title.as_str())
 }
 

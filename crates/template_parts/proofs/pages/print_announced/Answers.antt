@@ -1,6 +1,4 @@
-use Rattle.std.proofs.Common.{option_map}
 use Rattle.std.proofs.lemmas.Result.{err_from_is_err_and}
-use Rattle.hook_machine.specs.Runs.{world_of, engine_of}
 use Rattle.template_parts.proofs.Works.{announced_refused, announced_ends}
 use Rattle.template_parts.proofs.pages.print_announced.Goals as goal
 

@@ -1,3 +1,4 @@
+use Rattle.std.proofs.Common.{refl}
 use Rattle.std.proofs.lemmas.Result.{err_from_is_err_and}
 use Rattle.template_parts.proofs.Works.{shown_refused, shown_by}
 use Rattle.template_parts.proofs.tags.print_escaped_title.Goals as goal
@@ -6,9 +7,9 @@ use Rattle.template_parts.proofs.tags.print_escaped_title.Goals as goal
 pub returns-in_err-title-clause-ends : goal.returns-in_err-title-clause-ends
 returns-in_err-title-clause-ends g c =
     let p = err_from_is_err_and c.from_residual.result c.from_residual.ensures.1 in
-    rw (p.1, p.2) (shown_refused _ _ _ _ _ _ _ _ _ _ _ _ c.in-Ok.ensures.value c.in-Ok.ensures.args (c.in_err-title.ensures.filtered c.requires))
+    rw (p.1, p.2) (shown_refused _ _ _ _ _ _ _ _ _ _ _ _ refl refl (c.in_err-title.ensures.ends))
 
 -- the filter gave a title, and it was printed escaped
 pub returns-clause-ends : goal.returns-clause-ends
 returns-clause-ends g c =
-    shown_by _ _ _ _ _ _ _ _ _ _ _ _ _ _ c.in-Ok.ensures.value c.in-Ok.ensures.args (c.in_ok-title.ensures.filtered c.requires) c.as_str.ensures c.print_html_escaped.ensures.ends
+    shown_by _ _ _ _ _ _ _ _ _ _ _ _ _ _ refl refl (c.in_ok-title.ensures.ends) c.as_str.ensures c.print_html_escaped.ensures.ends

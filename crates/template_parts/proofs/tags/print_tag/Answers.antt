@@ -1,6 +1,6 @@
 use Rattle.std.proofs.Common.{ap, option_map}
 use Rattle.hook_machine.specs.Runs.{world_of}
-use Rattle.template_parts.proofs.Works.{tag_of_post, tag_of_none, action_ends}
+use Rattle.template_parts.proofs.Works.{tag_of_post, tag_of_none}
 use Rattle.template_parts.proofs.tags.print_tag.Goals as goal
 
 pub returns-in-Some-clause-ends : goal.returns-in-Some-clause-ends
