@@ -5,7 +5,7 @@ use std::alloc::{AllocError, Global};
 
 /// Whether the attributes are those of the text below.
 fn are_spelled(atts: &Atts) -> bool {
-    atts.pair(0) == Some(("a", "x y"))
+    atts.named("a") == Some("x y")
         && atts.named("b") == Some("")
         && atts.pair(2).is_none()
         && atts.positional().len() == 1

@@ -239,7 +239,11 @@ fn is_run_over(alloc: Global, plugins: &Plugins<Tested>, case: &Case) -> bool {
 
 fn runs(alloc: Global, plugins: &Plugins<Tested>, active: &[Text], case: &Case) -> bool {
     match Run::new(alloc, plugins, active, &[], case.3) {
-        Ok(mut run) => answers(alloc, &mut run, case),
+        Ok(mut run) => {
+            let is_answered = answers(alloc, &mut run, case);
+            run.end();
+            is_answered
+        }
         Err(_) => false,
     }
 }
