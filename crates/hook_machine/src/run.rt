@@ -191,5 +191,7 @@ impl<'a, S: Stated> Run<'a, S> {
 
     /// Ends the run. All that a run owns is dropped here, for every page that ends one, so that what dropping does is
     /// proved once.
-    pub fn end(self) {}
+    pub fn end(self) {
+        drop(self);
+    }
 }
