@@ -10,7 +10,7 @@ use clap::error::ErrorKind;
 use std::alloc::Global;
 
 /// What the words behind the program's name ask for.
-#[derive(Debug, Drop)]
+#[derive(Drop)]
 pub enum ArgsAnswer {
     /// Serve.
     Run {

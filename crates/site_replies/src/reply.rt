@@ -9,7 +9,7 @@ use ends::{EndFault, Sink, write_all, write_pieces};
 use itoa::Buffer;
 
 /// Why a command is refused. A refused command changes no stored row.
-#[derive(Clone, Copy, Debug, PartialEq, Eq)]
+#[derive(Clone, Copy, PartialEq, Eq)]
 pub enum Refusal {
     /// The line isn't a JSON object that names a command with its keys, each of its kind and in its range.
     BadCommand,
@@ -94,7 +94,7 @@ impl Refusal {
 }
 
 /// What a site replies to a line.
-#[derive(Debug, Drop)]
+#[derive(Drop)]
 pub enum SiteReply {
     /// The command was carried out.
     Ok,
