@@ -1,8 +1,9 @@
 /*
  * read, write and writev that give and take little, and fail: a read of standard input gives at most FAIL_PIECE bytes,
  * and fails once FAIL_GOOD bytes were given; standard output takes FAIL_ROOM bytes, and then fails. A variable that
- * isn't set limits nothing. It is compiled by the toolchain's own compiler, which brings no headers, so what it takes
- * from the C library is declared here.
+ * isn't set limits nothing. If FAIL_TIMES is set, that many calls fail, and later ones do all that they are asked to.
+ * If FAIL_SILENTLY is set, a write that fails says that it took no byte. It is compiled by the toolchain's own
+ * compiler, which brings no headers, so what it takes from the C library is declared here.
  */
 typedef unsigned long size_t;
 typedef long ssize_t;
@@ -24,6 +25,8 @@ extern int *__errno_location(void);
 static size_t piece;
 static size_t good;
 static size_t room;
+static size_t times;
+static int is_silent;
 
 static size_t limit(const char *name)
 {
@@ -36,6 +39,8 @@ __attribute__((constructor)) static void begin(void)
     piece = limit("FAIL_PIECE");
     good = limit("FAIL_GOOD");
     room = limit("FAIL_ROOM");
+    times = limit("FAIL_TIMES");
+    is_silent = getenv("FAIL_SILENTLY") != 0;
 }
 
 static size_t least(size_t one, size_t other)
@@ -45,6 +50,7 @@ static size_t least(size_t one, size_t other)
 
 static ssize_t failed(void)
 {
+    times--;
     *__errno_location() = INPUT_OUTPUT_ERROR;
     return -1;
 }
@@ -52,7 +58,7 @@ static ssize_t failed(void)
 ssize_t read(int file, void *bytes, size_t count)
 {
     ssize_t (*next)(int, void *, size_t) = (ssize_t(*)(int, void *, size_t))dlsym(NEXT, "read");
-    if (file != 0)
+    if (file != 0 || times == 0)
         return next(file, bytes, count);
     if (good == 0)
         return failed();
@@ -65,10 +71,12 @@ ssize_t read(int file, void *bytes, size_t count)
 ssize_t write(int file, const void *bytes, size_t count)
 {
     ssize_t (*next)(int, const void *, size_t) = (ssize_t(*)(int, const void *, size_t))dlsym(NEXT, "write");
-    if (file != 1)
+    if (file != 1 || times == 0)
         return next(file, bytes, count);
-    if (room == 0)
-        return failed();
+    if (room == 0) {
+        ssize_t fault = failed();
+        return is_silent ? 0 : fault;
+    }
     ssize_t taken = next(file, bytes, least(count, room));
     if (taken > 0)
         room -= (size_t)taken;
