@@ -98,14 +98,14 @@ pub fn answer(alloc: Global, parts: &[&str]) -> Result<Reply, AllocError>
     Ok(answer_text(alloc, joined(alloc, parts)?))
 }
 
-/// The reply that answers a text and does nothing else. It takes no memory.
+/// The reply that answers a text and does nothing else. It does not allocate.
 pub fn answer_text(alloc: Global, text: Text) -> Reply
     ensures { result ≡ answers_text text }
 {
     change_and_answer(alloc, Listed::empty(alloc), text)
 }
 
-/// The reply that carries out changes and answers a text. It takes no memory.
+/// The reply that carries out changes and answers a text. It does not allocate.
 pub fn change_and_answer(alloc: Global, changes: Listed<Change>, text: Text) -> Reply
     ensures { result ≡ changes_and_answers changes text }
 {
@@ -116,7 +116,7 @@ pub fn change_and_answer(alloc: Global, changes: Listed<Change>, text: Text) -> 
     }
 }
 
-/// The reply that carries out changes and asks. It takes no memory.
+/// The reply that carries out changes and asks. It does not allocate.
 pub fn change_and_ask(alloc: Global, changes: Listed<Change>, ask: Ask) -> Reply
     ensures { result ≡ changes_and_asks changes ask }
 {
@@ -127,7 +127,7 @@ pub fn change_and_ask(alloc: Global, changes: Listed<Change>, ask: Ask) -> Reply
     }
 }
 
-/// The reply that asks. It takes no memory.
+/// The reply that asks. It does not allocate.
 pub fn ask(alloc: Global, ask: Ask) -> Reply
     ensures { result ≡ asks ask }
 {

@@ -27,9 +27,9 @@ pub enum ChangeRow {
 pub enum Part {
     /// The same text for every call.
     Fixed(&'static str),
-    /// The first argument, or empty text if there is none.
+    /// The first argument, or empty text if the call has no such argument.
     First,
-    /// The second argument, or empty text if there is none.
+    /// The second argument, or empty text if the call has no such argument.
     Second,
     /// The number of arguments, in decimal.
     Count,

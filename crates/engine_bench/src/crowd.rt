@@ -31,7 +31,7 @@ impl Spread {
     }
 }
 
-/// Plugins of so many callbacks, numbered from 1.
+/// Makes plugins with `count` callbacks in all, numbered from 1.
 pub fn crowd(
     alloc: Global,
     spread: Spread,

@@ -44,7 +44,7 @@ fn number(word: Option<String>) -> u32 {
     }
 }
 
-/// The value after so many passes over so many callbacks.
+/// Runs `times` passes over `count` callbacks, and returns the value of the last.
 fn value_after(alloc: Global, spread: Spread, count: u16, times: u32) -> Option<Text> {
     let plugins = Plugins::new(alloc, crowd(alloc, spread, count).ok()?).ok()?;
     passes_over(alloc, &plugins, times).ok()
@@ -63,7 +63,7 @@ fn passes_over<S: Stated>(
     value
 }
 
-/// The value after so many passes, with the load lists of all plugins carried out before the first.
+/// Runs `times` passes, after the load lists of all plugins, and returns the value of the last.
 fn passes<S: Stated>(alloc: Global, run: &mut Run<'_, S>, times: u32) -> Result<Text, RunFault> {
     run.load()?;
     let none = Listed::empty(alloc);

@@ -18,7 +18,7 @@ changes number value =
     (if number == 104 then (if nat_lt (length value) 3 then Add the_title (pos (11 + length value)) 104 1 ∷ [] else []) else
     (if number == 105 then Remove the_title (pos 10) 105 ∷ [] else []))
 
--- what it puts behind the value
+-- what it appends to the value
 abbrev pub letter : ℕ → List ℕ
 letter number =
     if number == 101 then codes "a" else

@@ -122,7 +122,7 @@ static CASES: [Case; 21] = [
         TOO_MANY,
     ),
     // A callback that removes itself is run to the end of this pass, and is in no later one: at a lesser priority
-    // than another, at the same one before and behind it, and at a greater one.
+    // than another, at the same one before and after it, and at a greater one.
     Case(
         [Add(10, 105), Add(20, 102), No],
         NONE,

@@ -52,7 +52,7 @@ static SIZES: [(usize, usize, usize, Option<PluginFault>); 7] = [
     (1, 0, 257, TOO_MANY),
 ];
 
-/// How a list of so many plugins, with so many callbacks and changes each, is refused.
+/// The fault of a list of `count` plugins, each with `callbacks` callbacks and `changes` changes.
 fn fault_of_many(
     alloc: Global,
     count: usize,
