@@ -59,7 +59,7 @@ fn passes_over<S: Stated>(
     let active = active(alloc)?;
     let mut run = Run::new(alloc, plugins, active.as_slice(), &[], u32::MAX)?;
     let value = passes(alloc, &mut run, times);
-    drop(run);
+    run.end();
     value
 }
 
