@@ -1,0 +1,144 @@
+// The entries of a group, which a plan and its passes share.
+ghost use Rattle.std.specs.Prelude.{◌≡◌, ◌∷◌, [], ◌==◌, not, filter, length, drop, IfOk, MatchOption};
+ghost use Rattle.call_plans.specs.Entries.{with_entry};
+
+use hook_changes::CallbackId;
+use hook_registry::Entry;
+use std::alloc::{AllocError, Global};
+use std::marker::Model;
+use std::rc::RcSlice;
+
+/// The entries of one priority in order, which are never written: a change makes new ones.
+#[derive(Drop)]
+pub struct SharedEntries {
+    entries: RcSlice<Entry>,
+}
+
+impl Model for SharedEntries {
+    ghost use Rattle.std.specs.Prelude.{List};
+    ghost use Rattle.std.specs.Rc.{rc_slice_items};
+    ghost use Rattle.hook_registry.specs.declared.registration.Entry.{Entry};
+
+    ghost Value = { List Entry };
+
+    ghost view = { λ s. rc_slice_items s.entries };
+}
+
+impl SharedEntries {
+    /// Shares the entries of a `Vec`, which is moved and not copied.
+    pub fn new(entries: Vec<Entry>) -> Result<Self, AllocError>
+        ensures { IfOk result (λ shared. shared ≡ entries.items) }
+    {
+        Ok(SharedEntries {
+            entries: RcSlice::from_vec(entries)?,
+        })
+    }
+
+    /// Borrows the entries.
+    pub fn as_slice(&self) -> &[Entry]
+        ensures { result.now ≡ self.now }
+    {
+        self.entries.as_slice()
+    }
+
+    /// The same entries for another owner; none is copied.
+    pub fn share(&self) -> Result<Self, AllocError>
+        ensures { IfOk result (λ shared. shared ≡ self.now) }
+    {
+        Ok(SharedEntries {
+            entries: self.entries.clone()?,
+        })
+    }
+}
+
+/// What a pass has left of the group that it reached. Contracts see the entries left, the next one first.
+#[derive(Drop)]
+pub struct EntriesLeft {
+    group: Option<SharedEntries>,
+    taken: usize,
+}
+
+impl Model for EntriesLeft {
+    ghost use Rattle.std.specs.Prelude.{List, drop, unwrap_or, []};
+    ghost use Rattle.hook_registry.specs.declared.registration.Entry.{Entry};
+
+    ghost Value = { List Entry };
+
+    ghost view = { λ l. drop l.taken (unwrap_or l.group []) };
+}
+
+impl EntriesLeft {
+    /// No entries. Does not allocate.
+    pub fn none() -> Self
+        ensures { result ≡ [] }
+    {
+        EntriesLeft {
+            group: None,
+            taken: 0,
+        }
+    }
+
+    /// All entries of a group.
+    pub(crate) fn all(group: SharedEntries) -> Self
+        ensures { result ≡ group }
+    {
+        EntriesLeft {
+            group: Some(group),
+            taken: 0,
+        }
+    }
+
+    /// Takes the next entry.
+    pub fn take_first(&mut self) -> Option<Entry>
+        ensures { MatchOption result ((self.old ≡ []) × (self.new ≡ [])) (λ entry. self.old ≡ entry ∷ self.new) }
+    {
+        match &self.group {
+            None => None,
+            Some(group) => {
+                let entries = group.as_slice();
+                if self.taken >= entries.len() {
+                    return None;
+                }
+                let entry = entries[self.taken];
+                self.taken += 1;
+                Some(entry)
+            }
+        }
+    }
+}
+
+/// Copies the entries with one added: an entry of that callback keeps its place and takes the new count, and another
+/// one goes last.
+pub(crate) fn with_entry(
+    alloc: Global,
+    entries: &[Entry],
+    new: Entry,
+) -> Result<SharedEntries, AllocError>
+    ensures { IfOk result (λ shared. shared ≡ with_entry entries.now new) }
+{
+    let mut changed = Vec::with_capacity(alloc, entries.len() + 1)?;
+    changed.extend_from_slice(entries)?;
+    for at in 0..entries.len() {
+        if entries[at].callback == new.callback {
+            changed[at].accepted = new.accepted;
+            return SharedEntries::new(changed);
+        }
+    }
+    changed.push(new)?;
+    SharedEntries::new(changed)
+}
+
+/// Copies the entries of the other callbacks.
+pub(crate) fn without_callback(
+    alloc: Global,
+    entries: &[Entry],
+    callback: CallbackId,
+) -> Result<Vec<Entry>, AllocError>
+    ensures { IfOk result (λ left. left.items ≡ filter (λ e. not (e.callback == callback)) entries.now) }
+{
+    entries
+        .iter()
+        .copied()
+        .filter(|entry| entry.callback != callback)
+        .collect(alloc)
+}

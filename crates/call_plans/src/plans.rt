@@ -1,0 +1,173 @@
+// The plans of every hook.
+ghost use Rattle.std.specs.Prelude.{◌≡◌, [], None, Some, IfOk, OnOk, OnErr, MatchOption};
+ghost use Rattle.hook_registry.specs.Named.{value_of};
+ghost use Rattle.hook_registry.specs.Table.{add, remove, remove_all, group, next_priority};
+ghost use Rattle.call_plans.specs.Changes.{IsApplicable, applied};
+ghost use Rattle.call_plans.specs.Position.{next_entry};
+
+use crate::entries::EntriesLeft;
+use crate::group::Group;
+use crate::hook_plan::HookPlan;
+use crate::position::Position;
+use hook_changes::{CallbackId, Change, HookName};
+use hook_registry::{Entry, Priority};
+use indexmap::IndexMap;
+use std::alloc::{AllocError, Global};
+use std::marker::Model;
+
+/// The plans of every hook, which passes go over. Contracts see the table of registrations.
+#[derive(Drop)]
+pub struct Plans {
+    alloc: Global,
+    hooks: IndexMap<String, HookPlan>,
+}
+
+impl Model for Plans {
+    ghost use Rattle.std.specs.Prelude.{map, string_bytes};
+    ghost use Rattle.hook_registry.specs.Table.{Table};
+
+    ghost Value = { Table };
+
+    ghost view = { λ p. map (λ e. (string_bytes e.0, e.1)) p.hooks.entries };
+}
+
+impl Plans {
+    /// Nothing registered. Does not allocate.
+    pub fn new(alloc: Global) -> Self
+        ensures { result ≡ [] }
+    {
+        Plans {
+            alloc,
+            hooks: IndexMap::new(alloc),
+        }
+    }
+
+    /// The position of a pass before the first priority of a hook. Copies the hook's name.
+    pub fn start(&self, hook: &HookName) -> Result<Position, AllocError>
+        ensures { IfOk result (λ position. position ≡ record { hook = hook.now; reached = None; entries = [] }) }
+    {
+        Ok(Position::start(hook.clone()?))
+    }
+
+    /// The next entry of a pass: the first one left, or else the first of the next priority's group as it is now. If
+    /// there is no such priority, or on a refusal, the position stays as it was. No entries are copied (class WP_Hook).
+    pub fn next(&self, position: &mut Position) -> Result<Option<Entry>, AllocError>
+        ensures entry { IfOk result (λ found. found ≡ (next_entry self.now position.old).0) }
+        ensures moved { OnOk result (position.new ≡ (next_entry self.now position.old).1) }
+        ensures err { OnErr result (position.new ≡ position.old) }
+    {
+        if let Some(entry) = position.entries.take_first() {
+            return Ok(Some(entry));
+        }
+        match self.next_group(position.hook.as_str(), position.reached) {
+            None => Ok(None),
+            Some(group) => {
+                position.entries = EntriesLeft::all(group.entries.share()?);
+                position.reached = Some(group.priority);
+                Ok(position.entries.take_first())
+            }
+        }
+    }
+
+    /// Carries out a change of the registrations; a change of a tag does nothing here. On allocation failure nothing
+    /// changes. Positions stay as they are.
+    pub fn apply(&mut self, change: &Change) -> Result<(), AllocError>
+        requires { IsApplicable change.now }
+        ensures applied { OnOk result (self.new ≡ applied self.old change.now) }
+        ensures err { OnErr result (self.new ≡ self.old) }
+    {
+        match change {
+            Change::Add {
+                hook,
+                priority,
+                callback,
+                accepted,
+            } => self.add(
+                hook.as_str(),
+                *priority,
+                Entry {
+                    callback: *callback,
+                    accepted: *accepted,
+                },
+            ),
+            Change::Remove {
+                hook,
+                priority,
+                callback,
+            } => self.remove(hook.as_str(), *priority, *callback),
+            Change::RemoveAll { hook, priority } => {
+                self.remove_all(hook.as_str(), *priority);
+                Ok(())
+            }
+            Change::AddTag { .. } | Change::RemoveTag { .. } | Change::RemoveAllTags => Ok(()),
+        }
+    }
+
+    /// The group of a hook's smallest priority, or of the smallest one above another if that is given.
+    fn next_group(&self, hook: &str, above: Option<Priority>) -> Option<&Group>
+        ensures { MatchOption result (next_priority self.entry.now hook.entry.now above ≡ None) (λ found.
+            (next_priority self.entry.now hook.entry.now above ≡ Some found.now.priority)
+            × (group self.entry.now hook.entry.now found.now.priority ≡ found.now.entries)) }
+    {
+        match self.hooks.get(hook) {
+            None => None,
+            Some(plan) => plan.next_group(above),
+        }
+    }
+
+    /// Adds an entry under a hook at a priority.
+    pub fn add(&mut self, hook: &str, priority: i32, new: Entry) -> Result<(), AllocError>
+        ensures added { OnOk result (self.new ≡ add self.old hook.now
+            (record { priority = priority; callback = new.callback; accepted = new.accepted })) }
+        ensures err { OnErr result (self.new ≡ self.old) }
+    {
+        match self.hooks.get_index_of(hook) {
+            Some(at) => match self.hooks.get_index_mut(at) {
+                Some(plan) => plan.add(self.alloc, Priority::new(priority), new),
+                None => unreachable!(),
+            },
+            None => self.add_first(hook, Priority::new(priority), new),
+        }
+    }
+
+    /// Adds an entry under a hook that has no plan yet.
+    fn add_first(&mut self, hook: &str, priority: Priority, new: Entry) -> Result<(), AllocError>
+        requires { value_of self.old hook.now ≡ None }
+        ensures added { OnOk result (self.new ≡ add self.old hook.now
+            (record { priority = priority; callback = new.callback; accepted = new.accepted })) }
+        ensures err { OnErr result (self.new ≡ self.old) }
+    {
+        let name = String::from_str(self.alloc, hook)?;
+        let mut plan = HookPlan::new(self.alloc);
+        plan.add(self.alloc, priority, new)?;
+        self.hooks.insert(name, plan)?;
+        Ok(())
+    }
+
+    /// Removes the entry of a callback under a hook at a priority.
+    pub fn remove(&mut self, hook: &str, priority: i32, callback: CallbackId) -> Result<(), AllocError>
+        ensures removed { OnOk result (self.new ≡ remove self.old hook.now priority callback) }
+        ensures err { OnErr result (self.new ≡ self.old) }
+    {
+        match self.hooks.get_index_of(hook) {
+            Some(at) => match self.hooks.get_index_mut(at) {
+                Some(plan) => plan.remove(self.alloc, Priority::new(priority), callback),
+                None => unreachable!(),
+            },
+            None => Ok(()),
+        }
+    }
+
+    /// Removes what is under a hook at a priority, or at all of them.
+    pub fn remove_all(&mut self, hook: &str, priority: Option<i32>)
+        ensures { self.new ≡ remove_all self.old hook.now priority }
+    {
+        match self.hooks.get_index_of(hook) {
+            Some(at) => match self.hooks.get_index_mut(at) {
+                Some(plan) => plan.remove_all(priority),
+                None => unreachable!(),
+            },
+            None => {}
+        }
+    }
+}

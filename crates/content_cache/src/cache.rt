@@ -1,0 +1,102 @@
+// The cache of pieces.
+ghost use Rattle.std.specs.Prelude.{◌≡◌, ◌≤◌, IfOk};
+ghost use Rattle.std.specs.List.{AllByRecursion};
+ghost use Rattle.shortcode_scan.specs.Pieces.{IsPieces, pieces_of};
+ghost use Rattle.shortcode_scan.specs.Spans.{HasSpansOf};
+
+use crate::kept::{Kept, SharedPieces, are_same};
+use hook_changes::TagName;
+use lru::LruCache;
+use shortcode_scan::{Piece, pieces};
+use std::alloc::{AllocError, Global};
+use std::marker::Model;
+use std::num::NonZeroUsize;
+
+/// The pieces of the texts that were asked for last, each with the live names that it was cut by.
+///
+/// Contracts see the maximum number of texts that it keeps, and not which these are: that shows in no answer.
+#[derive(Drop)]
+pub struct PieceCache {
+    alloc: Global,
+    kept: LruCache<String, Kept>,
+}
+
+impl Model for PieceCache {
+    ghost use Rattle.std.specs.Prelude.{ℕ};
+    ghost use Rattle.content_cache.specs.Kept.{AllKept};
+
+    ghost Value = { ℕ };
+
+    ghost view = { λ c. c.kept.cap };
+
+    ghost invariant = { λ c. AllKept c.kept.entries };
+}
+
+impl PieceCache {
+    /// An empty cache for the pieces of at most `capacity` texts.
+    pub fn new(alloc: Global, capacity: usize) -> Result<Self, AllocError>
+        requires some { 1 ≤ capacity }
+        requires most { capacity ≤ 4096 }
+        ensures { IfOk result (λ cache. cache ≡ capacity) }
+    {
+        match NonZeroUsize::new(capacity) {
+            Some(capacity) => Ok(PieceCache {
+                alloc,
+                kept: LruCache::new(alloc, capacity)?,
+            }),
+            None => unreachable!(),
+        }
+    }
+
+    /// The pieces of the text by the names in `live`, as `shortcode_scan::pieces` gives them. They are kept for the next
+    /// time, unless memory for that runs out.
+    pub fn pieces(&mut self, live: &[TagName], text: &str) -> Result<Vec<Piece>, AllocError>
+        ensures pieces { IfOk result (λ pieces. IsPieces live.now text.now pieces.items) }
+        ensures value { IfOk result (λ pieces. pieces.items ≡ pieces_of live.now text.now) }
+        ensures spans { IfOk result (λ pieces. AllByRecursion (HasSpansOf text.now) pieces.items) }
+        ensures capacity { self.new ≡ self.old }
+    {
+        let found = self.shared(live, text)?;
+        Vec::from_slice(self.alloc, found.as_slice())
+    }
+
+    /// The same pieces, shared with the cache; none is copied.
+    pub fn shared(&mut self, live: &[TagName], text: &str) -> Result<SharedPieces, AllocError>
+        ensures pieces { IfOk result (λ pieces. IsPieces live.now text.now pieces) }
+        ensures value { IfOk result (λ pieces. pieces ≡ pieces_of live.now text.now) }
+        ensures spans { IfOk result (λ pieces. AllByRecursion (HasSpansOf text.now) pieces) }
+        ensures capacity { self.new ≡ self.old }
+    {
+        // With no live name the text is one plain piece: it is found faster than it is looked up.
+        if live.is_empty() {
+            return SharedPieces::new(pieces(self.alloc, live, text)?);
+        }
+        if let Some(kept) = self.kept.get(text) {
+            if are_same(kept.live.as_slice(), live) {
+                return kept.pieces.share();
+            }
+        }
+        let found = SharedPieces::new(pieces(self.alloc, live, text)?)?;
+        self.keep(live, text, &found);
+        Ok(found)
+    }
+
+    /// The number of texts whose pieces it keeps.
+    pub fn kept(&self) -> usize
+        ensures { result ≤ self.now }
+    {
+        self.kept.len()
+    }
+
+    /// Keeps the pieces of a text, unless memory for that runs out.
+    fn keep(&mut self, live: &[TagName], text: &str, pieces: &SharedPieces)
+        requires { pieces.now ≡ pieces_of live.now text.now }
+        ensures { self.new ≡ self.old }
+    {
+        if let Ok(key) = String::from_str(self.alloc, text) {
+            if let Ok(kept) = Kept::of(self.alloc, live, pieces) {
+                let _ = self.kept.put(key, kept);
+            }
+        }
+    }
+}
