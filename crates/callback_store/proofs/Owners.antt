@@ -1,5 +1,5 @@
 -- Which plugin has a callback or a name, by the plugins themselves.
-use Rattle.std.proofs.Common.{◌≡◌, ℕ, Bool, true, false, ◌==◌, ◌||◌, List, [], ◌∷◌, map, refl, ap, sym, ◌∙◌, Option, Some, None, bytes_eq, slice_get, zero, suc, Result, Ok, Err, IfOk, subst}
+use Rattle.std.proofs.Common.{◌≡◌, ℕ, Bool, true, false, ◌==◌, ◌&&◌, ◌||◌, List, [], ◌∷◌, map, refl, ap, sym, ◌∙◌, Option, Some, None, bytes_eq, slice_get, zero, suc, Result, Ok, Err, IfOk, subst}
 use Rattle.std.proofs.lemmas.Bool.{eqb-true}
 use Rattle.std.specs.Prelude.{find, is_some, option_map, if◌then◌else◌, IfSome}
 use Rattle.std.specs.Option.{option_copied}
@@ -8,7 +8,7 @@ use Rattle.std.specs.List.{list_any}
 use Rattle.callback_store.specs.declared.fault.PluginFault.{PluginFault}
 use Rattle.callback_store.specs.declared.plugins.Plugin.{Plugin}
 use Rattle.callback_store.specs.declared.plugins.Plugins.{Plugins}
-use Rattle.callback_store.specs.Shape.{shape_of, has_callback, is_held, owner, load_of}
+use Rattle.callback_store.specs.Shape.{shape_of, has_callback, is_held, is_held_by, owner, load_of}
 use Rattle.callback_store.proofs.Mapped.{list_any-map, find-map, is_some-find}
 
 module _ {S : Type 0} (number : S → ℕ) where
@@ -89,6 +89,22 @@ module _ {S : Type 0} (number : S → ℕ) where
   held_at id ps i j p s e f t =
       list_any-map (has_callback id) (shape_of number) ps
       ∙ any_at (λ q. has_callback id (shape_of number q)) ps i p e (has-shape_of number id p ∙ any_at (λ c. number c == id) p.callbacks j s f t)
+
+  -- the callback at a place of a plugin is the plugin's
+  pub has_one_at : (id : ℕ) (p : Plugin S) (j : ℕ) (s : S) → slice_get p.callbacks j ≡ Some s → (number s == id) ≡ true → has_callback id (shape_of number p) ≡ true
+  has_one_at id p j s e t = has-shape_of number id p ∙ any_at (λ c. number c == id) p.callbacks j s e t
+
+  -- a plugin of one of the names has the callback, by the plugins themselves
+  pub held_by_names : (names : List (List ℕ)) (id : ℕ) (ps : List (Plugin S)) → is_held_by (map (shape_of number) ps) names id ≡ list_any (λ p. list_any (bytes_eq p.name) names && has number id p) ps
+  held_by_names names id [] = refl
+  held_by_names names id (p ∷ ps) = rw (has-shape_of number id p, held_by_names names id ps) refl
+
+  -- a plugin at a place has one of the names, and the callback
+  pub held_by_at : (names : List (List ℕ)) (id : ℕ) (ps : List (Plugin S)) (i : ℕ) (p : Plugin S) → slice_get ps i ≡ Some p → list_any (bytes_eq p.name) names ≡ true → has_callback id (shape_of number p) ≡ true
+      → is_held_by (map (shape_of number) ps) names id ≡ true
+  held_by_at names id ps i p e n h =
+      list_any-map (λ q. list_any (bytes_eq q.name) names && has_callback id q) (shape_of number) ps
+      ∙ any_at (λ q. list_any (bytes_eq q.name) names && has_callback id (shape_of number q)) ps i p e (rw (n, h) refl)
 
   -- what holds of a list holds of the plugins that keep it
   pub kept : (P : List (Plugin S) → Type 0) (list : List (Plugin S)) (r : Result (Plugins S) PluginFault) → IfOk r (λ plugins. plugins.list ≡ list) → P list → IfOk r (λ plugins. P plugins.list)

@@ -1,5 +1,5 @@
 -- What is seen of plugins beside what their callbacks reply.
-use Rattle.std.specs.Prelude.{ℕ, Bool, ◌==◌, List, map, Option, find, option_map, bytes_eq}
+use Rattle.std.specs.Prelude.{ℕ, Bool, ◌&&◌, ◌==◌, List, map, Option, find, option_map, bytes_eq}
 use Rattle.std.specs.Cmp.Lexicographic.{slice_cmp}
 use Rattle.std.specs.List.{list_any}
 use Rattle.std.specs.List.Sorted.{IsSortedByKey}
@@ -30,6 +30,10 @@ has_callback callback shape = list_any (λ c. c == callback) shape.callbacks
 -- whether some plugin has the callback
 abbrev pub is_held : List Shape → ℕ → Bool
 is_held shapes callback = list_any (has_callback callback) shapes
+
+-- whether a plugin of one of these names has the callback
+abbrev pub is_held_by : List Shape → List (List ℕ) → ℕ → Bool
+is_held_by shapes names callback = list_any (λ p. list_any (bytes_eq p.name) names && has_callback callback p) shapes
 
 -- the name of the plugin that has the callback
 abbrev pub owner : List Shape → ℕ → Option (List ℕ)

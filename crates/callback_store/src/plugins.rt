@@ -1,12 +1,12 @@
 // Plugins, with their load lists and callbacks.
-ghost use Rattle.std.specs.Prelude.{◌≡◌, ◌≢◌, ◌++◌, map, IfOk, IfErr, OnOk, IsTrue, IfSome, None, Some, option_map, is_some, find, bytes_eq, ◌==◌, ◌||◌, not, nat_lt, length, slice_get};
+ghost use Rattle.std.specs.Prelude.{◌≡◌, ◌≢◌, ◌++◌, map, IfOk, IfErr, OnOk, IsTrue, IfSome, None, Some, option_map, is_some, find, bytes_eq, ◌==◌, ◌&&◌, ◌||◌, not, nat_lt, length, slice_get};
 ghost use Rattle.std.specs.List.{list_any};
 ghost use Rattle.std.specs.List.Sorted.{IsPermutation, IsSortedByKey};
 ghost use Rattle.std.specs.Ordering.{nat_cmp};
 ghost use Rattle.std.specs.Cmp.Lexicographic.{slice_cmp};
 ghost use Rattle.std.specs.Option.{option_copied};
 ghost use Rattle.hook_changes.specs.Names.{is_tag_name};
-ghost use Rattle.callback_store.specs.Shape.{AreInOrder, shape_of, shapes_of, is_held, owner, load_of};
+ghost use Rattle.callback_store.specs.Shape.{AreInOrder, shape_of, shapes_of, has_callback, is_held, is_held_by, owner, load_of};
 ghost use Rattle.callback_store.specs.Faults.{has_repeat, is_large, has_same_callback, numbers, fault_of};
 
 use crate::fault::PluginFault;
@@ -48,6 +48,16 @@ impl<S: Stated> Plugin<S> {
             }
         }
         false
+    }
+
+    /// Whether the callback at a place has the number.
+    fn has_at(&self, place: usize, id: CallbackId) -> bool
+        ensures { IsTrue result → IsTrue (has_callback id (shape_of S.number self.now)) }
+    {
+        match self.callback_at(place) {
+            Some(callback) => callback.id() == id,
+            None => false,
+        }
     }
 
     fn callback_at(&self, place: usize) -> Option<&S>
@@ -135,6 +145,40 @@ impl<S: Stated> Plugins<S> {
         }
     }
 
+    /// Whether a plugin of one of these names has the callback. Where one has, that takes one look-up, and else a walk of
+    /// those plugins.
+    pub fn is_held_by(&self, names: &[Text], id: CallbackId) -> bool
+        ensures { result ≡ is_held_by (shapes_of S.number self.now) names.now id }
+    {
+        self.is_placed_in(names, id) || self.is_among(names, id)
+    }
+
+    /// Whether the place that is kept for the number is in a plugin of one of these names.
+    fn is_placed_in(&self, names: &[Text], id: CallbackId) -> bool
+        ensures { IsTrue result → IsTrue (is_held_by (shapes_of S.number self.now) names.now id) }
+    {
+        let Some(kept) = self.places.get(&id.number()) else {
+            return false;
+        };
+        let (plugin, place) = *kept;
+        match self.plugin_at(plugin) {
+            Some(plugin) => is_one_of(names, plugin.name.as_str()) && plugin.has_at(place, id),
+            None => false,
+        }
+    }
+
+    /// Whether one of the callbacks of the plugins of these names has the number.
+    fn is_among(&self, names: &[Text], id: CallbackId) -> bool
+        ensures { result ≡ list_any (λ p. list_any (bytes_eq p.name) names.now && list_any (λ c. S.number c == id) p.callbacks) self.now.list }
+    {
+        for plugin in self.list.as_slice() {
+            if is_one_of(names, plugin.name.as_str()) && plugin.has_callback(id) {
+                return true;
+            }
+        }
+        false
+    }
+
     /// The load list of the plugin of that name, or `None` where no plugin has the name.
     pub fn load_of(&self, name: &str) -> Option<&[Change]>
         ensures { option_map (λ changes. changes.now) result ≡ load_of (shapes_of S.number self.entry.now) name.now }
@@ -198,6 +242,12 @@ impl<S: Stated> Plugins<S> {
             None => unreachable!(),
         }
     }
+}
+
+fn is_one_of(names: &[Text], name: &str) -> bool
+    ensures { result ≡ list_any (bytes_eq name.now) names.now }
+{
+    names.iter().any(|other| name == other.as_str())
 }
 
 /// Refuses a list by its first fault.
