@@ -3,4 +3,5 @@ pub mod Repeats
 pub mod Owners
 pub mod Choosing
 pub mod InOrder
+pub mod Sorting
 mod Walks

@@ -3,8 +3,9 @@ use Rattle.std.specs.Prelude.{ℕ, Bool, ◌&&◌, ◌==◌, List, map, Option, 
 use Rattle.std.specs.Cmp.Lexicographic.{slice_cmp}
 use Rattle.std.specs.List.{list_any}
 use Rattle.std.specs.List.Sorted.{IsSortedByKey}
-use Rattle.std.specs.Ordering.{nat_cmp}
+use Rattle.std.specs.Ordering.{is_lt, nat_cmp}
 use Rattle.hook_changes.specs.declared.reply.Change.{Change}
+use Rattle.callback_store.specs.Sorting.{sorted}
 use Rattle.callback_store.specs.declared.plugins.Plugin.{Plugin}
 use Rattle.callback_store.specs.declared.plugins.Plugins.{Plugins}
 
@@ -23,6 +24,14 @@ shapes_of number plugins = map (shape_of number) plugins.list
 -- no name stands before a lesser one, by bytes
 abbrev pub AreInOrder : List Shape → Type 0
 AreInOrder shapes = IsSortedByKey (λ s. s.name) (slice_cmp nat_cmp) shapes
+
+-- whether a plugin has the lesser name, by bytes
+abbrev pub comes_before : Shape → Shape → Bool
+comes_before s t = is_lt (slice_cmp nat_cmp s.name t.name)
+
+-- by name, in the order of bytes
+abbrev pub by_name : List Shape → List Shape
+by_name shapes = sorted comes_before shapes
 
 abbrev pub has_callback : ℕ → Shape → Bool
 has_callback callback shape = list_any (λ c. c == callback) shape.callbacks

@@ -2,9 +2,11 @@
 #![tactic(auto)]
 
 mod fault;
+mod laws;
 mod plugins;
 mod stated;
 
 pub use fault::PluginFault;
+pub use laws::ordered_by_name;
 pub use plugins::{Plugin, Plugins};
 pub use stated::Stated;

@@ -6,7 +6,7 @@ ghost use Rattle.std.specs.Ordering.{nat_cmp};
 ghost use Rattle.std.specs.Cmp.Lexicographic.{slice_cmp};
 ghost use Rattle.std.specs.Option.{option_copied};
 ghost use Rattle.hook_changes.specs.Names.{is_tag_name};
-ghost use Rattle.callback_store.specs.Shape.{AreInOrder, shape_of, shapes_of, has_callback, is_held, is_held_by, owner, load_of};
+ghost use Rattle.callback_store.specs.Shape.{AreInOrder, shape_of, shapes_of, has_callback, is_held, is_held_by, by_name, owner, load_of};
 ghost use Rattle.callback_store.specs.Faults.{has_repeat, is_large, has_same_callback, numbers, fault_of};
 
 use crate::fault::PluginFault;
@@ -111,6 +111,19 @@ impl<S: Stated> Plugins<S> {
         ensures { map (shape_of S.number) result.now ≡ shapes_of S.number self.entry.now }
     {
         self.list.as_slice()
+    }
+
+    /// The plugins by name, in the order of bytes, in which load lists are carried out. `new` has put them in that order
+    /// already, but no invariant of a type that holds callbacks can say so.
+    pub fn by_name(&self, alloc: Global) -> Result<Vec<&Plugin<S>>, AllocError>
+        ensures { IfOk result (λ list. map (λ p. shape_of S.number p.now) list.items ≡ by_name (shapes_of S.number self.entry.now)) }
+    {
+        let mut list = Vec::new(alloc);
+        for plugin in self.list.as_slice() {
+            list.push(plugin)?;
+        }
+        list.sort_by(|plugin, other| plugin.name.as_str().cmp(other.name.as_str()))?;
+        Ok(list)
     }
 
     fn with_callback(&self, id: CallbackId) -> Option<&Plugin<S>>
