@@ -1,15 +1,16 @@
 -- The table has the registrations of the one list.
 use Rattle.std.proofs.Common.{◌≡◌, ℕ, ℤ, true, false, Bool, cond, not, ◌&&◌, ◌||◌, List, [], ◌∷◌, map, filter, refl, ap, sym, subst, ◌∙◌, Option, Some}
-use Rattle.std.specs.Prelude.{bytes_eq, fold, unwrap_or}
+use Rattle.std.specs.Prelude.{◌==◌, bytes_eq, fold, unwrap_or}
+use Rattle.std.specs.List.{list_any}
 use Rattle.std.specs.Map.{lookup}
 use Rattle.std.proofs.lemmas.Slice.Eq.{bytes_eq-Decides}
 use Rattle.hook_registry.specs.declared.registration.Registration.{Registration}
 use Rattle.hook_registry.specs.Named.{set_value}
 use Rattle.hook_registry.specs.Table as table
 use Rattle.hook_registry.specs.Order.{by_priority}
-use Rattle.hook_registry.specs.Table.{Table, registrations, is_at, is_of, is_other, is_above, entry_of, with_added, keeping, group, next_priority, least_priority}
-use Rattle.hook_registry.proofs.RunOrder.{appended, added-by_priority, filter-by_priority, group-by_priority, least_priority-by_priority}
-use Rattle.hook_registry.specs.OneList.{Listed, is_in, add, remove, registrations_in, TableChange, Added, Removed, RemovedAll, changed, list_changed, table_after, list_after}
+use Rattle.hook_registry.specs.Table.{Table, registrations, is_at, is_of, is_other, is_above, entry_of, with_added, keeping, group, has, next_priority, priority_of, least_priority}
+use Rattle.hook_registry.proofs.RunOrder.{appended, added-by_priority, filter-by_priority, group-by_priority, least_priority-by_priority, any-by_priority}
+use Rattle.hook_registry.specs.OneList.{Listed, is_in, is_same, add, remove, registrations_in, TableChange, Added, Removed, RemovedAll, changed, list_changed, table_after, list_after}
 
 pub same_name : (a b : List ℕ) → bytes_eq a b ≡ true → a ≡ b
 same_name a b e = (bytes_eq-Decides a b).0 e
@@ -176,3 +177,35 @@ group-after changes hook priority =
 pub next-after : (changes : List TableChange) (hook : List ℕ) (above : Option ℤ) → next_priority (table_after changes) hook above ≡ least_priority (is_above above) (registrations_in (list_after changes) hook)
 next-after changes hook above =
     ap (least_priority (is_above above)) (registrations-after changes hook) ∙ least_priority-by_priority (is_above above) (registrations_in (list_after changes) hook)
+
+pub priority_of-after : (changes : List TableChange) (hook : List ℕ) (callback : ℕ) → priority_of (table_after changes) hook callback ≡ least_priority (λ r. r.callback == callback) (registrations_in (list_after changes) hook)
+priority_of-after changes hook callback =
+    ap (least_priority (λ r. r.callback == callback)) (registrations-after changes hook) ∙ least_priority-by_priority (λ r. r.callback == callback) (registrations_in (list_after changes) hook)
+
+any_in : (passes : Registration → Bool) (list : List Listed) (hook : List ℕ) → list_any passes (registrations_in list hook) ≡ list_any (λ l. is_in hook l && passes l.registration) list
+any_in passes [] hook = refl
+any_in passes (l ∷ ls) hook =
+    elim (is_in hook l) as (λ b. list_any passes (map (λ m. m.registration) (cond b (l ∷ filter (is_in hook) ls) (filter (is_in hook) ls))) ≡ ((b && passes l.registration) || list_any (λ m. is_in hook m && passes m.registration) ls))
+    [ true ↦ ap (λ b. passes l.registration || b) (any_in passes ls hook) | false ↦ any_in passes ls hook ]
+
+pub there-after : (changes : List TableChange) (hook : List ℕ) (priority : ℤ) (callback : ℕ) → list_any (is_of priority callback) (registrations (table_after changes) hook) ≡ list_any (is_same hook priority callback) (list_after changes)
+there-after changes hook priority callback =
+    ap (list_any (is_of priority callback)) (registrations-after changes hook)
+    ∙ any-by_priority (is_of priority callback) (registrations_in (list_after changes) hook)
+    ∙ any_in (is_of priority callback) (list_after changes) hook
+
+has-any : (t : Table) (hook : List ℕ) (rs : List Registration) → registrations t hook ≡ rs → has t hook ≡ list_any (λ r. true) rs
+has-any t hook [] e = rw e refl
+has-any t hook (r ∷ rs) e = rw e refl
+
+any_there : (list : List Listed) (hook : List ℕ) → list_any (λ r. true) (registrations_in list hook) ≡ list_any (is_in hook) list
+any_there [] hook = refl
+any_there (l ∷ ls) hook =
+    elim (is_in hook l) as (λ b. list_any (λ r. true) (map (λ m. m.registration) (cond b (l ∷ filter (is_in hook) ls) (filter (is_in hook) ls))) ≡ (b || list_any (is_in hook) ls))
+    [ true ↦ refl | false ↦ any_there ls hook ]
+
+pub has-after : (changes : List TableChange) (hook : List ℕ) → has (table_after changes) hook ≡ list_any (is_in hook) (list_after changes)
+has-after changes hook =
+    has-any (table_after changes) hook (by_priority (registrations_in (list_after changes) hook)) (registrations-after changes hook)
+    ∙ any-by_priority (λ r. true) (registrations_in (list_after changes) hook)
+    ∙ any_there (list_after changes) hook

@@ -1,7 +1,8 @@
 -- The order in which registrations run, made from the order of adding.
-use Rattle.std.proofs.Common.{◌≡◌, ℤ, true, false, Bool, cond, ◌&&◌, List, [], ◌∷◌, map, filter, refl, ap, sym, subst, ◌∙◌, Some}
+use Rattle.std.proofs.Common.{◌≡◌, ℤ, true, false, Bool, cond, ◌&&◌, ◌||◌, List, [], ◌∷◌, map, filter, refl, ap, sym, subst, ◌∙◌, Some}
 use Rattle.std.specs.Prelude.{◌==◌, ◌≤ℤ◌, int_lt, fold, if◌then◌else◌}
 use Rattle.std.specs.Int.{int_min}
+use Rattle.std.specs.List.{list_any}
 use Rattle.std.proofs.lemmas.Bool.Decides.{Decides-int_eq}
 use Rattle.std.proofs.Common.{arith}
 use Rattle.std.proofs.lemmas.Int.{ints}
@@ -202,3 +203,21 @@ least-by_priority (r ∷ rs) = least-placed r (by_priority rs) ∙ ap Some (fold
 
 pub least_priority-by_priority : (passes : Registration → Bool) (rs : List Registration) → least_priority passes (by_priority rs) ≡ least_priority passes rs
 least_priority-by_priority passes rs = ap (λ ss. least (priorities ss)) (filter-by_priority passes rs) ∙ least-by_priority (filter passes rs)
+
+-- ---- whether any passes
+
+module _ (passes : Registration → Bool) where
+  either_next : (a b c : Bool) → (a || (b || c)) ≡ (b || (a || c))
+  either_next true true c = refl
+  either_next true false c = refl
+  either_next false b c = refl
+
+  any-placed : (r : Registration) (ss : List Registration) → list_any passes (placed r ss) ≡ (passes r || list_any passes ss)
+  any-placed r [] = refl
+  any-placed r (s ∷ ss) =
+      elim (int_lt s.priority r.priority) as (λ b. list_any passes (cond b (s ∷ placed r ss) (r ∷ s ∷ ss)) ≡ (passes r || (passes s || list_any passes ss)))
+      [ true ↦ ap (λ b. passes s || b) (any-placed r ss) ∙ either_next (passes s) (passes r) (list_any passes ss) | false ↦ refl ]
+
+  pub any-by_priority : (rs : List Registration) → list_any passes (by_priority rs) ≡ list_any passes rs
+  any-by_priority [] = refl
+  any-by_priority (r ∷ rs) = any-placed r (by_priority rs) ∙ ap (λ b. passes r || b) (any-by_priority rs)
