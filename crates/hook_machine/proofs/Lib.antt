@@ -3,3 +3,5 @@ pub mod Ending
 pub mod Folding
 pub mod Loading
 pub mod Rows
+pub mod Registered
+pub mod Throughout

@@ -5,4 +5,5 @@ pub mod Ends
 pub mod Works
 pub mod Runs
 pub mod Folding
+pub mod Throughout
 pub mod Worked

@@ -13,6 +13,9 @@ mod state;
 mod worked;
 
 pub use fault::RunFault;
-pub use laws::plain_callbacks_fold;
+pub use laws::{
+    inactive_callbacks_stay_out, passes_keep_to_their_calls, passes_keep_to_their_depth,
+    plain_callbacks_fold,
+};
 pub use run::Run;
 pub use worked::worked_passes;
