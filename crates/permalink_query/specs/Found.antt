@@ -1,5 +1,5 @@
 -- Which posts a query finds.
-use Rattle.std.specs.Prelude.{ℕ, ◌-◌, ◌*◌, ◌&&◌, nat_le, if◌then◌else◌, List, [], ◌∷◌, filter, find, codes, Option, Some, None, option_and_then, option_map, unwrap_or}
+use Rattle.std.specs.Prelude.{Bool, true, false, not, ℕ, ◌-◌, ◌*◌, ◌&&◌, nat_le, if◌then◌else◌, List, [], ◌∷◌, filter, find, codes, Option, Some, None, option_and_then, option_map, unwrap_or}
 use Rattle.std.specs.Option.{option_to_list}
 use Rattle.std.specs.Str.{bytes_eq}
 use Rattle.site_records.specs.declared.post.Post.{Post}
@@ -49,6 +49,12 @@ unless_empty kind (p ∷ ps) = showing kind (p ∷ ps)
 -- the front is found also without posts, at its first part alone (class WP, handle_404)
 abbrev pub front_of : ℕ → List Post → Found
 front_of part posts = if nat_le part 1 then showing Front posts else unless_empty Front posts
+
+-- a query that finds nothing whatever a site has: no post or page is asked for, or the calendar has no such month
+abbrev pub is_void : Query → Bool
+is_void query.Nothing = true
+is_void (query.Month year month part) = not (is_month year month)
+is_void _ = false
 
 -- what a site's posts and options have for a query (class WP_Query)
 abbrev pub found : List Post → List (Text × Text) → Query → Found

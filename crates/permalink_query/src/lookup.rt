@@ -1,5 +1,17 @@
 //! Finding what a site has for a query.
-ghost use Rattle.std.specs.Prelude.{codes, ◌≡◌, ◌≤◌, ◌&&◌, IfOk, filter, option_map};
+ghost use Rattle.std.specs.Prelude.{
+  codes,
+  ◌≡◌,
+  ◌≤◌,
+  ◌&&◌,
+  true,
+  false,
+  Ok,
+  IfOk,
+  IfErr,
+  filter,
+  option_map,
+};
 ghost use Rattle.std.specs.Option.{option_to_list};
 ghost use Rattle.post_tables.specs.Page.{is_kind, is_published};
 ghost use Rattle.permalink_query.specs.Found.{
@@ -10,8 +22,10 @@ ghost use Rattle.permalink_query.specs.Found.{
   unless_empty,
   front_of,
   nothing,
+  is_void,
   found,
 };
+ghost use Rattle.permalink_query.specs.Months.{is_month};
 
 use crate::fault::FindFault;
 use crate::month::month_span;
@@ -29,7 +43,8 @@ const DEFAULT_SIZE: u32 = 10;
 /// query names, newest first (class WP_Query). A part has as many posts as the first option named
 /// `posts_per_page` says, where that is a number from 1 to 100, and else 10. Nothing is found where
 /// there is no such post or page, and where a part is empty, but for the first part of the front.
-/// A month that the calendar doesn't have finds nothing.
+/// A month that the calendar doesn't have finds nothing. It is refused on allocation failure alone, and
+/// not at all where there is nothing to look for.
 pub fn find(
     alloc: Global,
     tables: &mut Tables,
@@ -38,6 +53,8 @@ pub fn find(
 ) -> Result<Found, FindFault>
     ensures ok { IfOk result (λ f. f ≡ found tables.old.posts options.now query.now) }
     ensures same { tables.new ≡ tables.old }
+    ensures err { IfErr result (λ e. e ≡ FindFault.OutOfMemory) }
+    ensures void { is_void query.now ≡ true → result ≡ Ok nothing }
 {
     match *query {
         Query::Front { part } => {
@@ -71,6 +88,8 @@ fn find_month(
     ensures ok { IfOk result (λ f. f
         ≡ found tables.old.posts options.now (Query.Month year month part)) }
     ensures same { tables.new ≡ tables.old }
+    ensures err { IfErr result (λ e. e ≡ FindFault.OutOfMemory) }
+    ensures void { is_month year month ≡ false → result ≡ Ok nothing }
 {
     let Some((from, to)) = month_span(alloc, year, month)? else {
         return Ok(nothing(alloc));
@@ -85,6 +104,7 @@ fn front_part(tables: &mut Tables, size: u32, part: u32) -> Result<Listed<Post>,
         ≡ part_of_posts (codes "0001-01-01 00:00:00") (codes "9999-12-31 23:59:59") size part
         tables.old.posts) }
     ensures same { tables.new ≡ tables.old }
+    ensures err { IfErr result (λ e. e ≡ FindFault.OutOfMemory) }
 {
     let (from, to) = all_dates();
     part_of(tables, &from, &to, size, part)
@@ -116,6 +136,7 @@ fn part_of(
     ensures ok { IfOk result (λ posts. posts
         ≡ part_of_posts from.now to.now size part tables.old.posts) }
     ensures same { tables.new ≡ tables.old }
+    ensures err { IfErr result (λ e. e ≡ FindFault.OutOfMemory) }
 {
     let offset = u64::from(part.saturating_sub(1)) * u64::from(size);
     Ok(tables.posts_of(PostKind::Post, from, to, size, offset)?)
@@ -130,6 +151,7 @@ fn published(
 ) -> Result<Listed<Post>, FindFault>
     ensures ok { IfOk result (λ posts. posts ≡ published_with kind id tables.old.posts) }
     ensures same { tables.new ≡ tables.old }
+    ensures err { IfErr result (λ e. e ≡ FindFault.OutOfMemory) }
 {
     let found = tables.post(id)?;
     Ok(if_published(alloc, kind, found)?)

@@ -1,5 +1,5 @@
 //! The dates of posts that lie in a month.
-ghost use Rattle.std.specs.Prelude.{◌≡◌, true, ◌++◌, codes, pos, IfOk, IfSome, is_some};
+ghost use Rattle.std.specs.Prelude.{◌≡◌, true, false, Ok, None, ◌++◌, codes, pos, IfOk, IfSome, is_some};
 ghost use Rattle.site_records.specs.Dates.{is_post_date};
 ghost use Rattle.jiff.specs.Words.{date_text, IsYmd};
 ghost use Rattle.permalink_query.specs.Months.{is_month, month_start, month_end};
@@ -15,6 +15,7 @@ pub(crate) fn month_span(
     month: u8,
 ) -> Result<Option<(PostDate, PostDate)>, AllocError>
     ensures there { IfOk result (λ span. is_some span ≡ is_month year month) }
+    ensures none { is_month year month ≡ false → result ≡ Ok None }
     ensures span { IfOk result (λ span. IfSome span (λ s. (s.0 ≡ month_start year month)
         × (s.1 ≡ month_end year month))) }
 {

@@ -1,5 +1,5 @@
 -- What the statements make that define the tables.
-use Rattle.std.proofs.Common.{◌≡◌, ◌⊎◌, inl, inr, ℕ, List, [], ◌∷◌, ◌++◌, map, true, false, None, Ok, Err, Result, OnOk, refl, sym, ap, subst, ◌∙◌}
+use Rattle.std.proofs.Common.{◌≡◌, ◌⊎◌, inl, inr, ℕ, List, [], ◌∷◌, ◌++◌, map, true, false, None, Ok, Err, Result, OnOk, ◌<◌, ◌^◌, lit≤, refl, sym, ap, subst, ◌∙◌}
 use Rattle.std.specs.List.{AllByRecursion}
 use Rattle.sqlite.specs.Order.{Row}
 use Rattle.sqlite.specs.declared.error.Error.{Error}
@@ -80,7 +80,7 @@ one_more : (tables : List Table) (t : Table) (trees : Trees) → AllByRecursion 
 one_more [] t trees none here = (here, tt)
 one_more (x ∷ tables) t trees none here = (none.0, one_more tables t trees none.1 here)
 
-module _ (old new : Held MemStore) (before : Schema) (bare : IsBare before old) where
+module _ (old new : Held MemStore) (limit : new.step_limit ≡ old.step_limit) (before : Schema) (bare : IsBare before old) where
   made_table : (text : List ℕ) (table : Table) → table_defined_by text ≡ Ok table → IsRead before text CreateTable → lacks_sequence (created before table) ≡ false
       → (count : ℕ) → Executes text [] (state over_memory old) (state over_memory new) (Ok count) → IsBare (created before table) new
   made_table text table is read whole count h =
@@ -101,13 +101,14 @@ module _ (old new : Held MemStore) (before : Schema) (bare : IsBare before old) 
         empty = subst (λ (d : Database). AllByRecursion (λ t. d.trees t.tree ≡ []) (created before table).tables) (sym now)
             (one_more before.tables (record table { tree = next_tree before }) first.0.trees (still_empty before.tables s.now.trees first.0.trees kept bare.empty) none);
         idle = wrote old new bare.idle _ _ _ _ _ w;
+        unlimited = limit ∙ bare.unlimited;
       }
 
 -- ---- each in turn
 
-pub post_made : (old new : Held MemStore) (r : Result ℕ Error) → IsBare no_schema old → Executes create_post [] (state over_memory old) (state over_memory new) r → OnOk r (IsBare post_schema new)
-post_made old new (Err e) bare h = tt
-post_made old new (Ok count) bare h =
+pub post_made : (old new : Held MemStore) → new.step_limit ≡ old.step_limit → (r : Result ℕ Error) → IsBare no_schema old → Executes create_post [] (state over_memory old) (state over_memory new) r → OnOk r (IsBare post_schema new)
+post_made old new limit (Err e) bare h = tt
+post_made old new limit (Ok count) bare h =
     let s = state over_memory old in
     let t = state over_memory new in
     let w = subst (λ x. Writes s t None CreateTable x [] count) post_read.whole (runs_as create_post [] s t no_schema bare.schema_is CreateTable post_read.read post_read.plain count h) in
@@ -129,24 +130,25 @@ post_made old new (Ok count) bare h =
         (ap (λ (d : Database). d.trees 1) now ∙ subst (λ x. all.0.trees (next_tree x) ≡ []) schema more.empty, tt),
       );
       idle = wrote old new bare.idle _ _ _ _ _ w;
+      unlimited = limit ∙ bare.unlimited;
     }
 
-pub option_made : (old new : Held MemStore) (r : Result ℕ Error) → IsBare post_schema old → Executes create_option [] (state over_memory old) (state over_memory new) r → OnOk r (IsBare option_schema new)
-option_made old new (Err e) bare h = tt
-option_made old new (Ok count) bare h = made_table old new post_schema bare create_option (record option_table { tree = 0 }) option_is option_read lacks_none.0 count h
+pub option_made : (old new : Held MemStore) → new.step_limit ≡ old.step_limit → (r : Result ℕ Error) → IsBare post_schema old → Executes create_option [] (state over_memory old) (state over_memory new) r → OnOk r (IsBare option_schema new)
+option_made old new limit (Err e) bare h = tt
+option_made old new limit (Ok count) bare h = made_table old new limit post_schema bare create_option (record option_table { tree = 0 }) option_is option_read lacks_none.0 count h
 
-pub template_made : (old new : Held MemStore) (r : Result ℕ Error) → IsBare option_schema old → Executes create_template [] (state over_memory old) (state over_memory new) r → OnOk r (IsBare template_schema new)
-template_made old new (Err e) bare h = tt
-template_made old new (Ok count) bare h = made_table old new option_schema bare create_template (record template_table { tree = 0 }) template_is template_read lacks_none.1 count h
+pub template_made : (old new : Held MemStore) → new.step_limit ≡ old.step_limit → (r : Result ℕ Error) → IsBare option_schema old → Executes create_template [] (state over_memory old) (state over_memory new) r → OnOk r (IsBare template_schema new)
+template_made old new limit (Err e) bare h = tt
+template_made old new limit (Ok count) bare h = made_table old new limit option_schema bare create_template (record template_table { tree = 0 }) template_is template_read lacks_none.1 count h
 
-pub active_made : (old new : Held MemStore) (r : Result ℕ Error) → IsBare template_schema old → Executes create_active [] (state over_memory old) (state over_memory new) r → OnOk r (IsBare table_schema new)
-active_made old new (Err e) bare h = tt
-active_made old new (Ok count) bare h = made_table old new template_schema bare create_active (record active_table { tree = 0 }) active_is active_read lacks_none.2 count h
+pub active_made : (old new : Held MemStore) → new.step_limit ≡ old.step_limit → (r : Result ℕ Error) → IsBare template_schema old → Executes create_active [] (state over_memory old) (state over_memory new) r → OnOk r (IsBare table_schema new)
+active_made old new limit (Err e) bare h = tt
+active_made old new limit (Ok count) bare h = made_table old new limit template_schema bare create_active (record active_table { tree = 0 }) active_is active_read lacks_none.2 count h
 
 -- ---- and the index
 
 no_posts : (rows : List Row) → rows ≡ [] → ArePosts rows
-no_posts rows none = subst ArePosts (sym none) (record { ordered = tt; each = λ r h. absurd h; within = λ r h. absurd h })
+no_posts rows none = subst ArePosts (sym none) (record { ordered = tt; each = λ r h. absurd h; readable = λ r h. absurd h })
 
 no_named : {V : Type 0} (rest : V → Row) (value_in : Row → V) (rows : List Row) → rows ≡ [] → AreNamed rest value_in rows
 no_named rest value_in rows none = subst (AreNamed rest value_in) (sym none) (record { ordered = tt; each = λ r h. absurd h; distinct = λ r s h. absurd h })
@@ -155,9 +157,9 @@ pub record IsMade (r : Result ℕ Error) (h : Held MemStore) : Type 0 where
   pub site : OnOk r (IsSite h)
   pub empty : OnOk r (rows_of h ≡ no_rows)
 
-pub index_made : (old new : Held MemStore) (r : Result ℕ Error) → IsBare table_schema old → Executes create_index [] (state over_memory old) (state over_memory new) r → IsMade r new
-index_made old new (Err e) bare h = record { site = tt; empty = tt }
-index_made old new (Ok count) bare h =
+pub index_made : (old new : Held MemStore) → new.step_limit ≡ old.step_limit → (r : Result ℕ Error) → IsBare table_schema old → Executes create_index [] (state over_memory old) (state over_memory new) r → IsMade r new
+index_made old new limit (Err e) bare h = record { site = tt; empty = tt }
+index_made old new limit (Ok count) bare h =
     let s = state over_memory old in
     let t = state over_memory new in
     let w = subst (λ x. Writes s t None (CreateIndex 0) x [] count) index_read.whole (runs_as create_index [] s t table_schema bare.schema_is (CreateIndex 0) index_read.read index_read.plain count h) in
@@ -174,12 +176,14 @@ index_made old new (Ok count) bare h =
           sound = record {
             posts = no_posts (t.now.trees 0) none.0;
             counter = subst IsCounter (sym none.1.0) tt;
+            bounded = subst (λ rows. top_in rows < 2 ^ 32) (sym none.1.0) (lit≤ tt);
             options = no_named text_rest text_in (t.now.trees 2) none.1.1.0;
             templates = no_named text_rest text_in (t.now.trees 4) none.1.1.1.0;
             active = no_named no_rest nothing_in (t.now.trees 6) none.1.1.1.1.0;
           };
         };
         idle = wrote old new bare.idle _ _ _ _ _ w;
+        unlimited = limit ∙ bare.unlimited;
       };
       empty = λ i. record {
         posts = map post_in (none.0 i);

@@ -69,12 +69,12 @@ pub record HasTouched (id : ℕ) (f : Rows → Rows) (old new : Held MemStore) (
   pub same : has_post id (rows_of old).posts ≡ false → f (rows_of old) ≡ rows_of old
   pub some : 0 < count → has_post id (rows_of old).posts ≡ true
 
-pub touches : (id : ℕ) (f : Rows → Rows) (old new : Held MemStore) (sql : List ℕ) (params : Row) → IsSite old → ((count : ℕ) → Executes sql params (state over_memory old) (state over_memory new) (Ok count) → HasTouched id f old new count)
+pub touches : (id : ℕ) (f : Rows → Rows) (old new : Held MemStore) (sql : List ℕ) (params : Row) → IsSite old → new.step_limit ≡ old.step_limit → ((count : ℕ) → Executes sql params (state over_memory old) (state over_memory new) (Ok count) → HasTouched id f old new count)
     → (r : Result ℕ Error) → Executes sql params (state over_memory old) (state over_memory new) r → TouchesPost id f old new r
-touches id f old new sql params is does (Err e) h = let kept = kept_site old new is (refused old new is.idle sql params e h) in record { site = kept.site; ok = tt; err = kept.same; none = tt; same = tt; some = tt }
-touches id f old new sql params is does (Ok count) h =
+touches id f old new sql params is limit does (Err e) h = let kept = kept_site old new is limit (refused old new is.idle sql params e h) in record { site = kept.site; ok = tt; err = kept.same; none = tt; same = tt; some = tt }
+touches id f old new sql params is limit does (Ok count) h =
     let it = does count h in
-    record { site = record { holds = it.done.holds; idle = it.done.idle is.idle }; ok = it.done.rows; err = tt; none = it.none; same = λ z. it.done.rows ∙ it.same (it.none z); some = it.some }
+    record { site = record { holds = it.done.holds; idle = it.done.idle is.idle; unlimited = limit ∙ is.unlimited }; ok = it.done.rows; err = tt; none = it.none; same = λ z. it.done.rows ∙ it.same (it.none z); some = it.some }
 
 pub deletes_post : (old new : Held MemStore) (holds : HoldsSite (state over_memory old).now) (id count : ℕ) → Executes delete_text (Int (pos id) ∷ []) (state over_memory old) (state over_memory new) (Ok count)
     → HasTouched id (λ s. record s { posts = without_post id s.posts }) old new count
@@ -102,7 +102,7 @@ deletes_post old new holds id count h =
     let many : count ≡ length (ids_of asked.0) = w.counted ∙ ap (λ (x : Tally). unwrap_or x.rows 0) tally ∙ ap (λ (x : Written). length x.rows) (same_value edit.2) ∙ len_map (row_at (db 0)) (ids_of asked.0) in
     let it = posts_now db t.now.trees holds.sound
     (ap (λ (x : Trees). x 2) trees ∙ applied.tables.1.1.0 (λ e. omega arith), ap (λ (x : Trees). x 4) trees ∙ applied.tables.1.1.1.0 (λ e. omega arith), ap (λ (x : Trees). x 6) trees ∙ applied.tables.1.1.1.1.0 (λ e. omega arith))
-    (subst ArePosts (sym posts) (some_posts _ (db 0) ok)) (subst IsCounter (sym top) holds.sound.counter) _ (ap (map post_in) posts ∙ mapped_filter id passes (db 0) tested) _ (ap top_in top) in
+    (subst ArePosts (sym posts) (some_posts _ (db 0) ok)) (subst IsCounter (sym top) holds.sound.counter) _ (ap (map post_in) posts ∙ mapped_filter id passes (db 0) tested) _ holds.sound.bounded (ap top_in top) in
     record {
       done = record {
         holds = record { schema_is = ap (λ (d : Database). d.schema) now; sound = it.sound };

@@ -1,5 +1,5 @@
 -- What the queries for an ID answer, also within a transaction.
-use Rattle.std.proofs.Common.{◌≡◌, ◌⊎◌, inl, inr, ℕ, pos, negsuc, List, [], ◌∷◌, map, filter, Bool, false, not, ◌==◌, codes, Option, Some, None, Ok, Err, Result, IfOk, IfErr, Vec, is_some, nat_eq, length, refl, sym, ap, subst, ◌∙◌}
+use Rattle.std.proofs.Common.{◌≡◌, ◌⊎◌, inl, inr, ℕ, pos, negsuc, List, [], ◌∷◌, map, filter, Bool, false, not, ◌==◌, codes, Option, Some, None, Ok, Err, Result, IfOk, IfErr, Vec, is_some, nat_eq, length, ◌≤◌, lit≤, refl, sym, ap, subst, ◌∙◌}
 use Rattle.std.specs.declared.alloc.Global.{Global}
 use Rattle.std.specs.Option.{option_to_list}
 use Rattle.std.specs.List.{IsDistinct}
@@ -30,10 +30,13 @@ use Rattle.site_records.specs.declared.post.Post.{Post}
 use Rattle.post_tables.specs.Schema.{site_schema}
 use Rattle.post_tables.specs.Sorting.{sorted}
 use Rattle.post_tables.specs.Rows.{has_post, post_with}
-use Rattle.post_tables.specs.Stored.{row_of, post_in, ArePosts, HoldsSite, rows_of, trees_of, ReadsInside}
-use Rattle.post_tables.specs.Reading.{post_from}
+use Rattle.post_tables.specs.Stored.{row_of, post_in, ArePosts, HoldsSite, rows_of, trees_of, IsUnlimited, ReadsInside}
+use Rattle.post_tables.specs.Reading.{post_from, IsPostRow}
 use Rattle.post_tables.proofs.Comparing.{number_compares}
-use Rattle.post_tables.proofs.PageLemmas.{projects, posts_back}
+use Rattle.post_tables.proofs.PageLemmas.{projects, posts_back, shown_post, each_readable, all_shown}
+use Rattle.post_tables.proofs.Refusing.{IsWhole, IsSafe, no_memory, only_memory, never_late}
+use Rattle.std.specs.Prelude.{All}
+use Rattle.std.proofs.lemmas.Bool.{cases_Bool}
 use Rattle.post_tables.proofs.PostRows.{one_or_none, any_is_found}
 use Rattle.post_tables.proofs.Reading as reading
 
@@ -93,6 +96,48 @@ pub post_plain : IsPlain (understood site_schema post_text)
 unfolding understood everything
 post_plain = (refl, refl)
 
+post_whole : IsWhole post_text 1 (understood site_schema post_text)
+unfolding understood everything
+post_whole = (refl, refl)
+
+pub post_safe : (id : ℕ) → IsSafe post_text (id_given id)
+post_safe id = record {
+  query = query projects;
+  names = names;
+  is = post_is.0;
+  unlisted = post_is.1;
+  plain = post_plain;
+  whole = post_whole;
+  typed = refl;
+  sums = λ db. reading.never_sums 0 wheres projects [] [] (lit (Int (negsuc 0))) (lit (Int (pos 0))) db (id_given id);
+}
+
+found_among : (id : ℕ) (ps : List Post) (p : Post) → Has (option_to_list (post_with id ps)) p → Has ps p
+found_among id [] p h = absurd h
+found_among id (q ∷ ps) p h = elim (cases_Bool (q.id == id)) [
+  | inl here ↦ elim (rw here at h) [ inl same ↦ inl same | inr none ↦ absurd none ]
+  | inr other ↦ inr (found_among id ps p (rw other at h))
+]
+
+one_at_most : (o : Option Post) (f : Post → Row) → length (map f (option_to_list o)) ≤ 1
+one_at_most None f = lit≤ tt
+one_at_most (Some p) f = lit≤ tt
+
+post_read : (old new : Held MemStore) (holds : HoldsSite (state over_memory old).now) (id : ℕ) (rows : List Row) → Shown post_text (id_given id) (state over_memory old) (state over_memory new) rows
+    → rows ≡ map shown_post (option_to_list (post_with id (rows_of old).posts))
+post_read old new holds id rows h =
+    let read = reads_as post_text (id_given id) (state over_memory old) (state over_memory new) site_schema holds.schema_is (Select (record { lets = []; body = query projects }) names) post_is.0 post_plain post_is.1 rows h in
+    by_id projects id (trees_of old) holds.sound.posts rows (read.answer Null)
+
+pub post_readable : (old new : Held MemStore) (holds : HoldsSite (state over_memory old).now) (id : ℕ) (r : Result (Vec Row Global) Error) → IfOk r (λ rows. Shown post_text (id_given id) (state over_memory old) (state over_memory new) rows.items)
+    → IfOk r (λ rows. All IsPostRow rows.items × (length rows.items ≤ 1))
+post_readable old new holds id (Err e) h = tt
+post_readable old new holds id (Ok rows) h =
+    let are = post_read old new holds id rows.items h in (
+      all_shown rows.items (option_to_list (post_with id (rows_of old).posts)) are (λ p there. each_readable (trees_of old 0) holds.sound.posts p (found_among id (rows_of old).posts p there)),
+      subst (λ l. length l ≤ 1) (sym are) (one_at_most (post_with id (rows_of old).posts) shown_post),
+    )
+
 pub post_rows : (old new : Held MemStore) (holds : HoldsSite (state over_memory old).now) (id : ℕ) (r : Result (Vec Row Global) Error) → IfOk r (λ rows. Shown post_text (id_given id) (state over_memory old) (state over_memory new) rows.items)
     → IfOk r (λ rows. map post_from rows.items ≡ option_to_list (post_with id (rows_of old).posts))
 post_rows old new holds id (Err e) h = tt
@@ -112,6 +157,22 @@ find_is = (refl, refl)
 find_plain : IsPlain (understood site_schema find_text)
 unfolding understood everything
 find_plain = (refl, refl)
+
+find_whole : IsWhole find_text 1 (understood site_schema find_text)
+unfolding understood everything
+find_whole = (refl, refl)
+
+find_safe : (id : ℕ) → IsSafe find_text (id_given id)
+find_safe id = record {
+  query = query (col 1 0 ∷ []);
+  names = codes "id" ∷ [];
+  is = find_is.0;
+  unlisted = find_is.1;
+  plain = find_plain;
+  whole = find_whole;
+  typed = refl;
+  sums = λ db. reading.never_sums 0 wheres (col 1 0 ∷ []) [] [] (lit (Int (negsuc 0))) (lit (Int (pos 0))) db (id_given id);
+}
 
 as_many : (o : Option Post) (f : Post → Row) → not (nat_eq (length (map f (option_to_list o))) 0) ≡ is_some o
 as_many None f = refl
@@ -154,10 +215,16 @@ module _ (old new : Held MemStore) (id : ℕ) (holds : HoldsSite (state over_mem
   unanswered_inside e (inl (inr ran)) = showing ran.0 _ e ran.0.returning ran.2
   unanswered_inside e (inr late) = late.5.0.committed_is
 
-  pub finds : (r : Result (Vec Row Global) Error) → IfOk r (λ rows. Shown find_text (id_given id) (state over_memory old) (state over_memory new) rows.items)
+  pub finds : new.step_limit ≡ old.step_limit → (r : Result (Vec Row Global) Error) → IfOk r (λ rows. Shown find_text (id_given id) (state over_memory old) (state over_memory new) rows.items)
       → IfErr r (λ e. FailsToQuery find_text (id_given id) (state over_memory old) (state over_memory new) e ⊎ IsTooLate find_text (id_given id) (state over_memory old) (state over_memory new) e) → ReadsInside old new r
-  finds (Err e) ok err = record { now = tt; inside = tt; committed = unanswered_inside e err }
-  finds (Ok rows) ok err = let same = kept_inside rows.items ok in record { now = same.0.now_is; inside = same.0.mode; committed = same.0.committed_is }
+  finds limit (Err e) ok err = record { now = tt; inside = tt; committed = unanswered_inside e err; limit = limit }
+  finds limit (Ok rows) ok err = let same = kept_inside rows.items ok in record { now = same.0.now_is; inside = same.0.mode; committed = same.0.committed_is; limit = limit }
+
+  pub finds_memory : IsUnlimited old → (r : Result (Vec Row Global) Error)
+      → IfErr r (λ e. FailsToQuery find_text (id_given id) (state over_memory old) (state over_memory new) e ⊎ IsTooLate find_text (id_given id) (state over_memory old) (state over_memory new) e) → IfErr r (λ e. e ≡ no_memory)
+  finds_memory unlimited (Ok rows) err = tt
+  finds_memory unlimited (Err e) (inl fails) = only_memory old new find_text (id_given id) (find_safe id) holds.schema_is unlimited e fails
+  finds_memory unlimited (Err e) (inr late) = absurd (never_late old new find_text (id_given id) (find_safe id) holds.schema_is unlimited e late)
 
   pub found : (r : Result (Vec Row Global) Error) → IfOk r (λ rows. Shown find_text (id_given id) (state over_memory old) (state over_memory new) rows.items) → IfOk r (λ rows. not (nat_eq (length rows.items) 0) ≡ has_post id (rows_of old).posts)
   found (Err e) ok = tt

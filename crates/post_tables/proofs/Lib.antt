@@ -9,6 +9,7 @@ pub mod NamedRows
 pub mod Replacing
 pub mod SortLemmas
 pub mod Reading
+pub mod Refusing
 pub mod NamedReading
 pub mod Deleting
 pub mod NamedDeleting

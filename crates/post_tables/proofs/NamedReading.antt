@@ -1,6 +1,6 @@
 -- What the query of a table of names answers.
-use Rattle.std.proofs.Common.{◌≡◌, inl, inr, ℕ, pos, negsuc, List, [], ◌∷◌, map, filter, true, false, Ordering, Less, Equal, Greater, refl, sym, ap, subst, ◌∙◌, true≢false}
-use Rattle.std.specs.List.{IsDistinct}
+use Rattle.std.proofs.Common.{◌≡◌, inl, inr, ℕ, pos, negsuc, List, [], ◌∷◌, drop, map, filter, true, false, Ordering, Less, Equal, Greater, refl, sym, ap, subst, ◌∙◌, true≢false}
+use Rattle.std.specs.List.{AllByRecursion, IsDistinct}
 use Rattle.std.specs.Ordering.{is_eq, eq_by_cmp, match_ordering}
 use Rattle.std.specs.Cmp.Lexicographic.{nat_list_cmp_total}
 use Rattle.std.specs.FinMap.{from_entries, entries, entries-insert, empty, len-empty, len-entries}
@@ -31,12 +31,14 @@ use Rattle.sqlite.proofs.Callers.{IsPlain, command_of, reads_as}
 use Rattle.post_tables.specs.Schema.{site_schema}
 use Rattle.post_tables.specs.Sorting.{sorted, put_sorted}
 use Rattle.post_tables.specs.Rows.{by_bytes}
-use Rattle.post_tables.specs.Stored.{IsSite, trees_of, AreNamed, IsNamed, named_in, name_in}
+use Rattle.post_tables.specs.Stored.{IsText, IsSite, trees_of, AreNamed, IsNamed, named_in, name_in}
 use Rattle.post_tables.proofs.Comparing.{equal_is, tied_text, mapped_from, nil_of}
 use Rattle.post_tables.proofs.NamedTable.{NamedTable}
 use Rattle.post_tables.proofs.NamedRows.{pair}
 use Rattle.post_tables.proofs.SortLemmas.{sorted_mapped, sorted_had}
 use Rattle.post_tables.proofs.Reading as reading
+use Rattle.post_tables.proofs.Refusing.{IsWhole, IsSafe}
+use Rattle.sqlite_typing.specs.Types.{accepts_program}
 
 abbrev pub orders : List (Term × Key)
 orders = (col 1 1, record { collation = Binary; descending = false }) ∷ []
@@ -102,7 +104,30 @@ module _ {V : Type 0} {rest : V → Row} {value_in : Row → V} (k : NamedTable 
     pub is : command_of (understood site_schema text) ≡ Select (record { lets = []; body = query projects }) names
     pub unlisted : reads_listing site_schema text ≡ false
     pub plain : IsPlain (understood site_schema text)
+    pub whole : IsWhole text 0 (understood site_schema text)
+    pub typed : accepts_program site_schema [] (query projects) [] ≡ true
     pub shows : (z : Value) (name : List ℕ) (v : V) → output (query projects) ([] ∷ (z ∷ Text name ∷ rest v) ∷ []) ≡ out (name, v)
+
+  pub names_safe : (sql : List ℕ) → SelectText sql → IsSafe sql []
+  names_safe sql x = record {
+    query = query x.projects;
+    names = x.names;
+    is = x.is;
+    unlisted = x.unlisted;
+    plain = x.plain;
+    whole = x.whole;
+    typed = x.typed;
+    sums = λ db. reading.never_sums k.tree [] x.projects [] orders (lit (Int (negsuc 0))) (lit (Int (pos 0))) db [];
+  }
+
+  -- each of the names and values is a text
+  pub names_texts : (rows : List Row) → AreNamed rest value_in rows → (p : List ℕ × V) → Has (entries (named_in value_in rows)) p → AllByRecursion IsText (shown p)
+  names_texts rows ok p h =
+      let ps : List (List ℕ × V) = map (pair value_in) rows in
+      let there : Has ps p = sorted_had by_name by_name_total ps p (subst (λ l. Has l p) (entries_are ps (names_apart rest value_in rows ok)) h) in
+      let r = mapped_from (pair value_in) rows p there in
+      let named = ok.each r.0 r.1 in
+      subst (λ q. AllByRecursion IsText (shown q)) (sym r.2) (subst (AllByRecursion IsText) (ap (drop 1) named.1) named.2)
 
   module _ (sql : List ℕ) (x : SelectText sql) where
     by_name_is : (a b : List ℕ × V) → output_cmp (query x.projects) (out a) (out b) ≡ by_name a b

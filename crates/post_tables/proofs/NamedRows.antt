@@ -28,7 +28,7 @@ use Rattle.std.specs.Prelude.{IsTrue}
 use Rattle.sqlite_rules.proofs.PlaceLemmas.{row_at_is, left_or_taken, next_is_free}
 use Rattle.post_tables.specs.Schema.{site_schema, named_table}
 use Rattle.post_tables.specs.Rows.{by_bytes}
-use Rattle.post_tables.specs.Stored.{name_in, IsNamed, AreNamed, named_in}
+use Rattle.post_tables.specs.Stored.{name_in, IsText, IsNamed, AreNamed, named_in}
 use Rattle.post_tables.proofs.Comparing.{equal_is, equal_tied, tied_text, equal_text, mapped_from, mapped_has}
 use Rattle.post_tables.proofs.NamedTable.{NamedTable, met}
 
@@ -150,7 +150,7 @@ module _ {V : Type 0} {rest : V → Row} {value_in : Row → V} (k : NamedTable 
 
   -- ---- the map
 
-  module _ (rows next : List Row) (name : List ℕ) (v : V) (ok : AreNamed rest value_in rows) (made : IsReplaced rows next name v) where
+  module _ (rows next : List Row) (name : List ℕ) (v : V) (texts : AllByRecursion IsText (Text name ∷ rest v)) (ok : AreNamed rest value_in rows) (made : IsReplaced rows next name v) where
     abbrev new : Row
     new = put_in rows name v
 
@@ -185,7 +185,7 @@ module _ {V : Type 0} {rest : V → Row} {value_in : Row → V} (k : NamedTable 
     pub still_named : AreNamed rest value_in next
     still_named = record {
       ordered = subst IsTable (sym made.is) (IsTable-put_row new kept (left_is_table (ids_of made.found) rows ok.ordered (all_from _ rows (λ r h. (ok.each r h).0))));
-      each = λ r h. elim (was r h) [ inl same ↦ subst (IsNamed rest value_in) (sym same) (refl, ap (λ x. Int (next_rowid rows) ∷ Text name ∷ rest x) (sym (k.value_of (Int (next_rowid rows)) name v))) | inr old ↦ ok.each r old.0 ];
+      each = λ r h. elim (was r h) [ inl same ↦ subst (IsNamed rest value_in) (sym same) (refl, ap (λ x. Int (next_rowid rows) ∷ Text name ∷ rest x) (sym (k.value_of (Int (next_rowid rows)) name v)), texts) | inr old ↦ ok.each r old.0 ];
       distinct = one_each;
     }
 

@@ -1,5 +1,5 @@
 -- What the query of a part of the posts answers.
-use Rattle.std.proofs.Common.{◌≡◌, inl, inr, ℕ, pos, List, [], ◌∷◌, map, filter, take, drop, Bool, true, false, ◌&&◌, cond, codes, Ok, Err, Result, IfOk, Vec, Less, refl, sym, ap, subst, ◌∙◌}
+use Rattle.std.proofs.Common.{◌≡◌, inl, inr, ℕ, zero, suc, nat_lt, lit<, pos, List, [], ◌∷◌, map, filter, take, drop, Bool, true, false, ◌&&◌, cond, codes, Ok, Err, Result, IfOk, Vec, Less, refl, sym, ap, subst, ◌∙◌}
 use Rattle.std.specs.List.{AllByRecursion, IsDistinct}
 use Rattle.std.specs.Str.{bytes_eq}
 use Rattle.std.specs.declared.alloc.Global.{Global}
@@ -29,7 +29,7 @@ use Rattle.sqlite.proofs.Callers.{IsPlain, command_of}
 use Rattle.post_tables.specs.Schema.{site_schema}
 use Rattle.std.specs.Ordering.{ordering_reverse}
 use Rattle.std.specs.Cmp.{nat_cmp_total}
-use Rattle.std.proofs.lemmas.Bool.{false_from_ne_true}
+use Rattle.std.proofs.lemmas.Bool.{false_from_ne_true, and_parts, ltb-true}
 use Rattle.sqlite_rules.specs.Lists.{Has}
 use Rattle.sqlite_rules.proofs.ListLemmas.{has_filtered, all_has, all_from}
 use Rattle.sqlite_trees.specs.declared.memory.MemStore.{MemStore}
@@ -45,10 +45,20 @@ use Rattle.site_records.specs.declared.post.PostStatus.TheVariants.{Publish, Dra
 use Rattle.post_tables.specs.Sorting.{sorted}
 use Rattle.post_tables.specs.Rows.{by_bytes}
 use Rattle.post_tables.specs.Page.{newest, is_kind, is_published, is_listed, page_of}
-use Rattle.post_tables.specs.Stored.{IsSite, rows_of, trees_of, row_of, post_in, kind_text, kind_of, status_text, status_of}
-use Rattle.post_tables.specs.Reading.{post_from}
+use Rattle.post_tables.specs.Stored.{IsReadable, ArePosts, IsSite, rows_of, trees_of, row_of, post_in, kind_text, kind_of, status_text, status_of}
+use Rattle.post_tables.specs.Reading.{post_from, IsPostRow}
+use Rattle.sqlite_typing.specs.Types.{accepts_program}
+use Rattle.std.specs.Prelude.{IsUtf8, All}
+use Rattle.std.specs.List.{list_all}
+use Rattle.std.specs.Str.{IsAscii}
+use Rattle.std.proofs.lemmas.Str.{IsUtf8-from_ascii}
+use Rattle.std.proofs.lemmas.List.Elements.{All-from_recursion}
+use Rattle.std.specs.Cmp.{IsTotalOrder}
+use Rattle.std.proofs.lemmas.Cmp.{on_total, then_total, back_total}
+use Rattle.std.specs.Cmp.Lexicographic.{nat_list_cmp_total}
+use Rattle.post_tables.proofs.Refusing.{IsWhole, IsSafe}
 use Rattle.post_tables.proofs.Comparing.{equal_is, mapped_from, text_compares, and_true, pos_cmp}
-use Rattle.post_tables.proofs.SortLemmas.{sorted_mapped}
+use Rattle.post_tables.proofs.SortLemmas.{sorted_mapped, sorted_had}
 use Rattle.post_tables.proofs.Reading as reading
 
 abbrev by : Key
@@ -84,6 +94,10 @@ page_is = (refl, refl)
 pub page_plain : IsPlain (understood site_schema page_text)
 unfolding understood everything
 page_plain = (refl, refl)
+
+page_whole : IsWhole page_text 5 (understood site_schema page_text)
+unfolding understood everything
+page_whole = (refl, refl)
 
 -- ---- what the tests of WHERE say
 
@@ -138,6 +152,21 @@ posts_back (p ∷ ps) = let rest = posts_back ps in λ i. record p { kind = kind
 module _ (kind : PostKind) (from to : List ℕ) (limit offset : ℕ) where
   abbrev pub params : Row
   params = Text (kind_text kind) ∷ Text from ∷ Text to ∷ Int (pos limit) ∷ Int (pos offset) ∷ []
+
+  page_typed : accepts_program site_schema [] query params ≡ true
+  page_typed = refl
+
+  pub page_safe : IsSafe page_text params
+  page_safe = record {
+    query = query;
+    names = names;
+    is = page_is.0;
+    unlisted = page_is.1;
+    plain = page_plain;
+    whole = page_whole;
+    typed = page_typed;
+    sums = λ db. reading.never_sums 0 wheres projects [] orders (col 0 3) (col 0 4) db params;
+  }
 
   abbrev passes : Row → Bool
   passes = reading.passes 0 wheres projects [] orders (col 0 3) (col 0 4) (λ _. []) params
@@ -196,6 +225,75 @@ page_read old new kind from to limit offset rows is h =
     let read = reads_as page_text (params kind from to limit offset) (state over_memory old) (state over_memory new) site_schema is.holds.schema_is (Select (record { lets = []; body = query }) names) page_is.0 page_plain page_is.1 rows h in
     let posts = is.holds.sound.posts in
     answered_page kind from to limit offset (overlay (trees_of old) []) rows (map post_in (trees_of old 0)) (rows_are (trees_of old 0) posts.each) posts.ordered (read.answer Null)
+
+-- ---- that its rows can be read
+
+ascii_each : (bs : List ℕ) → list_all (λ b. nat_lt b 128) bs ≡ true → IsAscii bs
+ascii_each [] h zero = lit< tt
+ascii_each [] h (suc i) = lit< tt
+ascii_each (b ∷ bs) h zero = ltb-true b 128 (and_parts (nat_lt b 128) (list_all (λ x. nat_lt x 128) bs) h).0
+ascii_each (b ∷ bs) h (suc i) = ascii_each bs (and_parts (nat_lt b 128) (list_all (λ x. nat_lt x 128) bs) h).1 i
+
+ascii_utf8 : (bs : List ℕ) → list_all (λ b. nat_lt b 128) bs ≡ true → IsUtf8 bs
+ascii_utf8 bs h = IsUtf8-from_ascii bs (ascii_each bs h)
+
+kind_utf8 : (k : PostKind) → IsUtf8 (kind_text k)
+kind_utf8 OfPost = ascii_utf8 (codes "post") refl
+kind_utf8 OfPage = ascii_utf8 (codes "page") refl
+
+status_utf8 : (s : PostStatus) → IsUtf8 (status_text s)
+status_utf8 Publish = ascii_utf8 (codes "publish") refl
+status_utf8 Draft = ascii_utf8 (codes "draft") refl
+
+shown_row : (p : Post) → IsReadable p → IsPostRow (shown_post p)
+shown_row p good = record {
+  width = refl;
+  id = (p.id, refl, good.id);
+  kind = (kind_text p.kind, refl, kind_utf8 p.kind);
+  status = (status_text p.status, refl, status_utf8 p.status);
+  title = (p.title, refl, good.title);
+  content = (p.content, refl, good.content);
+  date = (p.date, refl, good.date);
+  dated = good.dated;
+}
+
+pub each_readable : (rows : List Row) → ArePosts rows → (p : Post) → Has (map post_in rows) p → IsReadable p
+each_readable rows ok p h = let r = mapped_from post_in rows p h in subst IsReadable (sym r.2) (ok.readable r.0 r.1)
+
+shown_rows : (ps : List Post) → ((p : Post) → Has ps p → IsReadable p) → AllByRecursion IsPostRow (map shown_post ps)
+shown_rows [] each = tt
+shown_rows (p ∷ ps) each = (shown_row p (each p (inl refl)), shown_rows ps (λ q h. each q (inr h)))
+
+pub all_shown : (rows : List Row) (ps : List Post) → rows ≡ map shown_post ps → ((p : Post) → Has ps p → IsReadable p) → All IsPostRow rows
+all_shown rows ps are each = All-from_recursion IsPostRow rows (subst (AllByRecursion IsPostRow) (sym are) (shown_rows ps each))
+
+has_taken : {A : Type 0} (n : ℕ) (xs : List A) (x : A) → Has (take n xs) x → Has xs x
+has_taken zero xs x h = absurd h
+has_taken (suc n) [] x h = h
+has_taken (suc n) (y ∷ xs) x (inl same) = inl same
+has_taken (suc n) (y ∷ xs) x (inr more) = inr (has_taken n xs x more)
+
+has_left : {A : Type 0} (n : ℕ) (xs : List A) (x : A) → Has (drop n xs) x → Has xs x
+has_left zero xs x h = h
+has_left (suc n) [] x h = h
+has_left (suc n) (y ∷ xs) x h = inr (has_left n xs x h)
+
+newest_total : IsTotalOrder newest
+newest_total = then_total (back_total (on_total (λ (p : Post). p.date) nat_list_cmp_total)) (back_total (on_total (λ (p : Post). p.id) nat_cmp_total))
+
+-- a part has posts of the list alone
+pub paged_from : (kind : PostKind) (from to : List ℕ) (limit offset : ℕ) (ps : List Post) (p : Post) → Has (page_of kind from to limit offset ps) p → Has ps p
+paged_from kind from to limit offset ps p h =
+    let listed : List Post = filter (is_listed kind from to) ps in
+    let whole = has_left offset (sorted newest listed) p (has_taken limit (drop offset (sorted newest listed)) p h) in
+    (has_filtered (is_listed kind from to) ps p (sorted_had newest newest_total listed p whole)).0
+
+pub page_readable : (old new : Held MemStore) (kind : PostKind) (from to : List ℕ) (limit offset : ℕ) (r : Result (Vec Row Global) Error) → IsSite old
+    → IfOk r (λ rows. Shown page_text (params kind from to limit offset) (state over_memory old) (state over_memory new) rows.items) → IfOk r (λ rows. All IsPostRow rows.items)
+page_readable old new kind from to limit offset (Err e) is ok = tt
+page_readable old new kind from to limit offset (Ok rows) is ok =
+    all_shown rows.items (page_of kind from to limit offset (rows_of old).posts) (page_read old new kind from to limit offset rows.items is ok)
+    (λ p h. each_readable (trees_of old 0) is.holds.sound.posts p (paged_from kind from to limit offset (rows_of old).posts p h))
 
 pub page_rows : (old new : Held MemStore) (kind : PostKind) (from to : List ℕ) (limit offset : ℕ) (r : Result (Vec Row Global) Error) → IsSite old
     → IfOk r (λ rows. Shown page_text (params kind from to limit offset) (state over_memory old) (state over_memory new) rows.items)

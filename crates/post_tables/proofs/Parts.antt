@@ -1,5 +1,5 @@
 -- What the rows of a site are where one table has changed.
-use Rattle.std.proofs.Common.{◌≡◌, ◌≢◌, ℕ, List, [], ◌∷◌, map, refl, sym, subst, ◌∙◌, arith}
+use Rattle.std.proofs.Common.{◌≡◌, ◌≢◌, ◌<◌, ◌^◌, ℕ, List, [], ◌∷◌, map, refl, sym, subst, ◌∙◌, arith}
 use Rattle.std.specs.List.{AllByRecursion}
 use Rattle.sqlite.specs.Table.{Table}
 use Rattle.sqlite.specs.Tree.{Trees}
@@ -42,6 +42,7 @@ module _ (db next : Trees) (ok : AreSound db) where
         sound = record {
           posts = subst ArePosts (sym posts) ok.posts;
           counter = subst IsCounter (sym top) ok.counter;
+          bounded = subst (λ rows. top_in rows < 2 ^ 32) (sym top) ok.bounded;
           options = named;
           templates = subst (AreNamed text_rest text_in) (sym templates) ok.templates;
           active = subst (AreNamed no_rest nothing_in) (sym active) ok.active;
@@ -59,6 +60,7 @@ module _ (db next : Trees) (ok : AreSound db) where
         sound = record {
           posts = subst ArePosts (sym posts) ok.posts;
           counter = subst IsCounter (sym top) ok.counter;
+          bounded = subst (λ rows. top_in rows < 2 ^ 32) (sym top) ok.bounded;
           options = subst (AreNamed text_rest text_in) (sym options) ok.options;
           templates = named;
           active = subst (AreNamed no_rest nothing_in) (sym active) ok.active;
@@ -76,6 +78,7 @@ module _ (db next : Trees) (ok : AreSound db) where
         sound = record {
           posts = subst ArePosts (sym posts) ok.posts;
           counter = subst IsCounter (sym top) ok.counter;
+          bounded = subst (λ rows. top_in rows < 2 ^ 32) (sym top) ok.bounded;
           options = subst (AreNamed text_rest text_in) (sym options) ok.options;
           templates = subst (AreNamed text_rest text_in) (sym templates) ok.templates;
           active = named;
@@ -84,12 +87,13 @@ module _ (db next : Trees) (ok : AreSound db) where
       }
 
   -- the posts change, and perhaps the row that counts for them
-  pub posts_now : (next 2 ≡ db 2) × (next 4 ≡ db 4) × (next 6 ≡ db 6) → ArePosts (next 0) → IsCounter (next 1) → (ps : List Post) → map post_in (next 0) ≡ ps → (top : ℕ) → top_in (next 1) ≡ top
+  pub posts_now : (next 2 ≡ db 2) × (next 4 ≡ db 4) × (next 6 ≡ db 6) → ArePosts (next 0) → IsCounter (next 1) → (ps : List Post) → map post_in (next 0) ≡ ps → (top : ℕ) → top < 2 ^ 32 → top_in (next 1) ≡ top
       → IsNow (record (rows_in db) { posts = ps; largest = top })
-  posts_now o posts counter ps are top is = record {
+  posts_now o posts counter ps are top low is = record {
     sound = record {
       posts = posts;
       counter = counter;
+      bounded = subst (λ n. n < 2 ^ 32) (sym is) low;
       options = subst (AreNamed text_rest text_in) (sym o.0) ok.options;
       templates = subst (AreNamed text_rest text_in) (sym o.1) ok.templates;
       active = subst (AreNamed no_rest nothing_in) (sym o.2) ok.active;

@@ -19,7 +19,7 @@ use Rattle.sqlite_trees.specs.View.{is_int}
 use Rattle.sqlite.specs.Tree.{rowid, put_row, IsTable}
 use Rattle.site_records.specs.declared.post.Post.{Post}
 use Rattle.post_tables.specs.Rows.{with_post, without_post, has_post, post_with, PostEdit, edited_post, edited_posts, are_new}
-use Rattle.post_tables.specs.Stored.{row_of, post_in, ArePosts}
+use Rattle.post_tables.specs.Stored.{row_of, post_in, IsReadable, ArePosts}
 use Rattle.post_tables.proofs.Comparing.{pos_cmp, mapped_has}
 use Rattle.post_tables.proofs.PageLemmas.{kind_back, status_back, Rising}
 
@@ -43,11 +43,11 @@ same_posts p (r ∷ rows) each free =
       ]
     ]
 
-pub still_posts : (p : Post) → p.id < 2 ^ 32 → (rows : List Row) → ArePosts rows → ArePosts (put_row (row_of p) rows)
-still_posts p within rows ok = record {
+pub still_posts : (p : Post) → IsReadable p → (rows : List Row) → ArePosts rows → ArePosts (put_row (row_of p) rows)
+still_posts p good rows ok = record {
   ordered = IsTable-put_row (row_of p) rows ok.ordered;
   each = λ r h. elim (put_has (row_of p) rows r h) [ inl same ↦ subst (λ x. x ≡ row_of (post_in x)) (sym same) (ap row_of (sym (post_back p))) | inr was ↦ ok.each r was ];
-  within = λ r h. elim (put_has (row_of p) rows r h) [ inl same ↦ subst (λ x. (post_in x).id < 2 ^ 32) (sym same) within | inr was ↦ ok.within r was ];
+  readable = λ r h. elim (put_has (row_of p) rows r h) [ inl same ↦ subst (λ x. IsReadable (post_in x)) (sym same) (subst IsReadable (sym (post_back p)) good) | inr was ↦ ok.readable r was ];
 }
 
 pub mapped_filter : (id : ℕ) (p : Row → Bool) (rows : List Row) → ((r : Row) → Has rows r → p r ≡ ((post_in r).id == id)) → map post_in (filter (λ r. not (p r)) rows) ≡ without_post id (map post_in rows)
@@ -66,7 +66,7 @@ pub some_posts : (p : Row → Bool) (rows : List Row) → ArePosts rows → AreP
 some_posts p rows ok = record {
   ordered = (IsShaped-filter Table p rows (ok.ordered, all_from _ rows (λ r h. ap (λ x. is_int (rowid x)) (ok.each r h)))).0;
   each = λ r h. ok.each r (has_filtered p rows r h).0;
-  within = λ r h. ok.within r (has_filtered p rows r h).0;
+  readable = λ r h. ok.readable r (has_filtered p rows r h).0;
 }
 
 -- where none has the ID, all stay

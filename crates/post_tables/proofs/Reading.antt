@@ -1,5 +1,5 @@
 -- What a query on one table answers, where ORDER BY leaves no tie.
-use Rattle.std.proofs.Common.{◌≡◌, ℕ, List, [], ◌∷◌, ◌++◌, map, flat_map, filter, Bool, true, false, cond, None, refl, ap, subst, ◌∙◌}
+use Rattle.std.proofs.Common.{◌≡◌, inl, inr, ℕ, List, [], ◌∷◌, ◌++◌, map, flat_map, filter, Bool, true, false, cond, None, refl, ap, subst, ◌∙◌}
 use Rattle.std.specs.List.{list_all, IsDistinct}
 use Rattle.std.specs.List.Sorted.{IsPermutation}
 use Rattle.std.specs.Ordering.{eq_by_cmp}
@@ -10,6 +10,7 @@ use Rattle.sqlite.specs.Query.{Query, inner, end, IsAnswer, output, output_cmp, 
 use Rattle.sqlite_value.specs.declared.keys.Collation.{Collation}
 use Rattle.sqlite_value.specs.declared.keys.Key.{Key}
 use Rattle.sqlite_sql.proofs.QueryLemmas.{output_cmp_total}
+use Rattle.sqlite_sql.specs.Program.{QueryOverflows}
 use Rattle.post_tables.specs.Sorting.{sorted}
 use Rattle.post_tables.proofs.SortLemmas.{in_order}
 
@@ -26,6 +27,11 @@ module _ (t : ℕ) (where_ : List Term) (project : List Term) (collations : List
 
     abbrev env : Row → Env
     env r = params ∷ r ∷ []
+
+    -- it adds nothing up
+    pub never_sums : ¬ QueryOverflows query db params
+    never_sums (inl group) = group
+    never_sums (inr fold) = fold.4
 
     all_matches : (rows : List Row) → flat_map (λ r. cond (passes r) (env r ∷ []) []) rows ≡ map env (filter passes rows)
     all_matches [] = refl

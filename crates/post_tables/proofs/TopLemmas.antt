@@ -1,5 +1,5 @@
 -- What the query of the greatest ID answers.
-use Rattle.std.proofs.Common.{◌≡◌, ℕ, pos, negsuc, List, [], ◌∷◌, map, filter, Bool, true, false, codes, Ok, Err, Result, IfOk, Vec, refl, sym, ap, subst, ◌∙◌}
+use Rattle.std.proofs.Common.{◌≡◌, ◌<◌, ◌^◌, ℕ, pos, negsuc, List, [], ◌∷◌, map, filter, Bool, true, false, codes, Ok, Err, Result, IfOk, Vec, refl, sym, ap, subst, ◌∙◌}
 use Rattle.std.specs.declared.alloc.Global.{Global}
 use Rattle.std.specs.List.{IsDistinct}
 use Rattle.std.specs.Ordering.{eq_by_cmp}
@@ -26,9 +26,10 @@ use Rattle.sqlite.proofs.Callers.{IsPlain, command_of, reads_as}
 use Rattle.post_tables.specs.Schema.{site_schema}
 use Rattle.post_tables.specs.Sorting.{sorted}
 use Rattle.post_tables.specs.Stored.{IsSite, rows_of, trees_of, IsCounter, top_in}
-use Rattle.post_tables.specs.Reading.{IsTop}
+use Rattle.post_tables.specs.Reading.{IsTop, IsTopRow}
 use Rattle.post_tables.proofs.Comparing.{equal_text}
 use Rattle.post_tables.proofs.Reading as reading
+use Rattle.post_tables.proofs.Refusing.{IsWhole, IsSafe}
 
 abbrev wheres : List Term
 wheres = op2 (Compare Eq Binary) (col 1 1) (lit (Text (codes "post"))) ∷ []
@@ -46,6 +47,22 @@ top_is = (refl, refl)
 pub top_plain : IsPlain (understood site_schema top_text)
 unfolding understood everything
 top_plain = (refl, refl)
+
+top_whole : IsWhole top_text 0 (understood site_schema top_text)
+unfolding understood everything
+top_whole = (refl, refl)
+
+pub top_safe : IsSafe top_text []
+top_safe = record {
+  query = query;
+  names = codes "seq" ∷ [];
+  is = top_is.0;
+  unlisted = top_is.1;
+  plain = top_plain;
+  whole = top_whole;
+  typed = refl;
+  sums = λ db. reading.never_sums 1 wheres (col 1 2 ∷ []) [] [] (lit (Int (negsuc 0))) (lit (Int (pos 0))) db [];
+}
 
 abbrev shows : Row → Output
 shows r = output query ([] ∷ r ∷ [])
@@ -81,3 +98,12 @@ top_rows old new (Err e) is ok = tt
 top_rows old new (Ok rows) is ok =
     let read = reads_as top_text [] (state over_memory old) (state over_memory new) site_schema is.holds.schema_is (Select (record { lets = []; body = query }) (codes "seq" ∷ [])) top_is.0 top_plain top_is.1 rows.items ok in
     answered (overlay (trees_of old) []) (trees_of old 1) rows.items refl is.holds.sound.counter (read.answer Null)
+
+top_row : (n : ℕ) → n < 2 ^ 32 → (rows : List Row) → IsTop rows n → IsTopRow rows
+top_row n low [] is = tt
+top_row n low (r ∷ []) is = (n, is, low)
+top_row n low (r ∷ s ∷ rows) is = absurd is
+
+pub top_readable : (old new : Held MemStore) (r : Result (Vec Row Global) Error) → IsSite old → IfOk r (λ rows. Shown top_text [] (state over_memory old) (state over_memory new) rows.items) → IfOk r (λ rows. IsTopRow rows.items)
+top_readable old new (Err e) is ok = tt
+top_readable old new (Ok rows) is ok = top_row (rows_of old).largest is.holds.sound.bounded rows.items (top_rows old new (Ok rows) is ok)

@@ -1,6 +1,8 @@
 -- What an edit makes of the post with an ID.
 use Rattle.std.proofs.Common.{◌≡◌, ◌<◌, inl, inr, ℕ, pos, negsuc, List, [], ◌∷◌, length, map, filter, Bool, true, false, not, ◌==◌, codes, Option, option_map, Some, None, is_some, unwrap_or, Ok, Bor, refl, sym, ap, subst, ◌∙◌, arith}
 use Rattle.std.specs.List.{IsDistinct}
+use Rattle.std.specs.Prelude.{IfSome, IsUtf8}
+use Rattle.site_records.specs.Dates.{is_post_date}
 use Rattle.std.specs.Ordering.{is_eq, eq_by_cmp}
 use Rattle.std.proofs.lemmas.Bool.{and_parts, not-true}
 use Rattle.sqlite.specs.Order.{Row}
@@ -39,7 +41,7 @@ use Rattle.site_records.specs.declared.post.PostStatus.{PostStatus}
 use Rattle.post_tables.specs.Schema.{site_schema, post_table}
 use Rattle.post_tables.specs.Sorting.{sorted}
 use Rattle.post_tables.specs.Rows.{with_post, without_post, has_post, post_with, PostEdit, edited_post, edited_posts}
-use Rattle.post_tables.specs.Stored.{HoldsSite, ArePosts, IsCounter, row_of, post_in, top_in, rows_of, status_text}
+use Rattle.post_tables.specs.Stored.{HoldsSite, IsReadable, ArePosts, IsCounter, row_of, post_in, top_in, rows_of, status_text}
 use Rattle.post_tables.proofs.Comparing.{cast_int, cast_null, number_compares, pos_cmp, same_number}
 use Rattle.post_tables.proofs.Creating.{went, same_value}
 use Rattle.post_tables.proofs.Memory.{wrote}
@@ -110,7 +112,27 @@ module _ (id : ℕ) (e : PostEdit) where
     pub none : changed ≡ 0 → has_post id (map post_in (db 0)) ≡ false
     pub some : 0 < changed → has_post id (map post_in (db 0)) ≡ true
 
-  module _ (keys : Keys) (db next : Trees) (shown : List Row) (ok : ArePosts (db 0)) (a : IsAnswer query (overlay db []) given shown)
+  -- what an edit gives can be read back
+  pub record IsReadableEdit : Type 0 where
+    pub title : IfSome e.title IsUtf8
+    pub content : IfSome e.content IsUtf8
+    pub date : IfSome e.date IsUtf8
+    pub dated : IfSome e.date (λ d. is_post_date d ≡ true)
+
+  given_or : {A : Type 0} (P : A → Type 0) (o : Option A) (x : A) → IfSome o P → P x → P (unwrap_or o x)
+  given_or P None x some has = has
+  given_or P (Some y) x some has = some
+
+  readable_edited : IsReadableEdit → (q : Post) → IsReadable q → IsReadable (edited_post e q)
+  readable_edited given q was = record {
+    id = was.id;
+    title = given_or IsUtf8 e.title q.title given.title was.title;
+    content = given_or IsUtf8 e.content q.content given.content was.content;
+    date = given_or IsUtf8 e.date q.date given.date was.date;
+    dated = given_or (λ d. is_post_date d ≡ true) e.date q.date given.dated was.dated;
+  }
+
+  module _ (keys : Keys) (db next : Trees) (shown : List Row) (good : IsReadableEdit) (ok : ArePosts (db 0)) (a : IsAnswer query (overlay db []) given shown)
       (h : Edited site_schema keys db (edit_of db post_table (ids_of shown) Given 1 shown) (Ok next)) where
     abbrev changed : List Row → ℕ
     changed l = length (edit_of db post_table (ids_of l) Given 1 l).news
@@ -150,7 +172,7 @@ module _ (id : ℕ) (e : PostEdit) where
         let by_id : (x : Row) → Has (db 0) x → has_rowid (pos q.id) x ≡ ((post_in x).id == q.id) = λ x h. ap (has_rowid (pos q.id)) (ok.each x h) ∙ ap is_eq (value_cmp-Int (pos (post_in x).id) (pos q.id) ∙ pos_cmp (post_in x).id q.id) ∙ same_number (post_in x).id q.id in
         let without : map post_in left ≡ without_post q.id (map post_in (db 0)) = mapped_filter q.id (has_rowid (pos q.id)) (db 0) by_id in
         record {
-          posts = subst ArePosts (sym rows) (still_posts p (ok.within r there) left kept);
+          posts = subst ArePosts (sym rows) (still_posts p (readable_edited good q (ok.readable r there)) left kept);
           are = ap (map post_in) rows ∙ same_posts p left kept.each free ∙ ap (with_post p) without ∙ ap (λ n. with_post p (without_post n (map post_in (db 0)))) same
               ∙ one_edited id e (map post_in (db 0)) q (rising_from (map post_in (db 0)) (subst IsTable (rows_are (db 0) ok.each) ok.ordered)) found;
           none = λ z. absurd (let one_changed : changed shown ≡ 1 = ap changed is in omega arith);
@@ -172,9 +194,9 @@ edited_none id e ps none = none_edited id e ps (is_none (post_with id ps) (sym (
     is_none None h = refl
     is_none (Some p) h = absurd (let e = h in cc)
 
-pub edits_post : (old new : Held MemStore) (holds : HoldsSite (state over_memory old).now) (id : ℕ) (e : PostEdit) (count : ℕ) → Executes update_text (given id e) (state over_memory old) (state over_memory new) (Ok count)
+pub edits_post : (old new : Held MemStore) (holds : HoldsSite (state over_memory old).now) (id : ℕ) (e : PostEdit) → IsReadableEdit id e → (count : ℕ) → Executes update_text (given id e) (state over_memory old) (state over_memory new) (Ok count)
     → HasTouched id (λ s. record s { posts = edited_posts id e s.posts }) old new count
-edits_post old new holds id e count h =
+edits_post old new holds id e good count h =
     let s = state over_memory old in
     let t = state over_memory new in
     let text = statement_of update_text (understood site_schema update_text) in
@@ -186,13 +208,13 @@ edits_post old new holds id e count h =
     let db = s.now.trees in
     let trees : t.now.trees ≡ edit.0 = ap (λ (d : Database). d.trees) now ∙ ap (λ (x : Written). x.trees) (same_value edit.2) in
     let applied = one_step site_schema Enforced db edit.0 (edit_of db post_table (ids_of asked.0) Given 1 asked.0) refl edit.1 in
-    let made = updated id e Enforced db edit.0 asked.0 holds.sound.posts (asked.1.answer Null) edit.1 in
+    let made = updated id e Enforced db edit.0 asked.0 good holds.sound.posts (asked.1.answer Null) edit.1 in
     let top : t.now.trees 1 ≡ db 1 = ap (λ (x : Trees). x 1) trees ∙ applied.tables.1.0 (λ e. omega arith) in
     let tally = ap (λ (x : Tally × Database). x.0) (same_value (went (went done.2).2).2) in
-    let many : count ≡ changed id e Enforced db edit.0 asked.0 holds.sound.posts (asked.1.answer Null) edit.1 asked.0 = w.counted ∙ ap (λ (x : Tally). unwrap_or x.rows 0) tally ∙ ap (λ (x : Written). length x.rows) (same_value edit.2) in
+    let many : count ≡ changed id e Enforced db edit.0 asked.0 good holds.sound.posts (asked.1.answer Null) edit.1 asked.0 = w.counted ∙ ap (λ (x : Tally). unwrap_or x.rows 0) tally ∙ ap (λ (x : Written). length x.rows) (same_value edit.2) in
     let it = posts_now db t.now.trees holds.sound
     (ap (λ (x : Trees). x 2) trees ∙ applied.tables.1.1.0 (λ e. omega arith), ap (λ (x : Trees). x 4) trees ∙ applied.tables.1.1.1.0 (λ e. omega arith), ap (λ (x : Trees). x 6) trees ∙ applied.tables.1.1.1.1.0 (λ e. omega arith))
-    (subst (λ (x : Trees). ArePosts (x 0)) (sym trees) made.posts) (subst IsCounter (sym top) holds.sound.counter) _ (ap (λ (x : Trees). map post_in (x 0)) trees ∙ made.are) _ (ap top_in top) in
+    (subst (λ (x : Trees). ArePosts (x 0)) (sym trees) made.posts) (subst IsCounter (sym top) holds.sound.counter) _ (ap (λ (x : Trees). map post_in (x 0)) trees ∙ made.are) _ holds.sound.bounded (ap top_in top) in
     record {
       done = record {
         holds = record { schema_is = ap (λ (d : Database). d.schema) now; sound = it.sound };

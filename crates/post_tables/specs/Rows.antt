@@ -1,5 +1,5 @@
 -- What a site stores, and what each call makes of it.
-use Rattle.std.specs.Prelude.{◌≡◌, ◌⊎◌, ℕ, Bool, true, false, not, ◌&&◌, ◌==◌, List, [], ◌∷◌, map, filter, find, max, nat_lt, if◌then◌else◌, Option, Some, None, unwrap_or, refl}
+use Rattle.std.specs.Prelude.{◌≡◌, ◌⊎◌, Result, Ok, Err, ℕ, Bool, true, false, not, ◌&&◌, ◌==◌, List, [], ◌∷◌, map, filter, find, max, nat_lt, if◌then◌else◌, Option, Some, None, unwrap_or, refl}
 use Rattle.std.specs.List.{list_any}
 use Rattle.std.specs.Option.{option_copied}
 use Rattle.std.proofs.Common.{Bor}
@@ -17,6 +17,9 @@ use Rattle.site_records.specs.declared.post.PostStatus.TheVariants.{Publish, Dra
 use Rattle.site_records.specs.declared.post.SiteRecords.{SiteRecords}
 use Rattle.post_tables.specs.declared.fault.TablesFault.{TablesFault}
 use Rattle.post_tables.specs.declared.fault.TablesFault.TheVariants.{OutOfMemory, Store}
+use Rattle.sqlite.specs.declared.error.Error.{Error}
+use Rattle.sqlite.specs.declared.error.Error.TheVariants.{SqliteFailure}
+use Rattle.sqlite.specs.declared.error.ErrorCode.TheVariants as code
 
 -- a text, as its bytes
 abbrev pub Text : Type 0
@@ -142,6 +145,16 @@ with_records r s = with_active r.active (with_templates r.templates (with_option
 -- there was no memory, or the database refused
 abbrev pub IsOfStore : TablesFault → Type 0
 IsOfStore e = (e ≡ OutOfMemory) ⊎ (e ≡ Store)
+
+-- what an error of the database is to a caller: an allocation that failed is told from all else
+abbrev pub fault_of : Error → TablesFault
+fault_of (SqliteFailure code.OutOfMemory) = OutOfMemory
+fault_of _ = Store
+
+-- the call is refused by this fault, or an allocation failed
+abbrev pub IsRefusedAs : {A : Type 0} → TablesFault → Result A TablesFault → Type 0
+IsRefusedAs fault (Ok a) = ⊥
+IsRefusedAs fault (Err e) = (e ≡ fault) ⊎ (e ≡ OutOfMemory)
 
 -- ---- the codes of these values
 

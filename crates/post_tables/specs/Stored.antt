@@ -1,8 +1,9 @@
 -- How the tables hold the rows of a site, and what stays true of them.
-use Rattle.std.specs.Prelude.{⊤, if◌then◌else◌, codes, ◌≡◌, ℕ, ℤ, pos, negsuc, false, true, List, [], ◌∷◌, map, IsTrue, bytes_eq, ◌<◌, ◌^◌, Result, IfOk, OnOk, OnErr}
+use Rattle.std.specs.Prelude.{⊤, IsUtf8, None, length, if◌then◌else◌, codes, ◌≡◌, ℕ, ℤ, pos, negsuc, false, true, List, [], ◌∷◌, drop, map, IsTrue, bytes_eq, ◌<◌, ◌^◌, Result, IfOk, OnOk, OnErr}
 use Rattle.std.specs.List.{AllByRecursion}
 use Rattle.std.specs.FinMap.{FinMap, from_entries}
 use Rattle.sqlite_rules.specs.Edit.{id_in}
+use Rattle.sqlite_value.specs.declared.value.Value.{Value}
 use Rattle.sqlite_value.specs.declared.value.Value.TheVariants.{Text as Words, Int, Null}
 use Rattle.sqlite_value.specs.Order.{Row, column, bytes}
 use Rattle.sqlite_rules.specs.Lists.{Has}
@@ -18,6 +19,7 @@ use Rattle.site_records.specs.declared.post.PostKind.{PostKind}
 use Rattle.site_records.specs.declared.post.PostKind.TheVariants.{Post as OfPost, Page as OfPage}
 use Rattle.site_records.specs.declared.post.PostStatus.{PostStatus}
 use Rattle.site_records.specs.declared.post.PostStatus.TheVariants.{Publish, Draft}
+use Rattle.site_records.specs.Dates.{is_post_date}
 use Rattle.post_tables.specs.Schema.{site_schema}
 use Rattle.post_tables.specs.Rows.{Text, by_bytes, Rows, has_post}
 
@@ -40,6 +42,11 @@ pub record IsBare (schema : Schema) (h : Held MemStore) : Type 0 where
   pub schema_is : (state over_memory h).now.schema ≡ schema
   pub empty : AllByRecursion (λ t. trees_of h t.tree ≡ []) schema.tables
   pub idle : IsIdle h
+  pub unlimited : h.step_limit ≡ None
+
+-- a value that can be read as a text
+abbrev pub IsText : Value → Type 0
+IsText v = (t : Text) × (v ≡ Words t) × IsUtf8 t
 
 -- ---- names: a row is its rowid, the name, and what stands under it
 
@@ -61,7 +68,7 @@ nothing_in r = tt
 
 module _ {V : Type 0} (rest : V → Row) (value_in : Row → V) where
   abbrev pub IsNamed : Row → Type 0
-  IsNamed r = (IsTrue (is_int (rowid r))) × (r ≡ rowid r ∷ Words (name_in r) ∷ rest (value_in r))
+  IsNamed r = (IsTrue (is_int (rowid r))) × (r ≡ rowid r ∷ Words (name_in r) ∷ rest (value_in r)) × AllByRecursion IsText (drop 1 r)
 
   pub record AreNamed (rows : List Row) : Type 0 where
     pub ordered : IsTable rows
@@ -104,10 +111,18 @@ post_in r = record {
 abbrev pub row_of : Post → Row
 row_of p = Int (pos p.id) ∷ Null ∷ Words (kind_text p.kind) ∷ Words (status_text p.status) ∷ Words p.title ∷ Words p.content ∷ Words p.date ∷ []
 
+-- what a stored post can be read back as: its texts are texts, and its date is a date
+pub record IsReadable (p : Post) : Type 0 where
+  pub id : p.id < 2 ^ 32
+  pub title : IsUtf8 p.title
+  pub content : IsUtf8 p.content
+  pub date : IsUtf8 p.date
+  pub dated : is_post_date p.date ≡ true
+
 pub record ArePosts (rows : List Row) : Type 0 where
   pub ordered : IsTable rows
   pub each : (r : Row) → Has rows r → r ≡ row_of (post_in r)
-  pub within : (r : Row) → Has rows r → (post_in r).id < 2 ^ 32
+  pub readable : (r : Row) → Has rows r → IsReadable (post_in r)
 
 -- ---- the greatest ID ever given: the one row that counts for the table of posts, once there is one
 
@@ -134,6 +149,7 @@ rows_in t = record {
 pub record AreSound (t : Trees) : Type 0 where
   pub posts : ArePosts (t 0)
   pub counter : IsCounter (t 1)
+  pub bounded : top_in (t 1) < 2 ^ 32
   pub options : AreNamed text_rest text_in (t 2)
   pub templates : AreNamed text_rest text_in (t 4)
   pub active : AreNamed no_rest nothing_in (t 6)
@@ -145,9 +161,14 @@ pub record HoldsSite (d : Database) : Type 0 where
 abbrev pub rows_of : Held MemStore → Rows
 rows_of h = rows_in (trees_of h)
 
+-- no limit is set on the steps of a query
+abbrev pub IsUnlimited : Held MemStore → Type 0
+IsUnlimited h = h.step_limit ≡ None
+
 pub record IsSite (h : Held MemStore) : Type 0 where
   pub holds : HoldsSite (state over_memory h).now
   pub idle : IsIdle h
+  pub unlimited : IsUnlimited h
 
 -- ---- what a statement does: all of it, or nothing
 
@@ -162,6 +183,7 @@ pub record MakesInside {A E : Type 0} (f : Rows → Rows) (old new : Held MemSto
   pub rows : OnOk r (rows_of new ≡ f (rows_of old))
   pub inside : OnOk r (new.in_transaction ≡ true)
   pub committed : (state over_memory new).committed ≡ (state over_memory old).committed
+  pub limit : new.step_limit ≡ old.step_limit
 
 -- a query leaves all as it was
 pub record Reads (old new : Held MemStore) : Type 0 where
@@ -182,3 +204,4 @@ pub record ReadsInside {A E : Type 0} (old new : Held MemStore) (r : Result A E)
   pub now : OnOk r ((state over_memory new).now ≡ (state over_memory old).now)
   pub inside : OnOk r (new.in_transaction ≡ old.in_transaction)
   pub committed : (state over_memory new).committed ≡ (state over_memory old).committed
+  pub limit : new.step_limit ≡ old.step_limit

@@ -1,6 +1,6 @@
 //! What can go wrong in a call of the tables.
 ghost use Rattle.std.specs.Prelude.{◌≡◌};
-ghost use Rattle.post_tables.specs.Rows.{IsOfStore};
+ghost use Rattle.post_tables.specs.Rows.{fault_of};
 
 use sqlite::{Error, ErrorCode};
 use std::alloc::AllocError;
@@ -27,7 +27,7 @@ pub enum TablesFault {
 }
 
 impl From<Error> for TablesFault {
-    ghost from_gives = { λ _ fault. IsOfStore fault };
+    ghost from_gives = { λ error fault. fault ≡ fault_of error };
 
     fn from(error: Error) -> TablesFault {
         match error {

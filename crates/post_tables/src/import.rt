@@ -11,7 +11,7 @@ ghost use Rattle.post_tables.specs.Rows.{
   with_active,
   with_records,
 };
-ghost use Rattle.post_tables.specs.Stored.{IsSite, HoldsSite, MakesInside, rows_of};
+ghost use Rattle.post_tables.specs.Stored.{IsSite, HoldsSite, IsUnlimited, MakesInside, rows_of};
 ghost use Rattle.sqlite.specs.Held.{state};
 ghost use Rattle.sqlite.specs.Steps.{over_memory};
 
@@ -25,6 +25,7 @@ use sqlite::{Connection, MemStore, Transaction};
 // One more post, if its ID is new.
 fn add_post(tx: &mut Transaction<'_, MemStore>, post: &Post) -> Result<(), TablesFault>
     requires holds { HoldsSite (state over_memory tx.old.conn.now).now }
+    requires unlimited { IsUnlimited tx.old.conn.now }
     requires inside { tx.old.conn.now.in_transaction ≡ true }
     ensures same_reference { tx.new.conn.ghost_name ≡ tx.old.conn.ghost_name }
     ensures made { MakesInside (with_new post.now) tx.old.conn.now tx.new.conn.now result }
@@ -50,6 +51,7 @@ fn add_post(tx: &mut Transaction<'_, MemStore>, post: &Post) -> Result<(), Table
 
 fn add_posts(tx: &mut Transaction<'_, MemStore>, posts: &[Post]) -> Result<(), TablesFault>
     requires holds { HoldsSite (state over_memory tx.old.conn.now).now }
+    requires unlimited { IsUnlimited tx.old.conn.now }
     requires inside { tx.old.conn.now.in_transaction ≡ true }
     ensures same_reference { tx.new.conn.ghost_name ≡ tx.old.conn.ghost_name }
     ensures made { MakesInside (with_all posts.now) tx.old.conn.now tx.new.conn.now result }
@@ -111,6 +113,7 @@ fn add_active(tx: &mut Transaction<'_, MemStore>, names: &[Text]) -> Result<(), 
 
 fn add_records(tx: &mut Transaction<'_, MemStore>, records: &SiteRecords) -> Result<(), TablesFault>
     requires holds { HoldsSite (state over_memory tx.old.conn.now).now }
+    requires unlimited { IsUnlimited tx.old.conn.now }
     requires inside { tx.old.conn.now.in_transaction ≡ true }
     ensures same_reference { tx.new.conn.ghost_name ≡ tx.old.conn.ghost_name }
     ensures made { MakesInside (with_records records.now) tx.old.conn.now tx.new.conn.now result }

@@ -1,7 +1,13 @@
 // The statements on options, templates and active names.
-ghost use Rattle.std.specs.Prelude.{◌≡◌, true, map, IfOk};
+ghost use Rattle.std.specs.Prelude.{◌≡◌, true, map, All, IfOk, IfErr};
 ghost use Rattle.std.specs.FinMap.{insert, remove, entries, keys};
-ghost use Rattle.post_tables.specs.Reading.{pair_from, name_from};
+ghost use Rattle.post_tables.specs.Reading.{
+  pair_from,
+  name_from,
+  IsNoMemory,
+  IsPairRow,
+  IsNameRow,
+};
 ghost use Rattle.post_tables.specs.Stored.{IsSite, HoldsSite, Makes, MakesInside, Reads, rows_of};
 ghost use Rattle.sqlite.specs.Held.{state};
 ghost use Rattle.sqlite.specs.Steps.{over_memory};
@@ -67,6 +73,8 @@ pub(crate) fn option_rows(conn: &mut Connection<MemStore>) -> Result<Vec<Row>, E
     ensures reads { Reads conn.old conn.new }
     ensures rows { IfOk result (λ rows. map pair_from rows.items
         ≡ entries (rows_of conn.old).options) }
+    ensures readable { IfOk result (λ rows. All IsPairRow rows.items) }
+    ensures memory { IfErr result IsNoMemory }
 {
     conn.query_all("SELECT name, value FROM option ORDER BY name", &[])
 }
@@ -76,6 +84,8 @@ pub(crate) fn template_rows(conn: &mut Connection<MemStore>) -> Result<Vec<Row>,
     ensures reads { Reads conn.old conn.new }
     ensures rows { IfOk result (λ rows. map pair_from rows.items
         ≡ entries (rows_of conn.old).templates) }
+    ensures readable { IfOk result (λ rows. All IsPairRow rows.items) }
+    ensures memory { IfErr result IsNoMemory }
 {
     conn.query_all("SELECT name, body FROM template ORDER BY name", &[])
 }
@@ -85,6 +95,8 @@ pub(crate) fn active_rows(conn: &mut Connection<MemStore>) -> Result<Vec<Row>, E
     ensures reads { Reads conn.old conn.new }
     ensures rows { IfOk result (λ rows. map name_from rows.items
         ≡ keys (rows_of conn.old).active) }
+    ensures readable { IfOk result (λ rows. All IsNameRow rows.items) }
+    ensures memory { IfErr result IsNoMemory }
 {
     conn.query_all("SELECT name FROM active ORDER BY name", &[])
 }

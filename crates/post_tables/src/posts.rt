@@ -1,8 +1,25 @@
 // The statements on posts.
-ghost use Rattle.std.specs.Prelude.{◌≡◌, true, option_map, not, nat_eq, length, map, IfOk};
+ghost use Rattle.std.specs.Prelude.{
+  ◌≡◌,
+  ◌<◌,
+  ◌≤◌,
+  ◌^◌,
+  true,
+  option_map,
+  not,
+  nat_eq,
+  length,
+  map,
+  All,
+  IfOk,
+  IfErr,
+  IfSome,
+  IsUtf8,
+};
 ghost use Rattle.std.specs.Option.{option_to_list, option_copied};
+ghost use Rattle.site_records.specs.Dates.{is_post_date};
 ghost use Rattle.post_tables.specs.Page.{page_of};
-ghost use Rattle.post_tables.specs.Reading.{post_from, shown, IsTop};
+ghost use Rattle.post_tables.specs.Reading.{post_from, shown, IsNoMemory, IsPostRow, IsTop, IsTopRow};
 ghost use Rattle.post_tables.specs.Rows.{
   with_new,
   without_post,
@@ -14,6 +31,7 @@ ghost use Rattle.post_tables.specs.Rows.{
 ghost use Rattle.post_tables.specs.Stored.{
   IsSite,
   HoldsSite,
+  IsUnlimited,
   Makes,
   MakesInside,
   Reads,
@@ -72,8 +90,28 @@ fn given_status(status: Option<PostStatus>) -> Option<&'static str>
     }
 }
 
+/// The same text: what a `&str` is by its type, the clause says, since what is read back rests on it.
+fn as_text(text: &str) -> &str
+    ensures same { result.now ≡ text.now }
+    ensures utf8 { IsUtf8 text.now }
+{
+    text
+}
+
+fn given_text(text: Option<&str>) -> Option<&str>
+    ensures value { option_copied result ≡ option_copied text.entry }
+    ensures utf8 { IfSome (option_copied text.entry) IsUtf8 }
+{
+    match text {
+        Some(text) => Some(as_text(text)),
+        None => None,
+    }
+}
+
 fn given_date(date: Option<&PostDate>) -> Option<&str>
-    ensures { option_copied result ≡ option_copied date.entry }
+    ensures value { option_copied result ≡ option_copied date.entry }
+    ensures utf8 { IfSome (option_copied date.entry) IsUtf8 }
+    ensures dated { IfSome (option_copied date.entry) (λ d. is_post_date d ≡ true) }
 {
     match date {
         Some(date) => Some(date.as_str()),
@@ -94,8 +132,8 @@ pub(crate) fn insert_post(
             post.id,
             kind_text(post.kind),
             status_text(post.status),
-            post.title,
-            post.content,
+            as_text(post.title),
+            as_text(post.content),
             post.date.as_str()
         ],
     )
@@ -116,8 +154,8 @@ pub(crate) fn insert_post_in(
             post.id,
             kind_text(post.kind),
             status_text(post.status),
-            post.title,
-            post.content,
+            as_text(post.title),
+            as_text(post.content),
             post.date.as_str()
         ],
     )
@@ -151,7 +189,13 @@ pub(crate) fn edit_post(
     conn.execute(
         "UPDATE post SET status = coalesce(?2, status), title = coalesce(?3, title), \
          content = coalesce(?4, content), date = coalesce(?5, date) WHERE id = ?1",
-        params![id, given_status(status), title, content, given_date(date)],
+        params![
+            id,
+            given_status(status),
+            given_text(title),
+            given_text(content),
+            given_date(date)
+        ],
     )
 }
 
@@ -160,6 +204,8 @@ pub(crate) fn top_rows(conn: &mut Connection<MemStore>) -> Result<Vec<Row>, Erro
     requires { IsSite conn.old }
     ensures reads { Reads conn.old conn.new }
     ensures rows { IfOk result (λ rows. IsTop rows.items (rows_of conn.old).largest) }
+    ensures readable { IfOk result (λ rows. IsTopRow rows.items) }
+    ensures memory { IfErr result IsNoMemory }
 {
     conn.query_all("SELECT seq FROM sqlite_sequence WHERE name = 'post'", &[])
 }
@@ -169,6 +215,8 @@ pub(crate) fn post_rows(conn: &mut Connection<MemStore>, id: u32) -> Result<Vec<
     ensures reads { Reads conn.old conn.new }
     ensures rows { IfOk result (λ rows. map post_from rows.items
         ≡ option_to_list (post_with id (rows_of conn.old).posts)) }
+    ensures readable { IfOk result (λ rows. All IsPostRow rows.items × (length rows.items ≤ 1)) }
+    ensures memory { IfErr result IsNoMemory }
 {
     conn.query_all(
         "SELECT id, kind, status, title, content, date FROM post WHERE id = ?1",
@@ -188,6 +236,8 @@ pub(crate) fn page_rows(
     ensures reads { Reads conn.old conn.new }
     ensures rows { IfOk result (λ rows. map post_from rows.items
         ≡ page_of kind from.now to.now limit offset (rows_of conn.old).posts) }
+    ensures readable { IfOk result (λ rows. All IsPostRow rows.items) }
+    ensures memory { IfErr result IsNoMemory }
 {
     conn.query_all(
         "SELECT id, kind, status, title, content, date FROM post \
@@ -198,21 +248,25 @@ pub(crate) fn page_rows(
 }
 
 fn id_rows_in(tx: &mut Transaction<'_, MemStore>, id: u32) -> Result<Vec<Row>, Error>
-    requires { HoldsSite (state over_memory tx.old.conn.now).now }
+    requires holds { HoldsSite (state over_memory tx.old.conn.now).now }
+    requires unlimited { IsUnlimited tx.old.conn.now }
     ensures same_reference { tx.new.conn.ghost_name ≡ tx.old.conn.ghost_name }
     ensures reads { ReadsInside tx.old.conn.now tx.new.conn.now result }
     ensures found { IfOk result (λ rows. not (nat_eq (length rows.items) 0)
         ≡ has_post id (rows_of tx.old.conn.now).posts) }
+    ensures memory { IfErr result IsNoMemory }
 {
     tx.query_all("SELECT id FROM post WHERE id = ?1", params![id])
 }
 
 /// Whether a post has the ID.
 pub(crate) fn has_post_in(tx: &mut Transaction<'_, MemStore>, id: u32) -> Result<bool, Error>
-    requires { HoldsSite (state over_memory tx.old.conn.now).now }
+    requires holds { HoldsSite (state over_memory tx.old.conn.now).now }
+    requires unlimited { IsUnlimited tx.old.conn.now }
     ensures same_reference { tx.new.conn.ghost_name ≡ tx.old.conn.ghost_name }
     ensures reads { ReadsInside tx.old.conn.now tx.new.conn.now result }
     ensures found { IfOk result (λ found. found ≡ has_post id (rows_of tx.old.conn.now).posts) }
+    ensures memory { IfErr result IsNoMemory }
 {
     let rows = id_rows_in(tx, id)?;
     Ok(!rows.is_empty())

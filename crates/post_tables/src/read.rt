@@ -1,8 +1,35 @@
 // From rows of an answer to values.
-ghost use Rattle.std.specs.Prelude.{◌≡◌, ◌++◌, ◌∷◌, [], ℕ, map, IfOk, OnOk};
+ghost use Rattle.std.specs.Prelude.{
+  ◌≡◌,
+  ◌<◌,
+  ◌≤◌,
+  ◌++◌,
+  ◌∷◌,
+  [],
+  ℕ,
+  true,
+  length,
+  map,
+  All,
+  IfOk,
+  IfErr,
+  OnOk,
+};
 ghost use Rattle.std.specs.Option.{option_to_list};
-ghost use Rattle.post_tables.specs.Reading.{post_from, pair_from, name_from, IsTop};
-ghost use Rattle.post_tables.specs.Stored.{kind_of, status_of};
+ghost use Rattle.site_records.specs.Dates.{is_post_date};
+ghost use Rattle.post_tables.specs.Reading.{
+  post_from,
+  pair_from,
+  name_from,
+  IsNoMemory,
+  IsPostRow,
+  IsPairRow,
+  IsNameRow,
+  IsTop,
+  IsTopRow,
+};
+ghost use Rattle.post_tables.specs.Stored.{IsText, magnitude, kind_of, status_of};
+ghost use Rattle.sqlite_rules.specs.Edit.{id_in};
 ghost use Rattle.sqlite_value.specs.Order.{column, bytes};
 
 use hook_changes::Text;
@@ -31,48 +58,69 @@ fn read_status(text: &str) -> PostStatus
 }
 
 fn read_text(row: &Row, at: usize) -> Result<Text, Error>
-    ensures { IfOk result (λ text. text ≡ bytes (column row.now at)) }
+    requires place { at < length row.now }
+    requires text { IsText (column row.now at) }
+    ensures ok { IfOk result (λ text. text ≡ bytes (column row.now at)) }
+    ensures memory { IfErr result IsNoMemory }
 {
     let text: String = row.get(at)?;
     Ok(Text::new(text))
 }
 
-// A text that is no date is not among the rows.
-fn read_date(text: &str) -> Result<PostDate, Error>
-    ensures { IfOk result (λ date. date ≡ text.now) }
+// The date that a column has.
+fn read_date(text: &str) -> PostDate
+    requires { is_post_date text.now ≡ true }
+    ensures { result ≡ text.now }
 {
     match PostDate::read(text) {
-        Some(date) => Ok(date),
-        None => Err(Error::InvalidQuery),
+        Some(date) => date,
+        None => unreachable!(),
     }
+}
+
+// The ID of a post's row.
+fn id_in(row: &Row) -> Result<u32, Error>
+    requires { IsPostRow row.now }
+    ensures ok { IfOk result (λ id. id ≡ magnitude (id_in (column row.now 0))) }
+    ensures memory { IfErr result IsNoMemory }
+{
+    row.get(0)
 }
 
 // What the column `kind` of a post's row says.
 fn kind_in(row: &Row) -> Result<PostKind, Error>
-    ensures { IfOk result (λ kind. kind ≡ kind_of (bytes (column row.now 1))) }
+    requires { IsPostRow row.now }
+    ensures memory { IfErr result IsNoMemory }
+    ensures ok { IfOk result (λ kind. kind ≡ kind_of (bytes (column row.now 1))) }
 {
     Ok(read_kind(read_text(row, 1)?.as_str()))
 }
 
 // What the column `status` of a post's row says.
 fn status_in(row: &Row) -> Result<PostStatus, Error>
-    ensures { IfOk result (λ status. status ≡ status_of (bytes (column row.now 2))) }
+    requires { IsPostRow row.now }
+    ensures memory { IfErr result IsNoMemory }
+    ensures ok { IfOk result (λ status. status ≡ status_of (bytes (column row.now 2))) }
 {
     Ok(read_status(read_text(row, 2)?.as_str()))
 }
 
 // The date in a post's row.
 fn date_in(row: &Row) -> Result<PostDate, Error>
-    ensures { IfOk result (λ date. date ≡ bytes (column row.now 5)) }
+    requires { IsPostRow row.now }
+    ensures memory { IfErr result IsNoMemory }
+    ensures ok { IfOk result (λ date. date ≡ bytes (column row.now 5)) }
 {
-    read_date(read_text(row, 5)?.as_str())
+    Ok(read_date(read_text(row, 5)?.as_str()))
 }
 
 fn read_post(row: &Row) -> Result<Post, Error>
-    ensures { IfOk result (λ post. post ≡ post_from row.now) }
+    requires { IsPostRow row.now }
+    ensures memory { IfErr result IsNoMemory }
+    ensures ok { IfOk result (λ post. post ≡ post_from row.now) }
 {
     Ok(Post {
-        id: row.get(0)?,
+        id: id_in(row)?,
         kind: kind_in(row)?,
         status: status_in(row)?,
         title: read_text(row, 3)?,
@@ -83,7 +131,8 @@ fn read_post(row: &Row) -> Result<Post, Error>
 
 // Puts a value behind the others.
 fn push<T: Drop>(values: &mut Vec<T>, value: T) -> Result<(), Error>
-    ensures { OnOk result (values.new.items ≡ values.old.items ++ value ∷ []) }
+    ensures ok { OnOk result (values.new.items ≡ values.old.items ++ value ∷ []) }
+    ensures memory { IfErr result IsNoMemory }
 {
     if values.push(value).is_err() {
         return Err(Error::SqliteFailure(ErrorCode::OutOfMemory));
@@ -92,7 +141,9 @@ fn push<T: Drop>(values: &mut Vec<T>, value: T) -> Result<(), Error>
 }
 
 pub(crate) fn read_posts(alloc: Global, rows: &[Row]) -> Result<Vec<Post>, Error>
-    ensures { IfOk result (λ posts. posts.items ≡ map post_from rows.now) }
+    requires { All IsPostRow rows.now }
+    ensures memory { IfErr result IsNoMemory }
+    ensures ok { IfOk result (λ posts. posts.items ≡ map post_from rows.now) }
 {
     let mut posts = Vec::new(alloc);
     for row in rows {
@@ -103,14 +154,18 @@ pub(crate) fn read_posts(alloc: Global, rows: &[Row]) -> Result<Vec<Post>, Error
 
 // A name and its value.
 fn read_pair(row: &Row) -> Result<(Text, Text), Error>
-    ensures { IfOk result (λ pair. pair ≡ pair_from row.now) }
+    requires { IsPairRow row.now }
+    ensures memory { IfErr result IsNoMemory }
+    ensures ok { IfOk result (λ pair. pair ≡ pair_from row.now) }
 {
     let name = read_text(row, 0)?;
     Ok((name, read_text(row, 1)?))
 }
 
 pub(crate) fn read_pairs(alloc: Global, rows: &[Row]) -> Result<Vec<(Text, Text)>, Error>
-    ensures { IfOk result (λ pairs. pairs.items ≡ map pair_from rows.now) }
+    requires { All IsPairRow rows.now }
+    ensures memory { IfErr result IsNoMemory }
+    ensures ok { IfOk result (λ pairs. pairs.items ≡ map pair_from rows.now) }
 {
     let mut pairs = Vec::new(alloc);
     for row in rows {
@@ -119,34 +174,50 @@ pub(crate) fn read_pairs(alloc: Global, rows: &[Row]) -> Result<Vec<(Text, Text)
     Ok(pairs)
 }
 
+// A name.
+fn read_name(row: &Row) -> Result<Text, Error>
+    requires { IsNameRow row.now }
+    ensures memory { IfErr result IsNoMemory }
+    ensures ok { IfOk result (λ name. name ≡ name_from row.now) }
+{
+    read_text(row, 0)
+}
+
 pub(crate) fn read_names(alloc: Global, rows: &[Row]) -> Result<Vec<Text>, Error>
-    ensures { IfOk result (λ names. names.items ≡ map name_from rows.now) }
+    requires { All IsNameRow rows.now }
+    ensures memory { IfErr result IsNoMemory }
+    ensures ok { IfOk result (λ names. names.items ≡ map name_from rows.now) }
 {
     let mut names = Vec::new(alloc);
     for row in rows {
-        push(&mut names, read_text(row, 0)?)?;
+        push(&mut names, read_name(row)?)?;
     }
     Ok(names)
 }
 
 /// The post of an answer of one row, or of none.
 pub(crate) fn read_found(rows: &[Row]) -> Result<Option<Post>, Error>
-    ensures { IfOk result (λ found. map post_from rows.now ≡ option_to_list found) }
+    requires readable { All IsPostRow rows.now }
+    requires few { length rows.now ≤ 1 }
+    ensures ok { IfOk result (λ found. map post_from rows.now ≡ option_to_list found) }
+    ensures memory { IfErr result IsNoMemory }
 {
     match rows {
         [] => Ok(None),
         [row] => Ok(Some(read_post(row)?)),
-        _ => Err(Error::InvalidQuery),
+        _ => unreachable!(),
     }
 }
 
 /// The greatest ID, which is 0 before the first was given.
 pub(crate) fn read_top(rows: &[Row]) -> Result<u32, Error>
-    ensures { IfOk result (λ top. (largest : ℕ) → IsTop rows.now largest → top ≡ largest) }
+    requires { IsTopRow rows.now }
+    ensures ok { IfOk result (λ top. (largest : ℕ) → IsTop rows.now largest → top ≡ largest) }
+    ensures memory { IfErr result IsNoMemory }
 {
     match rows {
         [] => Ok(0),
         [row] => row.get(0),
-        _ => Err(Error::InvalidQuery),
+        _ => unreachable!(),
     }
 }

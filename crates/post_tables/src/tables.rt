@@ -28,6 +28,7 @@ ghost use Rattle.post_tables.specs.Rows.{
   are_new,
   with_records,
   IsOfStore,
+  IsRefusedAs,
 };
 ghost use Rattle.post_tables.specs.Page.{page_of};
 ghost use Rattle.post_tables.specs.Stored.{IsSite, Reads, rows_of};
@@ -80,7 +81,7 @@ fn next_id(conn: &mut Connection<MemStore>) -> Result<u32, TablesFault>
     ensures left { OnOk result ((rows_of conn.old).largest < 2147483647) }
     ensures used_up { result ≡ Err TablesFault.IdsUsedUp
         → 2147483647 ≤ (rows_of conn.old).largest }
-    ensures fault { IfErr result (λ e. (e ≡ TablesFault.IdsUsedUp) ⊎ IsOfStore e) }
+    ensures fault { IfErr result (λ e. (e ≡ TablesFault.IdsUsedUp) ⊎ (e ≡ TablesFault.OutOfMemory)) }
 {
     let largest = read_top(&top_rows(conn)?)?;
     if largest >= GREATEST_ID {
@@ -127,6 +128,8 @@ impl Tables {
         // There is no ID left exactly where the greatest was given.
         ensures left { OnOk result (self.old.largest < 2147483647) }
         ensures used_up { result ≡ Err TablesFault.IdsUsedUp → 2147483647 ≤ self.old.largest }
+        ensures none_left { 2147483647 ≤ self.old.largest
+            → IsRefusedAs TablesFault.IdsUsedUp result }
         ensures fault { IfErr result (λ e. (e ≡ TablesFault.IdsUsedUp) ⊎ IsOfStore e) }
     {
         let id = next_id(&mut self.conn)?;
@@ -186,7 +189,7 @@ impl Tables {
     pub fn post(&mut self, id: u32) -> Result<Option<Post>, TablesFault>
         ensures ok { IfOk result (λ post. post ≡ post_with id self.old.posts) }
         ensures same { self.new ≡ self.old }
-        ensures fault { IfErr result IsOfStore }
+        ensures fault { IfErr result (λ e. e ≡ TablesFault.OutOfMemory) }
     {
         let rows = post_rows(&mut self.conn, id)?;
         Ok(read_found(&rows)?)
@@ -206,7 +209,7 @@ impl Tables {
         ensures ok { IfOk result (λ posts. posts
             ≡ page_of kind from.now to.now limit offset self.old.posts) }
         ensures same { self.new ≡ self.old }
-        ensures fault { IfErr result IsOfStore }
+        ensures fault { IfErr result (λ e. e ≡ TablesFault.OutOfMemory) }
     {
         // There are fewer IDs than that.
         let Ok(offset) = u32::try_from(offset) else {
@@ -232,7 +235,7 @@ impl Tables {
     pub fn options(&mut self) -> Result<Listed<(Text, Text)>, TablesFault>
         ensures ok { IfOk result (λ options. options ≡ entries self.old.options) }
         ensures same { self.new ≡ self.old }
-        ensures fault { IfErr result IsOfStore }
+        ensures fault { IfErr result (λ e. e ≡ TablesFault.OutOfMemory) }
     {
         let rows = option_rows(&mut self.conn)?;
         Ok(Listed::new(read_pairs(self.alloc, &rows)?))
@@ -258,7 +261,7 @@ impl Tables {
     pub fn active(&mut self) -> Result<Listed<Text>, TablesFault>
         ensures ok { IfOk result (λ names. names ≡ keys self.old.active) }
         ensures same { self.new ≡ self.old }
-        ensures fault { IfErr result IsOfStore }
+        ensures fault { IfErr result (λ e. e ≡ TablesFault.OutOfMemory) }
     {
         let rows = active_rows(&mut self.conn)?;
         Ok(Listed::new(read_names(self.alloc, &rows)?))
@@ -283,7 +286,7 @@ impl Tables {
     pub fn templates(&mut self) -> Result<Listed<(Text, Text)>, TablesFault>
         ensures ok { IfOk result (λ templates. templates ≡ entries self.old.templates) }
         ensures same { self.new ≡ self.old }
-        ensures fault { IfErr result IsOfStore }
+        ensures fault { IfErr result (λ e. e ≡ TablesFault.OutOfMemory) }
     {
         let rows = template_rows(&mut self.conn)?;
         Ok(Listed::new(read_pairs(self.alloc, &rows)?))

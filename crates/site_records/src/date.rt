@@ -1,6 +1,6 @@
 //! Dates of posts.
 
-ghost use Rattle.std.specs.Prelude.{◌≡◌, ◌<◌, ◌≤◌, ◌^◌, is_some, length, slice_range, IfSome, IsTrue, Ok};
+ghost use Rattle.std.specs.Prelude.{◌≡◌, ◌<◌, ◌≤◌, ◌^◌, true, is_some, length, slice_range, IfSome, IsTrue, Ok};
 ghost use Rattle.site_records.specs.Dates.{number, is_day, is_clock, has_marks, is_moment, is_post_date};
 
 use jiff::civil::Date;
@@ -115,9 +115,10 @@ impl PostDate {
         Some(PostDate { bytes })
     }
 
-    /// The text that was read.
+    /// The text that was read, which is a date.
     pub fn as_str(&self) -> &str
-        ensures { result.now ≡ self.now }
+        ensures text { result.now ≡ self.now }
+        ensures date { is_post_date result.now ≡ true }
     {
         match str::from_utf8(&self.bytes) {
             Ok(text) => text,

@@ -18,6 +18,7 @@ loop-post-preserved c =
       same_reference = search rules;
       holds = search rules;
       inside = search rules;
+      limit = search rules;
       committed = search rules;
       fresh = ap (λ n. are_new (drop n c.args.posts.now) (rows_of c.add_post.new.tx.conn.now).posts) next ∙ ap (λ s. are_new left s.posts) c.in_ok-add_post.ensures.made.rows
           ∙ new_step post left mid.posts c.in_ok-add_post.ensures.fresh ∙ ap (λ l. are_new l mid.posts) (sym this) ∙ c.loop-post.invariant.fresh;

@@ -10,6 +10,7 @@ invariant-loop-pair l = record {
   same_reference : l.tx.conn.ghost_name ≡ l.fn.tx.conn.ghost_name;
   holds : HoldsSite (state over_memory l.tx.conn.now).now;
   inside : l.tx.conn.now.in_transaction ≡ true;
+  limit : l.tx.conn.now.step_limit ≡ l.fn.tx.conn.now.step_limit;
   committed : (state over_memory l.tx.conn.now).committed ≡ (state over_memory l.fn.tx.conn.now).committed;
   rest : with_templates (drop l.pair-index l.pairs) (rows_of l.tx.conn.now) ≡ with_templates l.pairs (rows_of l.fn.tx.conn.now);
 }
