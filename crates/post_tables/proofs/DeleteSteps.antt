@@ -32,7 +32,7 @@ use Rattle.sqlite.specs.declared.error.Error.{Error}
 use Rattle.sqlite.proofs.Callers.{IsPlain, command_of, statement_of, runs_as, one_step}
 use Rattle.post_tables.specs.Schema.{site_schema, post_table}
 use Rattle.post_tables.specs.Rows.{Rows, without_post, has_post}
-use Rattle.post_tables.specs.Stored.{HoldsSite, IsSite, ArePosts, IsCounter, post_in, top_in, rows_of, TouchesPost}
+use Rattle.post_tables.specs.Stored.{HoldsSite, IsSite, ArePosts, IsCounter, post_in, top_in, rows_of}
 use Rattle.post_tables.proofs.Comparing.{number_compares, len_map, nil_of}
 use Rattle.post_tables.proofs.Creating.{went, same_value}
 use Rattle.post_tables.proofs.Memory.{wrote, refused}
@@ -58,26 +58,8 @@ delete_plain : IsPlain (understood site_schema delete_text)
 unfolding understood everything
 delete_plain = (refl, refl)
 
-first_of : {A : Type 0} (xs : List A) → 0 < length xs → (x : A) × Has xs x
-first_of [] h = absurd (omega arith)
-first_of (x ∷ xs) h = (x, inl refl)
-
--- what a statement on the post with an ID has done, and on how many rows
-pub record HasTouched (id : ℕ) (f : Rows → Rows) (old new : Held MemStore) (count : ℕ) : Type 0 where
-  pub done : IsDone f old new
-  pub none : count ≡ 0 → has_post id (rows_of old).posts ≡ false
-  pub same : has_post id (rows_of old).posts ≡ false → f (rows_of old) ≡ rows_of old
-  pub some : 0 < count → has_post id (rows_of old).posts ≡ true
-
-pub touches : (id : ℕ) (f : Rows → Rows) (old new : Held MemStore) (sql : List ℕ) (params : Row) → IsSite old → new.step_limit ≡ old.step_limit → ((count : ℕ) → Executes sql params (state over_memory old) (state over_memory new) (Ok count) → HasTouched id f old new count)
-    → (r : Result ℕ Error) → Executes sql params (state over_memory old) (state over_memory new) r → TouchesPost id f old new r
-touches id f old new sql params is limit does (Err e) h = let kept = kept_site old new is limit (refused old new is.idle sql params e h) in record { site = kept.site; ok = tt; err = kept.same; none = tt; same = tt; some = tt }
-touches id f old new sql params is limit does (Ok count) h =
-    let it = does count h in
-    record { site = record { holds = it.done.holds; idle = it.done.idle is.idle; unlimited = limit ∙ is.unlimited }; ok = it.done.rows; err = tt; none = it.none; same = λ z. it.done.rows ∙ it.same (it.none z); some = it.some }
-
 pub deletes_post : (old new : Held MemStore) (holds : HoldsSite (state over_memory old).now) (id count : ℕ) → Executes delete_text (Int (pos id) ∷ []) (state over_memory old) (state over_memory new) (Ok count)
-    → HasTouched id (λ s. record s { posts = without_post id s.posts }) old new count
+    → IsDone (λ s. record s { posts = without_post id s.posts }) old new
 deletes_post old new holds id count h =
     let s = state over_memory old in
     let t = state over_memory new in
@@ -98,21 +80,11 @@ deletes_post old new holds id count h =
     let posts : t.now.trees 0 ≡ filter (λ r. not (passes r)) (db 0) = ap (λ (x : Trees). x 0) trees ∙ applied.rows ∙ left in
     let top : t.now.trees 1 ≡ db 1 = ap (λ (x : Trees). x 1) trees ∙ applied.tables.1.0 (λ e. omega arith) in
     let tested : (r : Row) → Has (db 0) r → passes r ≡ ((post_in r).id == id) = λ r there. ap passes (ok.each r there) ∙ number_compares (post_in r).id id in
-    let tally = ap (λ (x : Tally × Database). x.0) (same_value (went (went done.2).2).2) in
-    let many : count ≡ length (ids_of asked.0) = w.counted ∙ ap (λ (x : Tally). unwrap_or x.rows 0) tally ∙ ap (λ (x : Written). length x.rows) (same_value edit.2) ∙ len_map (row_at (db 0)) (ids_of asked.0) in
     let it = posts_now db t.now.trees holds.sound
     (ap (λ (x : Trees). x 2) trees ∙ applied.tables.1.1.0 (λ e. omega arith), ap (λ (x : Trees). x 4) trees ∙ applied.tables.1.1.1.0 (λ e. omega arith), ap (λ (x : Trees). x 6) trees ∙ applied.tables.1.1.1.1.0 (λ e. omega arith))
     (subst ArePosts (sym posts) (some_posts _ (db 0) ok)) (subst IsCounter (sym top) holds.sound.counter) _ (ap (map post_in) posts ∙ mapped_filter id passes (db 0) tested) _ holds.sound.bounded (ap top_in top) in
     record {
-      done = record {
-        holds = record { schema_is = ap (λ (d : Database). d.schema) now; sound = it.sound };
-        rows = it.are;
-        idle = λ idle. wrote old new idle _ _ _ _ _ w;
-      };
-      none = λ zero_is. none_has id (db 0) (λ r there. let got : ids_of asked.0 ≡ [] = nil_of (ids_of asked.0) (sym many ∙ zero_is) in
-          sym (tested r there) ∙ sym (deleting.listed 0 wheres (overlay db []) given ok.ordered keyed asked.0 (asked.1.answer Null) r there) ∙ ap (list_any (λ i. has_rowid i r)) got);
-      same = λ none. λ i. record (rows_of old) { posts = none_without id (rows_of old).posts none i };
-      some = λ more. let first = first_of (ids_of asked.0) (subst (λ n. 0 < n) many more) in
-          let r = deleting.id_shown 0 wheres (overlay db []) given ok.ordered keyed asked.0 (asked.1.answer Null) first.0 first.1 in
-          one_has id (db 0) r.0 r.1 (sym (tested r.0 r.1) ∙ r.2);
+      holds = record { schema_is = ap (λ (d : Database). d.schema) now; sound = it.sound };
+      rows = it.are;
+      idle = λ idle. wrote old new idle _ _ _ _ _ w;
     }

@@ -154,7 +154,7 @@ find_is : (command_of (understood site_schema find_text) ≡ Select (record { le
 unfolding understood everything
 find_is = (refl, refl)
 
-find_plain : IsPlain (understood site_schema find_text)
+pub find_plain : IsPlain (understood site_schema find_text)
 unfolding understood everything
 find_plain = (refl, refl)
 
@@ -162,7 +162,7 @@ find_whole : IsWhole find_text 1 (understood site_schema find_text)
 unfolding understood everything
 find_whole = (refl, refl)
 
-find_safe : (id : ℕ) → IsSafe find_text (id_given id)
+pub find_safe : (id : ℕ) → IsSafe find_text (id_given id)
 find_safe id = record {
   query = query (col 1 0 ∷ []);
   names = codes "id" ∷ [];

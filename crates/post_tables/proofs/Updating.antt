@@ -48,7 +48,7 @@ use Rattle.post_tables.proofs.Memory.{wrote}
 use Rattle.post_tables.proofs.Parts.{posts_now}
 use Rattle.post_tables.proofs.PageLemmas.{rising_from, rows_are}
 use Rattle.post_tables.proofs.PostRows.{same_posts, still_posts, some_posts, mapped_filter, one_or_none, none_edited, one_edited, any_is_found}
-use Rattle.post_tables.proofs.DeleteSteps.{HasTouched}
+use Rattle.post_tables.proofs.Statements.{IsDone}
 use Rattle.post_tables.proofs.Reading as reading
 
 abbrev pub update_text : List ℕ
@@ -106,11 +106,9 @@ module _ (id : ℕ) (e : PostEdit) where
   unfolding IsDistinct
   apart_one o = (tt, tt)
 
-  pub record IsUpdated (db next : Trees) (changed : ℕ) : Type 0 where
+  pub record IsUpdated (db next : Trees) : Type 0 where
     pub posts : ArePosts (next 0)
     pub are : map post_in (next 0) ≡ edited_posts id e (map post_in (db 0))
-    pub none : changed ≡ 0 → has_post id (map post_in (db 0)) ≡ false
-    pub some : 0 < changed → has_post id (map post_in (db 0)) ≡ true
 
   -- what an edit gives can be read back
   pub record IsReadableEdit : Type 0 where
@@ -134,13 +132,10 @@ module _ (id : ℕ) (e : PostEdit) where
 
   module _ (keys : Keys) (db next : Trees) (shown : List Row) (good : IsReadableEdit) (ok : ArePosts (db 0)) (a : IsAnswer query (overlay db []) given shown)
       (h : Edited site_schema keys db (edit_of db post_table (ids_of shown) Given 1 shown) (Ok next)) where
-    abbrev changed : List Row → ℕ
-    changed l = length (edit_of db post_table (ids_of l) Given 1 l).news
-
     tests : (r : Row) → Has (db 0) r → passes r ≡ ((post_in r).id == id)
     tests r there = ap passes (ok.each r there) ∙ number_compares (post_in r).id id
 
-    nothing_updated : filter passes (db 0) ≡ [] → post_with id (map post_in (db 0)) ≡ None → IsUpdated db next (changed shown)
+    nothing_updated : filter passes (db 0) ≡ [] → post_with id (map post_in (db 0)) ≡ None → IsUpdated db next
     nothing_updated none found =
         let outs : map shows (filter passes (db 0)) ≡ [] = ap (map shows) none in
         let all = reading.answer_is 0 wheres projects [] [] (lit (Int (negsuc 0))) (lit (Int (pos 0))) (overlay db []) given shown a (subst (IsDistinct (eq_by_cmp (output_cmp query))) (sym outs) apart_none) in
@@ -150,11 +145,9 @@ module _ (id : ℕ) (e : PostEdit) where
         record {
           posts = subst ArePosts (sym done.rows) ok;
           are = ap (map post_in) done.rows ∙ sym (none_edited id e (map post_in (db 0)) found);
-          none = λ z. any_is_found id (map post_in (db 0)) ∙ ap is_some found;
-          some = λ more. absurd (let none_changed : changed shown ≡ 0 = ap changed is in omega arith);
         }
 
-    one_updated : (r : Row) → Has (db 0) r → filter passes (db 0) ≡ r ∷ [] → post_with id (map post_in (db 0)) ≡ Some (post_in r) → (post_in r).id ≡ id → IsUpdated db next (changed shown)
+    one_updated : (r : Row) → Has (db 0) r → filter passes (db 0) ≡ r ∷ [] → post_with id (map post_in (db 0)) ≡ Some (post_in r) → (post_in r).id ≡ id → IsUpdated db next
     one_updated r there one found same =
         let q : Post = post_in r in
         let p : Post = edited_post e q in
@@ -175,11 +168,9 @@ module _ (id : ℕ) (e : PostEdit) where
           posts = subst ArePosts (sym rows) (still_posts p (readable_edited good q (ok.readable r there)) left kept);
           are = ap (map post_in) rows ∙ same_posts p left kept.each free ∙ ap (with_post p) without ∙ ap (λ n. with_post p (without_post n (map post_in (db 0)))) same
               ∙ one_edited id e (map post_in (db 0)) q (rising_from (map post_in (db 0)) (subst IsTable (rows_are (db 0) ok.each) ok.ordered)) found;
-          none = λ z. absurd (let one_changed : changed shown ≡ 1 = ap changed is in omega arith);
-          some = λ more. any_is_found id (map post_in (db 0)) ∙ ap is_some found;
         }
 
-    pub updated : IsUpdated db next (changed shown)
+    pub updated : IsUpdated db next
     updated = elim (one_or_none passes id (db 0) ok.ordered ok.each tests) [
       | inl none ↦ nothing_updated none.0 none.1
       | inr one ↦ one_updated one.0 one.1 one.2 one.3 one.4
@@ -187,15 +178,8 @@ module _ (id : ℕ) (e : PostEdit) where
 
 -- ---- the statement as a whole
 
-edited_none : (id : ℕ) (e : PostEdit) (ps : List Post) → has_post id ps ≡ false → edited_posts id e ps ≡ ps
-edited_none id e ps none = none_edited id e ps (is_none (post_with id ps) (sym (any_is_found id ps) ∙ none))
-  where
-    is_none : (o : Option Post) → is_some o ≡ false → o ≡ None
-    is_none None h = refl
-    is_none (Some p) h = absurd (let e = h in cc)
-
 pub edits_post : (old new : Held MemStore) (holds : HoldsSite (state over_memory old).now) (id : ℕ) (e : PostEdit) → IsReadableEdit id e → (count : ℕ) → Executes update_text (given id e) (state over_memory old) (state over_memory new) (Ok count)
-    → HasTouched id (λ s. record s { posts = edited_posts id e s.posts }) old new count
+    → IsDone (λ s. record s { posts = edited_posts id e s.posts }) old new
 edits_post old new holds id e good count h =
     let s = state over_memory old in
     let t = state over_memory new in
@@ -210,20 +194,13 @@ edits_post old new holds id e good count h =
     let applied = one_step site_schema Enforced db edit.0 (edit_of db post_table (ids_of asked.0) Given 1 asked.0) refl edit.1 in
     let made = updated id e Enforced db edit.0 asked.0 good holds.sound.posts (asked.1.answer Null) edit.1 in
     let top : t.now.trees 1 ≡ db 1 = ap (λ (x : Trees). x 1) trees ∙ applied.tables.1.0 (λ e. omega arith) in
-    let tally = ap (λ (x : Tally × Database). x.0) (same_value (went (went done.2).2).2) in
-    let many : count ≡ changed id e Enforced db edit.0 asked.0 good holds.sound.posts (asked.1.answer Null) edit.1 asked.0 = w.counted ∙ ap (λ (x : Tally). unwrap_or x.rows 0) tally ∙ ap (λ (x : Written). length x.rows) (same_value edit.2) in
     let it = posts_now db t.now.trees holds.sound
     (ap (λ (x : Trees). x 2) trees ∙ applied.tables.1.1.0 (λ e. omega arith), ap (λ (x : Trees). x 4) trees ∙ applied.tables.1.1.1.0 (λ e. omega arith), ap (λ (x : Trees). x 6) trees ∙ applied.tables.1.1.1.1.0 (λ e. omega arith))
     (subst (λ (x : Trees). ArePosts (x 0)) (sym trees) made.posts) (subst IsCounter (sym top) holds.sound.counter) _ (ap (λ (x : Trees). map post_in (x 0)) trees ∙ made.are) _ holds.sound.bounded (ap top_in top) in
     record {
-      done = record {
-        holds = record { schema_is = ap (λ (d : Database). d.schema) now; sound = it.sound };
-        rows = it.are;
-        idle = λ idle. wrote old new idle _ _ _ _ _ w;
-      };
-      none = λ z. made.none (sym many ∙ z);
-      same = λ none. λ i. record (rows_of old) { posts = edited_none id e (rows_of old).posts none i };
-      some = λ more. made.some (subst (λ n. 0 < n) many more);
+      holds = record { schema_is = ap (λ (d : Database). d.schema) now; sound = it.sound };
+      rows = it.are;
+      idle = λ idle. wrote old new idle _ _ _ _ _ w;
     }
 
 pub lent_text : (o : Option (Bor (List ℕ))) → bound_value (or_null (λ s. Text s.now) o) ≡ or_null Text (option_map (λ s. s.now) o)

@@ -190,15 +190,6 @@ pub record Reads (old new : Held MemStore) : Type 0 where
   pub site : IsSite new
   pub same : rows_of new ≡ rows_of old
 
--- what a statement on the post with an ID does, and whether there was one, by the number of rows that it changed
-pub record TouchesPost {E : Type 0} (id : ℕ) (f : Rows → Rows) (old new : Held MemStore) (r : Result ℕ E) : Type 0 where
-  pub site : IsSite new
-  pub ok : OnOk r (rows_of new ≡ f (rows_of old))
-  pub err : OnErr r (rows_of new ≡ rows_of old)
-  pub none : IfOk r (λ n. n ≡ 0 → has_post id (rows_of old).posts ≡ false)
-  pub same : IfOk r (λ n. n ≡ 0 → rows_of new ≡ rows_of old)
-  pub some : IfOk r (λ n. 0 < n → has_post id (rows_of old).posts ≡ true)
-
 -- a query within a transaction, which goes on
 pub record ReadsInside {A E : Type 0} (old new : Held MemStore) (r : Result A E) : Type 0 where
   pub now : OnOk r ((state over_memory new).now ≡ (state over_memory old).now)

@@ -36,7 +36,6 @@ ghost use Rattle.post_tables.specs.Stored.{
   MakesInside,
   Reads,
   ReadsInside,
-  TouchesPost,
   rows_of,
   kind_text,
   status_text,
@@ -49,6 +48,8 @@ use sqlite::{Connection, Error, MemStore, Row, Transaction, params};
 
 const INSERT_POST: &str = "INSERT INTO post (id, kind, status, title, content, date) \
      VALUES (?1, ?2, ?3, ?4, ?5, ?6)";
+
+const FIND_POST: &str = "SELECT id FROM post WHERE id = ?1";
 
 /// A post that is to be put in.
 #[derive(Clone, Copy)]
@@ -163,8 +164,7 @@ pub(crate) fn insert_post_in(
 
 pub(crate) fn delete_post(conn: &mut Connection<MemStore>, id: u32) -> Result<usize, Error>
     requires { IsSite conn.old }
-    ensures { TouchesPost id (λ s. record s { posts = without_post id s.posts })
-        conn.old conn.new result }
+    ensures { Makes (λ s. record s { posts = without_post id s.posts }) conn.old conn.new result }
 {
     conn.execute("DELETE FROM post WHERE id = ?1", params![id])
 }
@@ -179,7 +179,7 @@ pub(crate) fn edit_post(
     date: Option<&PostDate>,
 ) -> Result<usize, Error>
     requires { IsSite conn.old }
-    ensures { TouchesPost id
+    ensures { Makes
         (λ s. record s {
           posts = edited_posts id
               (edit_by status title.entry content.entry date.entry) s.posts;
@@ -247,6 +247,27 @@ pub(crate) fn page_rows(
     )
 }
 
+fn id_rows(conn: &mut Connection<MemStore>, id: u32) -> Result<Vec<Row>, Error>
+    requires { IsSite conn.old }
+    ensures reads { Reads conn.old conn.new }
+    ensures found { IfOk result (λ rows. not (nat_eq (length rows.items) 0)
+        ≡ has_post id (rows_of conn.old).posts) }
+    ensures memory { IfErr result IsNoMemory }
+{
+    conn.query_all(FIND_POST, params![id])
+}
+
+/// Whether a post has the ID.
+pub(crate) fn has_post(conn: &mut Connection<MemStore>, id: u32) -> Result<bool, Error>
+    requires { IsSite conn.old }
+    ensures reads { Reads conn.old conn.new }
+    ensures found { IfOk result (λ found. found ≡ has_post id (rows_of conn.old).posts) }
+    ensures memory { IfErr result IsNoMemory }
+{
+    let rows = id_rows(conn, id)?;
+    Ok(!rows.is_empty())
+}
+
 fn id_rows_in(tx: &mut Transaction<'_, MemStore>, id: u32) -> Result<Vec<Row>, Error>
     requires holds { HoldsSite (state over_memory tx.old.conn.now).now }
     requires unlimited { IsUnlimited tx.old.conn.now }
@@ -256,10 +277,10 @@ fn id_rows_in(tx: &mut Transaction<'_, MemStore>, id: u32) -> Result<Vec<Row>, E
         ≡ has_post id (rows_of tx.old.conn.now).posts) }
     ensures memory { IfErr result IsNoMemory }
 {
-    tx.query_all("SELECT id FROM post WHERE id = ?1", params![id])
+    tx.query_all(FIND_POST, params![id])
 }
 
-/// Whether a post has the ID.
+/// Whether a post has the ID, within a transaction.
 pub(crate) fn has_post_in(tx: &mut Transaction<'_, MemStore>, id: u32) -> Result<bool, Error>
     requires holds { HoldsSite (state over_memory tx.old.conn.now).now }
     requires unlimited { IsUnlimited tx.old.conn.now }

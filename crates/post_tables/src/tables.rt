@@ -39,7 +39,9 @@ use crate::named::{
     active_rows, delete_active, delete_template, option_rows, put_active, put_option, put_template,
     template_rows,
 };
-use crate::posts::{NewPost, delete_post, edit_post, insert_post, page_rows, post_rows, top_rows};
+use crate::posts::{
+    NewPost, delete_post, edit_post, has_post, insert_post, page_rows, post_rows, top_rows,
+};
 use crate::read::{read_found, read_names, read_pairs, read_posts, read_top};
 use crate::schema::create;
 use hook_changes::{Listed, Text};
@@ -161,12 +163,14 @@ impl Tables {
         ensures err { OnErr result (self.new ≡ self.old) }
         ensures there { OnOk result (has_post id self.old.posts ≡ true) }
         ensures missing { result ≡ Err TablesFault.NoSuchPost → has_post id self.old.posts ≡ false }
+        ensures absent { has_post id self.old.posts ≡ false → IsRefusedAs TablesFault.NoSuchPost result }
         ensures fault { IfErr result (λ e. (e ≡ TablesFault.NoSuchPost) ⊎ IsOfStore e) }
     {
-        match edit_post(&mut self.conn, id, status, title, content, date)? {
-            0 => Err(TablesFault::NoSuchPost),
-            _ => Ok(()),
+        if !has_post(&mut self.conn, id)? {
+            return Err(TablesFault::NoSuchPost);
         }
+        edit_post(&mut self.conn, id, status, title, content, date)?;
+        Ok(())
     }
 
     /// Deletes the post with the ID. The ID is not given again.
@@ -177,12 +181,14 @@ impl Tables {
         ensures err { OnErr result (self.new ≡ self.old) }
         ensures there { OnOk result (has_post id self.old.posts ≡ true) }
         ensures missing { result ≡ Err TablesFault.NoSuchPost → has_post id self.old.posts ≡ false }
+        ensures absent { has_post id self.old.posts ≡ false → IsRefusedAs TablesFault.NoSuchPost result }
         ensures fault { IfErr result (λ e. (e ≡ TablesFault.NoSuchPost) ⊎ IsOfStore e) }
     {
-        match delete_post(&mut self.conn, id)? {
-            0 => Err(TablesFault::NoSuchPost),
-            _ => Ok(()),
+        if !has_post(&mut self.conn, id)? {
+            return Err(TablesFault::NoSuchPost);
         }
+        delete_post(&mut self.conn, id)?;
+        Ok(())
     }
 
     /// The post or page with the ID, published or not, if there is one.
