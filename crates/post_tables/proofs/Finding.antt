@@ -30,11 +30,11 @@ use Rattle.site_records.specs.declared.post.Post.{Post}
 use Rattle.post_tables.specs.Schema.{site_schema}
 use Rattle.post_tables.specs.Sorting.{sorted}
 use Rattle.post_tables.specs.Rows.{has_post, post_with}
-use Rattle.post_tables.specs.Stored.{row_of, post_in, ArePosts, HoldsSite, rows_of, trees_of, IsUnlimited, ReadsInside}
+use Rattle.post_tables.specs.Stored.{row_of, post_in, ArePosts, HoldsSite, rows_of, trees_of}
 use Rattle.post_tables.specs.Reading.{post_from, IsPostRow}
 use Rattle.post_tables.proofs.Comparing.{number_compares}
 use Rattle.post_tables.proofs.PageLemmas.{projects, posts_back, shown_post, each_readable, all_shown}
-use Rattle.post_tables.proofs.Refusing.{IsWhole, IsSafe, no_memory, only_memory, never_late}
+use Rattle.post_tables.proofs.Refusing.{IsWhole, IsSafe}
 use Rattle.std.specs.Prelude.{All}
 use Rattle.std.proofs.lemmas.Bool.{cases_Bool}
 use Rattle.post_tables.proofs.PostRows.{one_or_none, any_is_found}
@@ -184,47 +184,6 @@ module _ (old new : Held MemStore) (id : ℕ) (holds : HoldsSite (state over_mem
       let read = reads_as find_text (id_given id) (state over_memory old) (state over_memory new) site_schema holds.schema_is (Select (record { lets = []; body = query (col 1 0 ∷ []) }) (codes "id" ∷ [])) find_is.0 find_plain find_is.1 rows h in
       let is = by_id (col 1 0 ∷ []) id (trees_of old) holds.sound.posts rows (read.answer Null) in
       ap (λ l. not (nat_eq (length l) 0)) is ∙ as_many (post_with id (rows_of old).posts) _ ∙ sym (any_is_found id (rows_of old).posts)
-
-  unchanged : (c : Compiled) (params : Row) (rows : List Row) (what : Option Returning) → what ≡ None → ShowsRows (state over_memory old) (state over_memory new) find_text c params rows what → IsUnchanged (state over_memory old) (state over_memory new)
-  unchanged c params rows None none h = h.3
-  unchanged c params rows (Some what) none h = absurd cc
-
-  kept_inside : (rows : List Row) → Shown find_text (id_given id) (state over_memory old) (state over_memory new) rows → IsUnchanged (state over_memory old) (state over_memory new)
-  unfolding Shown
-  kept_inside rows h = unchanged h.0 _ rows h.0.returning (subst IsPlain h.1.is (subst (λ s. IsPlain (understood s find_text)) (sym holds.schema_is) find_plain)).0 h.2
-
-  abbrev SameCommit : Type 0
-  SameCommit = (state over_memory new).committed ≡ (state over_memory old).committed
-
-  broken : (Big : Type 0) (e : Error) → Fails (state over_memory old) (state over_memory new) Big e → SameCommit
-  broken Big e h = (h.3.undone refl).1
-
-  not_run : (e : Error) → IsNotRun (state over_memory old) (state over_memory new) find_text (id_given id) e → SameCommit
-  unfolding IsNotRun
-  not_run e (inl refused) = refused.1.0.committed_is
-  not_run e (inr broke) = broken _ e broke
-
-  showing : (c : Compiled) (params : Row) (e : Error) (what : Option Returning) → FailsToShow (state over_memory old) (state over_memory new) find_text c params e what → SameCommit
-  showing c params e None h = h.3.0.committed_is
-  showing c params e (Some what) (inl back) = back.1.0.committed_is
-  showing c params e (Some what) (inr broke) = broken _ e broke
-
-  unanswered_inside : (e : Error) → FailsToQuery find_text (id_given id) (state over_memory old) (state over_memory new) e ⊎ IsTooLate find_text (id_given id) (state over_memory old) (state over_memory new) e → SameCommit
-  unfolding FailsToQuery
-  unanswered_inside e (inl (inl none)) = not_run e none
-  unanswered_inside e (inl (inr ran)) = showing ran.0 _ e ran.0.returning ran.2
-  unanswered_inside e (inr late) = late.5.0.committed_is
-
-  pub finds : new.step_limit ≡ old.step_limit → (r : Result (Vec Row Global) Error) → IfOk r (λ rows. Shown find_text (id_given id) (state over_memory old) (state over_memory new) rows.items)
-      → IfErr r (λ e. FailsToQuery find_text (id_given id) (state over_memory old) (state over_memory new) e ⊎ IsTooLate find_text (id_given id) (state over_memory old) (state over_memory new) e) → ReadsInside old new r
-  finds limit (Err e) ok err = record { now = tt; inside = tt; committed = unanswered_inside e err; limit = limit }
-  finds limit (Ok rows) ok err = let same = kept_inside rows.items ok in record { now = same.0.now_is; inside = same.0.mode; committed = same.0.committed_is; limit = limit }
-
-  pub finds_memory : IsUnlimited old → (r : Result (Vec Row Global) Error)
-      → IfErr r (λ e. FailsToQuery find_text (id_given id) (state over_memory old) (state over_memory new) e ⊎ IsTooLate find_text (id_given id) (state over_memory old) (state over_memory new) e) → IfErr r (λ e. e ≡ no_memory)
-  finds_memory unlimited (Ok rows) err = tt
-  finds_memory unlimited (Err e) (inl fails) = only_memory old new find_text (id_given id) (find_safe id) holds.schema_is unlimited e fails
-  finds_memory unlimited (Err e) (inr late) = absurd (never_late old new find_text (id_given id) (find_safe id) holds.schema_is unlimited e late)
 
   pub found : (r : Result (Vec Row Global) Error) → IfOk r (λ rows. Shown find_text (id_given id) (state over_memory old) (state over_memory new) rows.items) → IfOk r (λ rows. not (nat_eq (length rows.items) 0) ≡ has_post id (rows_of old).posts)
   found (Err e) ok = tt

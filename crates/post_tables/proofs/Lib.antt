@@ -23,3 +23,4 @@ pub mod DeleteSteps
 pub mod Updating
 pub mod Finding
 pub mod Beyond
+pub mod NewIds

@@ -175,38 +175,3 @@ room n p (q ∷ ps) up within =
 pub few_posts : (n : ℕ) (ps : List Post) → Rising ps → ((q : Post) → Has ps q → q.id < n) → length ps ≤ n
 few_posts n [] up within = omega arith
 few_posts n (p ∷ ps) up within = let all = room n p ps up within in omega arith
-
--- ---- posts that are added in turn
-
-has_with : (id : ℕ) (p : Post) (ps : List Post) → has_post id (with_post p ps) ≡ ((p.id == id) || has_post id ps)
-has_with id p [] = refl
-has_with id p (q ∷ qs) = elim (cases_Bool (nat_lt q.id p.id)) [
-  | inl below ↦ rw below (ap (λ b. (q.id == id) || b) (has_with id p qs) ∙ swapped (q.id == id) (p.id == id) (has_post id qs))
-  | inr above ↦ rw above refl
-]
-  where
-    swapped : (a b c : Bool) → (a || (b || c)) ≡ (b || (a || c))
-    swapped true true c = refl
-    swapped true false c = refl
-    swapped false b c = refl
-
-same_either : (m n : ℕ) → (m == n) ≡ (n == m)
-same_either m n = grind (arith, nat_tests)
-
-regrouped : (e a b d c : Bool) → ((not (e || a) && b) && (not d && c)) ≡ (not (e || d) && ((not a && b) && c))
-regrouped true a b d c = refl
-regrouped false true b true c = refl
-regrouped false true b false c = refl
-regrouped false false true true c = refl
-regrouped false false true false c = refl
-regrouped false false false true c = refl
-regrouped false false false false c = refl
-
-new_with : (p : Post) (ps stored : List Post) → are_new ps (with_post p stored) ≡ (not (has_post p.id ps) && are_new ps stored)
-new_with p [] stored = refl
-new_with p (x ∷ xs) stored =
-    rw (has_with x.id p stored, new_with p xs stored, same_either p.id x.id)
-    (regrouped (x.id == p.id) (has_post x.id stored) (not (has_post x.id xs)) (has_post p.id xs) (are_new xs stored))
-
-pub new_step : (p : Post) (ps stored : List Post) → has_post p.id stored ≡ false → are_new ps (with_post p stored) ≡ are_new (p ∷ ps) stored
-new_step p ps stored none = rw (none, new_with p ps stored) refl

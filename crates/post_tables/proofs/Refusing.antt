@@ -95,11 +95,6 @@ module _ (old new : Held MemStore) where
         let same : it.0 ≡ record { schema = site_schema; trees = (state over_memory old).now.trees } = db ∙ ap (λ s. record { schema = s; trees = (state over_memory old).now.trees }) has in
         read e (subst₂ (λ k d. RefusesToRead old.step_limit k d given e) (ap command_of known ∙ safe.is) same it.2)
 
-    -- nor does it come too late in a transaction, since it shows no rows of a write
-    pub never_late : (e : Error) → ¬ IsTooLate sql given (state over_memory old) (state over_memory new) e
-    never_late e late =
-        true≢false (sym (subst IsSome (subst IsPlain (sym (sym late.1.is ∙ understood_is)) safe.plain).0 late.2))
-
 -- a result of a query
 pub read_memory : {A : Type 0} (old new : Held MemStore) (sql : List ℕ) (given : Row) → IsSafe sql given → IsSite old → (r : Result A Error)
     → IfErr r (FailsToQuery sql given (state over_memory old) (state over_memory new)) → IfErr r (λ e. e ≡ no_memory)

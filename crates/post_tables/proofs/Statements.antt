@@ -11,7 +11,7 @@ use Rattle.sqlite.specs.State.{Executes, ExecutesInside, IsRolledBack, Shows, Sh
 use Rattle.sqlite.proofs.Callers.{IsPlain}
 use Rattle.post_tables.specs.Rows.{Rows}
 use Rattle.post_tables.specs.Schema.{site_schema}
-use Rattle.post_tables.specs.Stored.{IsIdle, IsKept, IsUnlimited, IsSite, HoldsSite, rows_of, rows_in, Makes, MakesInside, Reads, ReadsInside}
+use Rattle.post_tables.specs.Stored.{IsIdle, IsKept, IsUnlimited, IsSite, HoldsSite, rows_of, rows_in, Makes, MakesInside, Reads}
 use Rattle.post_tables.proofs.Memory.{refused, answered, unanswered}
 
 -- what a call that changes nothing leaves of the site
@@ -75,16 +75,3 @@ uncommitted_site old last end e is limit inside committed (inr late) = absurd (l
 pub on_err : {A E P : Type 0} (r : Result A E) → P → OnErr r P
 on_err (Ok a) p = tt
 on_err (Err e) p = p
-
-abbrev ok_as : (A E : Type 0) → A → Result A E
-ok_as A E x = Ok x
-
--- a query and then a write, within a transaction
-pub read_then : {A B E F : Type 0} (f g : Rows → Rows) (begin mid end : Held MemStore) (x : A) (n : B) → ((s : Rows) → f s ≡ g s) → ReadsInside begin mid (ok_as A E x) → MakesInside f mid end (ok_as B E n) → MakesInside g begin end (ok_as (Unit {0}) F tt)
-read_then f g begin mid end x n same reads made = record {
-  holds = made.holds;
-  rows = made.rows ∙ ap (λ d. f (rows_in d.trees)) reads.now ∙ same (rows_of begin);
-  inside = made.inside;
-  committed = made.committed ∙ reads.committed;
-  limit = made.limit ∙ reads.limit;
-}

@@ -1,6 +1,7 @@
 -- How the tables hold the rows of a site, and what stays true of them.
-use Rattle.std.specs.Prelude.{⊤, IsUtf8, None, length, if◌then◌else◌, codes, ◌≡◌, ℕ, ℤ, pos, negsuc, false, true, List, [], ◌∷◌, drop, map, IsTrue, bytes_eq, ◌<◌, ◌^◌, Result, IfOk, OnOk, OnErr}
-use Rattle.std.specs.List.{AllByRecursion}
+use Rattle.std.specs.Prelude.{⊤, Bool, IsUtf8, None, length, if◌then◌else◌, codes, ◌≡◌, ℕ, ℤ, pos, negsuc, false, true, List, [], ◌∷◌, drop, map, IsTrue, bytes_eq, ◌<◌, ◌^◌, Result, IfOk, OnOk, OnErr}
+use Rattle.std.specs.List.{AllByRecursion, list_any}
+use Rattle.std.specs.Ordering.{is_eq, nat_cmp}
 use Rattle.std.specs.FinMap.{FinMap, from_entries}
 use Rattle.sqlite_rules.specs.Edit.{id_in}
 use Rattle.sqlite_value.specs.declared.value.Value.{Value}
@@ -190,9 +191,7 @@ pub record Reads (old new : Held MemStore) : Type 0 where
   pub site : IsSite new
   pub same : rows_of new ≡ rows_of old
 
--- a query within a transaction, which goes on
-pub record ReadsInside {A E : Type 0} (old new : Held MemStore) (r : Result A E) : Type 0 where
-  pub now : OnOk r ((state over_memory new).now ≡ (state over_memory old).now)
-  pub inside : OnOk r (new.in_transaction ≡ old.in_transaction)
-  pub committed : (state over_memory new).committed ≡ (state over_memory old).committed
-  pub limit : new.step_limit ≡ old.step_limit
+-- ---- an ID among those that were met
+
+abbrev pub is_met : List ℕ → ℕ → Bool
+is_met met id = list_any (λ k. is_eq (nat_cmp id k)) met

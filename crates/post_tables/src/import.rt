@@ -1,9 +1,12 @@
 // A whole site's records, added in one transaction.
-ghost use Rattle.std.specs.Prelude.{◌≡◌, ◌⊎◌, true, false, IfErr, OnOk, OnErr};
+ghost use Rattle.std.specs.Prelude.{◌≡◌, ◌⊎◌, true, false, not, IfOk, IfErr, OnOk, OnErr};
+ghost use Rattle.std.specs.Ordering.{nat_cmp};
+ghost use Rattle.std.specs.BTreeSet.{insert_key};
+ghost use Rattle.post_tables.specs.Stored.{is_met};
 ghost use Rattle.post_tables.specs.Rows.{
   IsOfStore,
+  IsRefusedAs,
   are_new,
-  has_post,
   with_new,
   with_all,
   with_options,
@@ -11,32 +14,54 @@ ghost use Rattle.post_tables.specs.Rows.{
   with_active,
   with_records,
 };
-ghost use Rattle.post_tables.specs.Stored.{IsSite, HoldsSite, IsUnlimited, MakesInside, rows_of};
+ghost use Rattle.post_tables.specs.Stored.{IsSite, HoldsSite, MakesInside, Reads, rows_of};
 ghost use Rattle.sqlite.specs.Held.{state};
 ghost use Rattle.sqlite.specs.Steps.{over_memory};
 
 use crate::fault::TablesFault;
 use crate::named::{put_active_in, put_option_in, put_template_in};
-use crate::posts::{NewPost, has_post_in, insert_post_in};
+use crate::posts::{NewPost, has_post, insert_post_in};
 use hook_changes::Text;
 use site_records::{Post, SiteRecords};
-use sqlite::{Connection, MemStore, Transaction};
+use sqlite::{Connection, Error, MemStore, Transaction};
+use std::alloc::{AllocError, Global};
+use std::collections::BTreeSet;
 
-// One more post, if its ID is new.
-fn add_post(tx: &mut Transaction<'_, MemStore>, post: &Post) -> Result<(), TablesFault>
+/// Whether no post has one of the IDs, and none stands twice among them.
+fn are_new(
+    conn: &mut Connection<MemStore>,
+    alloc: Global,
+    posts: &[Post],
+) -> Result<bool, TablesFault>
+    requires { IsSite conn.old }
+    ensures reads { Reads conn.old conn.new }
+    ensures value { IfOk result (λ new. new ≡ are_new posts.now (rows_of conn.old).posts) }
+    ensures memory { IfErr result (λ e. e ≡ TablesFault.OutOfMemory) }
+{
+    let mut met = BTreeSet::new(alloc);
+    for post in posts {
+        if !meet(&mut met, post.id)? || has_post(conn, post.id)? {
+            return Ok(false);
+        }
+    }
+    Ok(true)
+}
+
+/// Remembers an ID, and tells whether it is met for the first time.
+fn meet(met: &mut BTreeSet<u32>, id: u32) -> Result<bool, AllocError>
+    ensures first { IfOk result (λ first. first ≡ not (is_met met.old.keys id)) }
+    ensures keys { OnOk result (met.new.keys ≡ insert_key nat_cmp met.old.keys id) }
+{
+    Ok(met.insert(id)?)
+}
+
+// One more post, whose ID is new.
+fn add_post(tx: &mut Transaction<'_, MemStore>, post: &Post) -> Result<(), Error>
     requires holds { HoldsSite (state over_memory tx.old.conn.now).now }
-    requires unlimited { IsUnlimited tx.old.conn.now }
     requires inside { tx.old.conn.now.in_transaction ≡ true }
     ensures same_reference { tx.new.conn.ghost_name ≡ tx.old.conn.ghost_name }
     ensures made { MakesInside (with_new post.now) tx.old.conn.now tx.new.conn.now result }
-    ensures fresh { OnOk result (has_post post.now.id (rows_of tx.old.conn.now).posts ≡ false) }
-    ensures duplicate { IfErr result (λ e. e ≡ TablesFault.DuplicateId
-        → has_post post.now.id (rows_of tx.old.conn.now).posts ≡ true) }
-    ensures fault { IfErr result (λ e. (e ≡ TablesFault.DuplicateId) ⊎ IsOfStore e) }
 {
-    if has_post_in(tx, post.id)? {
-        return Err(TablesFault::DuplicateId);
-    }
     let new = NewPost {
         id: post.id,
         kind: post.kind,
@@ -51,14 +76,10 @@ fn add_post(tx: &mut Transaction<'_, MemStore>, post: &Post) -> Result<(), Table
 
 fn add_posts(tx: &mut Transaction<'_, MemStore>, posts: &[Post]) -> Result<(), TablesFault>
     requires holds { HoldsSite (state over_memory tx.old.conn.now).now }
-    requires unlimited { IsUnlimited tx.old.conn.now }
     requires inside { tx.old.conn.now.in_transaction ≡ true }
     ensures same_reference { tx.new.conn.ghost_name ≡ tx.old.conn.ghost_name }
     ensures made { MakesInside (with_all posts.now) tx.old.conn.now tx.new.conn.now result }
-    ensures fresh { OnOk result (are_new posts.now (rows_of tx.old.conn.now).posts ≡ true) }
-    ensures duplicate { IfErr result (λ e. e ≡ TablesFault.DuplicateId
-        → are_new posts.now (rows_of tx.old.conn.now).posts ≡ false) }
-    ensures fault { IfErr result (λ e. (e ≡ TablesFault.DuplicateId) ⊎ IsOfStore e) }
+    ensures fault { IfErr result IsOfStore }
 {
     for post in posts {
         add_post(tx, post)?;
@@ -113,14 +134,10 @@ fn add_active(tx: &mut Transaction<'_, MemStore>, names: &[Text]) -> Result<(), 
 
 fn add_records(tx: &mut Transaction<'_, MemStore>, records: &SiteRecords) -> Result<(), TablesFault>
     requires holds { HoldsSite (state over_memory tx.old.conn.now).now }
-    requires unlimited { IsUnlimited tx.old.conn.now }
     requires inside { tx.old.conn.now.in_transaction ≡ true }
     ensures same_reference { tx.new.conn.ghost_name ≡ tx.old.conn.ghost_name }
     ensures made { MakesInside (with_records records.now) tx.old.conn.now tx.new.conn.now result }
-    ensures fresh { OnOk result (are_new records.now.posts (rows_of tx.old.conn.now).posts ≡ true) }
-    ensures duplicate { IfErr result (λ e. e ≡ TablesFault.DuplicateId
-        → are_new records.now.posts (rows_of tx.old.conn.now).posts ≡ false) }
-    ensures fault { IfErr result (λ e. (e ≡ TablesFault.DuplicateId) ⊎ IsOfStore e) }
+    ensures fault { IfErr result IsOfStore }
 {
     add_posts(tx, records.posts.as_slice())?;
     add_options(tx, records.options.as_slice())?;
@@ -129,9 +146,24 @@ fn add_records(tx: &mut Transaction<'_, MemStore>, records: &SiteRecords) -> Res
     Ok(())
 }
 
-/// All of the records, or none. A transaction that is dropped before its commit leaves nothing.
+/// All of the records, whose IDs are new, or none. A transaction that is dropped before its commit leaves nothing.
+fn add_all(conn: &mut Connection<MemStore>, records: &SiteRecords) -> Result<(), TablesFault>
+    requires { IsSite conn.old }
+    ensures site { IsSite conn.new }
+    ensures ok { OnOk result (rows_of conn.new ≡ with_records records.now (rows_of conn.old)) }
+    ensures err { OnErr result (rows_of conn.new ≡ rows_of conn.old) }
+    ensures fault { IfErr result IsOfStore }
+{
+    let mut tx = conn.transaction();
+    add_records(&mut tx, records)?;
+    tx.commit()?;
+    Ok(())
+}
+
+/// All of the records, or none. The IDs are looked at first, so nothing is written where one is taken.
 pub(crate) fn import(
     conn: &mut Connection<MemStore>,
+    alloc: Global,
     records: &SiteRecords,
 ) -> Result<(), TablesFault>
     requires { IsSite conn.old }
@@ -141,10 +173,12 @@ pub(crate) fn import(
     ensures fresh { OnOk result (are_new records.now.posts (rows_of conn.old).posts ≡ true) }
     ensures duplicate { IfErr result (λ e. e ≡ TablesFault.DuplicateId
         → are_new records.now.posts (rows_of conn.old).posts ≡ false) }
+    ensures not_new { are_new records.now.posts (rows_of conn.old).posts ≡ false
+        → IsRefusedAs TablesFault.DuplicateId result }
     ensures fault { IfErr result (λ e. (e ≡ TablesFault.DuplicateId) ⊎ IsOfStore e) }
 {
-    let mut tx = conn.transaction();
-    add_records(&mut tx, records)?;
-    tx.commit()?;
-    Ok(())
+    if !are_new(conn, alloc, records.posts.as_slice())? {
+        return Err(TablesFault::DuplicateId);
+    }
+    add_all(conn, records)
 }

@@ -31,11 +31,9 @@ ghost use Rattle.post_tables.specs.Rows.{
 ghost use Rattle.post_tables.specs.Stored.{
   IsSite,
   HoldsSite,
-  IsUnlimited,
   Makes,
   MakesInside,
   Reads,
-  ReadsInside,
   rows_of,
   kind_text,
   status_text,
@@ -265,30 +263,5 @@ pub(crate) fn has_post(conn: &mut Connection<MemStore>, id: u32) -> Result<bool,
     ensures memory { IfErr result IsNoMemory }
 {
     let rows = id_rows(conn, id)?;
-    Ok(!rows.is_empty())
-}
-
-fn id_rows_in(tx: &mut Transaction<'_, MemStore>, id: u32) -> Result<Vec<Row>, Error>
-    requires holds { HoldsSite (state over_memory tx.old.conn.now).now }
-    requires unlimited { IsUnlimited tx.old.conn.now }
-    ensures same_reference { tx.new.conn.ghost_name ≡ tx.old.conn.ghost_name }
-    ensures reads { ReadsInside tx.old.conn.now tx.new.conn.now result }
-    ensures found { IfOk result (λ rows. not (nat_eq (length rows.items) 0)
-        ≡ has_post id (rows_of tx.old.conn.now).posts) }
-    ensures memory { IfErr result IsNoMemory }
-{
-    tx.query_all(FIND_POST, params![id])
-}
-
-/// Whether a post has the ID, within a transaction.
-pub(crate) fn has_post_in(tx: &mut Transaction<'_, MemStore>, id: u32) -> Result<bool, Error>
-    requires holds { HoldsSite (state over_memory tx.old.conn.now).now }
-    requires unlimited { IsUnlimited tx.old.conn.now }
-    ensures same_reference { tx.new.conn.ghost_name ≡ tx.old.conn.ghost_name }
-    ensures reads { ReadsInside tx.old.conn.now tx.new.conn.now result }
-    ensures found { IfOk result (λ found. found ≡ has_post id (rows_of tx.old.conn.now).posts) }
-    ensures memory { IfErr result IsNoMemory }
-{
-    let rows = id_rows_in(tx, id)?;
     Ok(!rows.is_empty())
 }

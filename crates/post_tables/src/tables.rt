@@ -308,8 +308,10 @@ impl Tables {
         ensures fresh { OnOk result (are_new records.now.posts self.old.posts ≡ true) }
         ensures twice { result ≡ Err TablesFault.DuplicateId
             → are_new records.now.posts self.old.posts ≡ false }
+        ensures not_new { are_new records.now.posts self.old.posts ≡ false
+            → IsRefusedAs TablesFault.DuplicateId result }
         ensures fault { IfErr result (λ e. (e ≡ TablesFault.DuplicateId) ⊎ IsOfStore e) }
     {
-        import(&mut self.conn, records)
+        import(&mut self.conn, self.alloc, records)
     }
 }

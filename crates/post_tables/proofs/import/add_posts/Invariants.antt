@@ -1,7 +1,7 @@
 use Rattle.std.proofs.Common.{◌≡◌, drop, true}
 use Rattle.sqlite.specs.Held.{state}
 use Rattle.sqlite.specs.Steps.{over_memory}
-use Rattle.post_tables.specs.Rows.{with_all, are_new}
+use Rattle.post_tables.specs.Rows.{with_all}
 use Rattle.post_tables.specs.Stored.{HoldsSite, rows_of}
 use Rattle.post_tables.proofs.import.add_posts.Given as goal
 
@@ -12,6 +12,5 @@ invariant-loop-post l = record {
   inside : l.tx.conn.now.in_transaction ≡ true;
   limit : l.tx.conn.now.step_limit ≡ l.fn.tx.conn.now.step_limit;
   committed : (state over_memory l.tx.conn.now).committed ≡ (state over_memory l.fn.tx.conn.now).committed;
-  fresh : are_new (drop l.post-index l.posts) (rows_of l.tx.conn.now).posts ≡ are_new l.posts (rows_of l.fn.tx.conn.now).posts;
   rest : with_all (drop l.post-index l.posts) (rows_of l.tx.conn.now) ≡ with_all l.posts (rows_of l.fn.tx.conn.now);
 }

@@ -5,7 +5,7 @@ use Rattle.sqlite.proofs.Callers.{memory_is_clean}
 use Rattle.post_tables.specs.Rows.{with_records}
 use Rattle.post_tables.specs.Stored.{IsSite, rows_of}
 use Rattle.post_tables.proofs.Statements.{back_site, committed_site, uncommitted_site, on_err}
-use Rattle.post_tables.proofs.import.import.Goals as goal
+use Rattle.post_tables.proofs.import.add_all.Goals as goal
 
 pub returns-in_err-add_records-clause-site : goal.returns-in_err-add_records-clause-site
 returns-in_err-add_records-clause-site c =
