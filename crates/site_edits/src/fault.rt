@@ -27,6 +27,10 @@ impl From<AllocError> for StoreFault {
 }
 
 impl From<TablesFault> for StoreFault {
+    ghost use Rattle.site_edits.specs.Faults.{fault_by};
+
+    ghost from_gives = { λ of_tables fault. fault ≡ fault_by of_tables };
+
     fn from(fault: TablesFault) -> StoreFault {
         match fault {
             TablesFault::OutOfMemory => StoreFault::OutOfMemory,

@@ -1,10 +1,10 @@
 //! The command that adds what a site file holds.
-ghost use Rattle.std.specs.Prelude.{◌≡◌, ◌≢◌, ◌≤◌, Ok, IfOk, IfErr, OnOk, OnErr, All, false};
+ghost use Rattle.std.specs.Prelude.{◌≡◌, ◌≢◌, ◌≤◌, Ok, IfOk, IfErr, OnOk, OnErr, All, true};
 ghost use Rattle.callback_store.specs.Shape.{shapes_of};
 ghost use Rattle.serde_json.specs.View.{view};
 ghost use Rattle.site_replies.specs.Reply.{answer_of};
 ghost use Rattle.site_edits.specs.Imports.{import, imported, import_refusal, added, are_known};
-ghost use Rattle.site_edits.specs.Late.{comes_before_store};
+ghost use Rattle.site_edits.specs.Late.{is_done};
 
 use crate::fault::StoreFault;
 use callback_store::{Plugins, Stated};
@@ -28,8 +28,8 @@ pub fn import<S: Stated>(
     ensures ok { IfOk result (λ reply. (tables.new, answer_of reply)
         ≡ import (shapes_of S.number plugins.now) tables.old (view site.now)) }
     ensures err { OnErr result (tables.new ≡ tables.old) }
-    ensures late { IfErr result (λ fault. fault ≡ StoreFault.Store → comes_before_store
-        (import (shapes_of S.number plugins.now) tables.old (view site.now)).1 ≡ false) }
+    ensures late { IfErr result (λ fault. fault ≡ StoreFault.Store → is_done
+        (import (shapes_of S.number plugins.now) tables.old (view site.now)).1 ≡ true) }
 {
     match read_site_value(alloc, site) {
         Ok(file) => add_known(plugins, tables, &file.records),
@@ -47,8 +47,8 @@ fn add_known<S: Stated>(
     ensures ok { IfOk result (λ reply. (tables.new, answer_of reply)
         ≡ imported (shapes_of S.number plugins.now) tables.old (Ok records.now)) }
     ensures err { OnErr result (tables.new ≡ tables.old) }
-    ensures late { IfErr result (λ fault. fault ≡ StoreFault.Store → comes_before_store
-        (imported (shapes_of S.number plugins.now) tables.old (Ok records.now)).1 ≡ false) }
+    ensures late { IfErr result (λ fault. fault ≡ StoreFault.Store → is_done
+        (imported (shapes_of S.number plugins.now) tables.old (Ok records.now)).1 ≡ true) }
 {
     if !are_known(plugins, records.active.as_slice()) {
         return Ok(SiteReply::Refused(Refusal::UnknownPlugin));
@@ -84,7 +84,7 @@ fn add_records(tables: &mut Tables, records: &SiteRecords) -> Result<SiteReply, 
     ensures ok { IfOk result (λ reply. (tables.new, answer_of reply) ≡ added tables.old records.now) }
     ensures err { OnErr result (tables.new ≡ tables.old) }
     ensures late { IfErr result (λ fault. fault ≡ StoreFault.Store
-        → comes_before_store (added tables.old records.now).1 ≡ false) }
+        → is_done (added tables.old records.now).1 ≡ true) }
 {
     match tables.import(records) {
         Ok(()) => Ok(SiteReply::Ok),

@@ -1,9 +1,9 @@
 //! The command that stores templates.
-ghost use Rattle.std.specs.Prelude.{◌≡◌, IfOk, IfErr, OnErr, false};
+ghost use Rattle.std.specs.Prelude.{◌≡◌, IfOk, IfErr, OnErr, true};
 ghost use Rattle.serde_json.specs.View.{view};
 ghost use Rattle.site_replies.specs.Reply.{answer_of};
 ghost use Rattle.site_edits.specs.Templates.{set_template, removed};
-ghost use Rattle.site_edits.specs.Late.{comes_before_store};
+ghost use Rattle.site_edits.specs.Late.{is_done};
 
 use crate::fault::StoreFault;
 use post_tables::Tables;
@@ -23,8 +23,8 @@ pub fn set_template(
     ensures ok { IfOk result (λ reply. (tables.new, answer_of reply)
         ≡ set_template tables.old name.now (view body.now)) }
     ensures err { OnErr result (tables.new ≡ tables.old) }
-    ensures late { IfErr result (λ fault. fault ≡ StoreFault.Store → comes_before_store
-        (set_template tables.old name.now (view body.now)).1 ≡ false) }
+    ensures late { IfErr result (λ fault. fault ≡ StoreFault.Store → is_done
+        (set_template tables.old name.now (view body.now)).1 ≡ true) }
 {
     if body.is_null() {
         return remove_template(tables, name);
@@ -45,7 +45,7 @@ fn remove_template(tables: &mut Tables, name: &str) -> Result<SiteReply, StoreFa
     ensures ok { IfOk result (λ reply. (tables.new, answer_of reply) ≡ removed tables.old name.now) }
     ensures err { OnErr result (tables.new ≡ tables.old) }
     ensures late { IfErr result (λ fault. fault ≡ StoreFault.Store
-        → comes_before_store (removed tables.old name.now).1 ≡ false) }
+        → is_done (removed tables.old name.now).1 ≡ true) }
 {
     if !is_template_name(name) {
         return Ok(SiteReply::Refused(Refusal::BadTemplate));

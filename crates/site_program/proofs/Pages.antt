@@ -13,11 +13,8 @@ use Rattle.template_parts.specs.Pages as template
 use Rattle.template_parts.specs.Pages.{Work, IsPage, IsRefusedBy}
 use Rattle.template_parts.specs.declared.settings.Settings.{Settings}
 use Rattle.site_replies.specs.Reply.{Answer, page}
-use Rattle.site_edits.specs.Late.{comes_before_store}
 use Rattle.site_program.specs.Step.{got, max_path}
 use Rattle.site_program.specs.Requests.{Texts, settings_for, page_pass, page_of, options_of, templates_of, active_of, found_by, shown, refusal_of, request}
-use Rattle.site_edits.specs.declared.fault.StoreFault.{StoreFault}
-use Rattle.site_edits.specs.declared.fault.StoreFault.TheVariants as store
 
 -- ---- the page of what was found
 
@@ -47,19 +44,3 @@ module _ (engine : Engine) (calls : ℕ) (rows : Rows) (path : Text) where
       → answer ≡ page_of engine calls found options templates active → (new, answer) ≡ got engine calls rows path
   unfolding got request
   got-short new answer found options templates active short same f o t a is = rw (le-leb _ _ short, same, is, f, o, t, a) refl
-
-  shown-late : (status : ℕ) (end : End (Unit {0})) → comes_before_store (shown status end) ≡ false
-  shown-late status (Ended world nothing) = refl
-  shown-late status (Fault fault.TooManyCalls) = refl
-  shown-late status (Fault fault.TooDeep) = refl
-  shown-late status (Fault fault.OutOfMemory) = refl
-
-  -- the answer to a request is never settled before the database is asked
-  pub got-late : length path ≤ max_path → comes_before_store (got engine calls rows path).1 ≡ false
-  unfolding got request
-  got-late short = rw (le-leb _ _ short) (shown-late (found_by rows path).status _)
-
--- where something holds anyway, it holds of every fault
-pub of_every_fault : {A X : Type 0} (r : Result A StoreFault) → X → IfErr r (λ fault. fault ≡ store.Store → X)
-of_every_fault (Ok a) x = tt
-of_every_fault (Err e) x = λ is. x

@@ -14,7 +14,7 @@ use Rattle.site_program.specs.Requests.{request}
 use Rattle.site_edits.specs.Edits.{put, edit, delete, set_option, set_active}
 use Rattle.site_edits.specs.Templates.{set_template}
 use Rattle.site_edits.specs.Imports.{import}
-use Rattle.site_edits.specs.Late.{comes_before_store}
+use Rattle.site_edits.specs.Late.{is_done}
 use Rattle.site_replies.specs.Reply.{Answer, refused}
 
 -- the most bytes that a path may have
@@ -44,12 +44,13 @@ unfoldable pub step : Engine → ℕ → Rows → List ℕ → Rows × Answer
 step engine calls rows line = carried_out engine calls rows (option_and_then command_of (tree_of line))
 
 module _ (steps : Rows → List ℕ → Rows × Answer) where
-  -- The line is answered so, and the rows are left so: by its step, or, for want of memory or by the database, refused with the rows unchanged.
+  -- The line is answered so, and the rows are left so: by its step, or refused with the rows unchanged, for want of memory,
+  -- or by the database in place of the `ok` of an edit.
   abbrev pub Answers : Rows → List ℕ → Answer → Rows → Type 0
   Answers old line reply new =
       ((new, reply) ≡ steps old line)
       ⊎ (((reply ≡ refused OutOfMemory) × (new ≡ old))
-      ⊎ ((reply ≡ refused Store) × (new ≡ old) × (comes_before_store (steps old line).1 ≡ false)))
+      ⊎ ((reply ≡ refused Store) × (new ≡ old) × (is_done (steps old line).1 ≡ true)))
 
 -- the steps of a site with this setup
 abbrev pub steps_of : {S : Type 0} → (ℕ → Call → Reply) → (S → ℕ) → Setup S → Rows → List ℕ → Rows × Answer

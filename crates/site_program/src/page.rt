@@ -1,5 +1,5 @@
 //! The pages of a site.
-ghost use Rattle.std.specs.Prelude.{◌≡◌, IfOk, OnErr, IfErr, None, false};
+ghost use Rattle.std.specs.Prelude.{◌≡◌, IfOk, OnErr, IfErr, None};
 ghost use Rattle.callback_store.specs.Shape.{shapes_of};
 ghost use Rattle.hook_machine.specs.World.{fresh, loaded};
 ghost use Rattle.hook_machine.specs.Ends.{engine_with};
@@ -28,7 +28,6 @@ const MAX_PATH: usize = 8_192;
 
 impl<'p, S: Stated> Setup<'p, S> {
     ghost use Rattle.site_program.specs.Site.{engine_of, calls_of};
-    ghost use Rattle.site_edits.specs.Late.{comes_before_store};
     ghost use Rattle.site_program.specs.Step.{got};
 
     /// The page of a path, over the site as it now is.
@@ -37,8 +36,7 @@ impl<'p, S: Stated> Setup<'p, S> {
         ensures ok { IfOk result (λ reply. (tables.new, answer_of reply)
             ≡ got (engine_of S.says S.number self.now) (calls_of self.now) tables.old path.now) }
         ensures err { OnErr result (tables.new ≡ tables.old) }
-        ensures late { IfErr result (λ fault. fault ≡ StoreFault.Store → comes_before_store
-            (got (engine_of S.says S.number self.now) (calls_of self.now) tables.old path.now).1 ≡ false) }
+        ensures memory { IfErr result (λ fault. fault ≡ StoreFault.OutOfMemory) }
     {
         if path.len() > MAX_PATH {
             return Ok(SiteReply::Refused(Refusal::TooLarge));
@@ -65,6 +63,7 @@ impl<'p, S: Stated> Setup<'p, S> {
     ) -> Result<SiteReply, StoreFault>
         ensures ok { IfOk result (λ reply. answer_of reply ≡ page_of (engine_of S.says S.number self.now)
             (calls_of self.now) found options.now templates.now active.now) }
+        ensures memory { IfErr result (λ fault. fault ≡ StoreFault.OutOfMemory) }
     {
         match self.page(found, options, templates, active) {
             Ok((status, body)) => Ok(SiteReply::Page { status, body }),
@@ -132,6 +131,7 @@ fn found_by(
     ensures found { IfOk result (λ f.
         f ≡ found tables.old.posts options.now (query_of path.now)) }
     ensures same { tables.new ≡ tables.old }
+    ensures memory { IfErr result (λ fault. fault ≡ StoreFault.OutOfMemory) }
 {
     let query = read(alloc, path)?;
     match find(alloc, tables, &query, options) {

@@ -1,5 +1,5 @@
 //! A site, and what it does at one line.
-ghost use Rattle.std.specs.Prelude.{◌≡◌, ◌≤◌, IfOk, IfErr, OnErr, false};
+ghost use Rattle.std.specs.Prelude.{◌≡◌, ◌≤◌, IfOk, IfErr, OnErr, true};
 ghost use Rattle.post_tables.specs.Rows.{no_rows};
 ghost use Rattle.site_commands.specs.Asked.{asked_by};
 ghost use Rattle.site_replies.specs.Reply.{answer_of};
@@ -55,7 +55,7 @@ impl<'p, S: Stated> Site<'p, S> {
 
     /// Carries out one line, given without its newline. A line that is no command is refused as such, and a refused
     /// command leaves the rows as they were. For want of memory any command may be refused, and by the database any
-    /// that has come as far as to ask it.
+    /// that would change rows.
     pub fn command(&mut self, line: &[u8]) -> SiteReply
         ensures answers { Answers (steps_of S.says S.number (setup_of self.old))
             (rows_of self.old) line.now (answer_of result) (rows_of self.new) }
@@ -72,7 +72,7 @@ impl<'p, S: Stated> Setup<'p, S> {
     ghost use Rattle.site_replies.specs.declared.reply.Refusal.{Refusal};
     ghost use Rattle.site_replies.specs.Reply.{refused};
     ghost use Rattle.site_program.specs.Site.{engine_of, calls_of};
-    ghost use Rattle.site_edits.specs.Late.{comes_before_store};
+    ghost use Rattle.site_edits.specs.Late.{is_done};
     ghost use Rattle.site_program.specs.Step.{Answers, steps_of, carried_out};
 
     /// Carries out one line over the tables.
@@ -94,7 +94,7 @@ impl<'p, S: Stated> Setup<'p, S> {
             (tables.new, answer_of reply) ≡ steps_of S.says S.number self.now tables.old line.now) }
         ensures err { OnErr result (tables.new ≡ tables.old) }
         ensures late { IfErr result (λ fault. fault ≡ StoreFault.Store
-            → comes_before_store (steps_of S.says S.number self.now tables.old line.now).1 ≡ false) }
+            → is_done (steps_of S.says S.number self.now tables.old line.now).1 ≡ true) }
     {
         let Some(tree) = read_line(self.alloc, line)? else {
             return Ok(SiteReply::Refused(Refusal::BadCommand));
@@ -111,9 +111,9 @@ impl<'p, S: Stated> Setup<'p, S> {
             (engine_of S.says S.number self.now) (calls_of self.now) tables.old
             (Some (asked_by command.entry))) }
         ensures err { OnErr result (tables.new ≡ tables.old) }
-        ensures late { IfErr result (λ fault. fault ≡ StoreFault.Store → comes_before_store (carried_out
+        ensures late { IfErr result (λ fault. fault ≡ StoreFault.Store → is_done (carried_out
             (engine_of S.says S.number self.now) (calls_of self.now) tables.old
-            (Some (asked_by command.entry))).1 ≡ false) }
+            (Some (asked_by command.entry))).1 ≡ true) }
     {
         match command {
             Command::Put {

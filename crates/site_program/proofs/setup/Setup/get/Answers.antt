@@ -4,28 +4,8 @@ use Rattle.site_replies.specs.Reply.{answer_of}
 use Rattle.site_program.specs.Step.{got}
 use Rattle.site_program.specs.Requests.{page_of, options_of, templates_of, active_of, found_by}
 use Rattle.site_program.specs.Site.{engine_of, calls_of}
-use Rattle.site_program.proofs.Pages.{got-short, got-late, of_every_fault}
+use Rattle.site_program.proofs.Pages.{got-short}
 use Rattle.site_program.proofs.setup.Setup.get.Goals as goal
-
-pub returns-in_err-options-clause-late : goal.returns-in_err-options-clause-late
-returns-in_err-options-clause-late g c =
-    of_every_fault c.from_residual.result (got-late (engine_of g.S.Stated.says g.S.Stated.number c.args.self.now) (calls_of c.args.self.now) c.args.tables.now c.args.path.now c.if-path-gt-MAX_PATH.false)
-
-pub returns-in_err-found-clause-late : goal.returns-in_err-found-clause-late
-returns-in_err-found-clause-late g c =
-    of_every_fault c.from_residual-in_err-found.result (got-late (engine_of g.S.Stated.says g.S.Stated.number c.args.self.now) (calls_of c.args.self.now) c.args.tables.now c.args.path.now c.if-path-gt-MAX_PATH.false)
-
-pub returns-in_err-templates-clause-late : goal.returns-in_err-templates-clause-late
-returns-in_err-templates-clause-late g c =
-    of_every_fault c.from_residual-in_err-templates.result (got-late (engine_of g.S.Stated.says g.S.Stated.number c.args.self.now) (calls_of c.args.self.now) c.args.tables.now c.args.path.now c.if-path-gt-MAX_PATH.false)
-
-pub returns-in_err-active-clause-late : goal.returns-in_err-active-clause-late
-returns-in_err-active-clause-late g c =
-    of_every_fault c.from_residual-in_err-active.result (got-late (engine_of g.S.Stated.says g.S.Stated.number c.args.self.now) (calls_of c.args.self.now) c.args.tables.now c.args.path.now c.if-path-gt-MAX_PATH.false)
-
-pub returns-clause-late : goal.returns-clause-late
-returns-clause-late g c =
-    of_every_fault c.answer_to.result (got-late (engine_of g.S.Stated.says g.S.Stated.number c.args.self.now) (calls_of c.args.self.now) c.args.tables.now c.args.path.now c.if-path-gt-MAX_PATH.false)
 
 pub returns-clause-ok : goal.returns-clause-ok
 returns-clause-ok g c =
