@@ -141,14 +141,17 @@ module _ (steps : Rows → List ℕ → Rows × Answer) where
         f.between,
         AnswersAll-from _ _ _ _ _ _ _ t,
         w.4,
+        w.3,
+        (let c = t.count in let room = w.5 in omega arith),
         at_given (λ input. (further : List (List ℕ)) × (lines_of input ≡ t.lines ++ w.0 ∷ further)) given left stretch read
             (λ more. (lines_of (w.1 ++ more), lines_of-taken _ _ _ _ _ _ more _ _ t ∙ ap (λ ls. t.lines ++ ls) (ap lines_of (ap (λ l. l ++ more) w.2 ∙ append_assoc (ended w.0) w.1 more ∙ append_assoc w.0 (10 ∷ []) (w.1 ++ more)) ∙ lines_of-line w.0 (w.1 ++ more) w.3.one))),
       )
 
   -- what stands after a read that failed
-  pub Stops-from_read : (old new : Rows) (left : ℕ) (stretch held : List ℕ) (given mid last before after : Option (List ℕ)) → Consumes given mid stretch → Keeps mid last → Takes steps old max_lines stretch before after new left held → IsLine held → Stops steps old given last before after new fault_of.Read
-  Stops-from_read old new left stretch held given mid last before after read kept t line =
-      (t.lines, held, AnswersAll-from _ _ _ _ _ _ _ t, line, Consumes-kept given mid last _ (subst (Consumes given mid) t.whole read) kept)
+  pub Stops-from_read : (old new : Rows) (left : ℕ) (stretch held : List ℕ) (given mid last before after : Option (List ℕ)) → Consumes given mid stretch → Keeps mid last → Takes steps old max_lines stretch before after new left held → IsLine held
+      → (0 < length held → 0 < left) → Stops steps old given last before after new fault_of.Read
+  Stops-from_read old new left stretch held given mid last before after read kept t line room =
+      (t.lines, held, AnswersAll-from _ _ _ _ _ _ _ t, line, (λ some. let c = t.count in let more = room some in omega arith), Consumes-kept given mid last _ (subst (Consumes given mid) t.whole read) kept)
 
   -- a fault in a stretch is none of reading
   pub faults_but_read : (old new : Rows) (limit : ℕ) (stretch : List ℕ) (before after : Option (List ℕ)) (fault : ServeFault) (failed : Bool) → Faults steps old limit stretch before after new fault → failed ≡ false → failed ≡ is_read (Err fault)
@@ -199,14 +202,16 @@ module _ (steps : Rows → List ℕ → Rows × Answer) where
   }
 
   pub Stops-from_last : (old mid new : Rows) (room : ℕ) (stretch held : List ℕ) (given left before between after : Option (List ℕ)) → Consumes given left stretch → IsAtEnd left → Takes steps old max_lines stretch before between mid room held
-      → IsLine held → 0 < length held → FailsAt steps mid held between after new → Stops steps old given left before after new fault_of.Write
-  Stops-from_last old mid new room stretch held given left before between after read end t line some fails = (
+      → IsLine held → 0 < length held → 0 < room → FailsAt steps mid held between after new → Stops steps old given left before after new fault_of.Write
+  Stops-from_last old mid new room stretch held given left before between after read end t line some more fails = (
     t.lines,
     held,
     mid,
     between,
     AnswersAll-from _ _ _ _ _ _ _ t,
     fails,
+    line,
+    (let c = t.count in omega arith),
     at_end (λ input. (further : List (List ℕ)) × (lines_of input ≡ t.lines ++ held ∷ further)) given left stretch read end ([], lines_of-to_last _ _ _ _ _ _ _ _ t line some),
   )
 

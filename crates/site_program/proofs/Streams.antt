@@ -183,22 +183,22 @@ module _ (steps : Rows → List ℕ → Rows × Answer) where
     faults = f;
   }
 
-  pub FaultsAt-line : (old new : Rows) (left : ℕ) (held rest part : List ℕ) (end : ℕ) (before after : Option (List ℕ)) → part ≡ take end rest → IsFirstByte (is_byte 10) rest (Some end) → IsLine (held ++ part) → FailsAt steps old (held ++ part) before after new
+  pub FaultsAt-line : (old new : Rows) (left : ℕ) (held rest part : List ℕ) (end : ℕ) (before after : Option (List ℕ)) → part ≡ take end rest → IsFirstByte (is_byte 10) rest (Some end) → IsLine (held ++ part) → 0 < left → FailsAt steps old (held ++ part) before after new
       → FaultsAt steps old left (held ++ rest) before after new fault_of.Write
-  FaultsAt-line old new left held rest part end before after part_is found line fails =
+  FaultsAt-line old new left held rest part end before after part_is found line room fails =
       let cut : rest ≡ part ++ (10 ∷ drop (end + 1) rest) = sym (take-append-drop end rest) ∙ ap (λ l. take end rest ++ l) (newline_at rest end found) ∙ ap (λ l. l ++ (10 ∷ drop (end + 1) rest)) (sym part_is) in
       let whole : held ++ rest ≡ ended (held ++ part) ++ drop (end + 1) rest =
       ap (λ l. held ++ l) cut ∙ sym (append_assoc held part (10 ∷ drop (end + 1) rest)) ∙ sym (append_assoc (held ++ part) (10 ∷ []) (drop (end + 1) rest)) in
-      (held ++ part, drop (end + 1) rest, whole, line, fails)
+      (held ++ part, drop (end + 1) rest, whole, line, fails, room)
 
   -- the line that ends with this part found no memory, or its reply was not written
-  pub FaultsAt-finish : (old new : Rows) (left : ℕ) (held rest part : List ℕ) (end : ℕ) (before after : Option (List ℕ)) (fault : ServeFault) → part ≡ take end rest → IsFirstByte (is_byte 10) rest (Some end) → IsLine (held ++ part)
+  pub FaultsAt-finish : (old new : Rows) (left : ℕ) (held rest part : List ℕ) (end : ℕ) (before after : Option (List ℕ)) (fault : ServeFault) → part ≡ take end rest → IsFirstByte (is_byte 10) rest (Some end) → IsLine (held ++ part) → 0 < left
       → (fault ≡ fault_of.Write) ⊎ (fault ≡ fault_of.OutOfMemory)
       → (fault ≡ fault_of.Write → FailsAt steps old (held ++ part) before after new) → (fault ≡ fault_of.OutOfMemory → (new ≡ old) × (after ≡ before))
       → FaultsAt steps old left (held ++ rest) before after new fault
-  FaultsAt-finish old new left held rest part end before after fault part_is found line which write memory =
+  FaultsAt-finish old new left held rest part end before after fault part_is found line room which write memory =
       elim which [
-        | inl e ↦ subst (FaultsAt steps old left (held ++ rest) before after new) (sym e) (FaultsAt-line old new left held rest part end before after part_is found line (write e))
+        | inl e ↦ subst (FaultsAt steps old left (held ++ rest) before after new) (sym e) (FaultsAt-line old new left held rest part end before after part_is found line room (write e))
         | inr e ↦ let m = memory e in
             subst (FaultsAt steps old left (held ++ rest) before after new) (sym e) (m.0, rw m.1 (Appends-nil before), (let high = found.0.high in simp length-append (omega arith)))
       ]

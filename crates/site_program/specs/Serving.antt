@@ -50,9 +50,9 @@ module _ (steps : Rows → List ℕ → Rows × Answer) where
 
   -- Serving stopped by the fault; `given` is what the source had, and `left` what it then has.
   abbrev pub Stops : Rows → (given left before after : Option (List ℕ)) → Rows → ServeFault → Type 0
-  -- the lines that end in what was read were answered
+  -- the lines that end in what was read were answered, and what follows them is the front of one more line
   Stops old given left before after new fault.Read =
-      (lines : List (List ℕ)) × (part : List ℕ) × AnswersAll old lines before after new × IsLine part
+      (lines : List (List ℕ)) × (part : List ℕ) × AnswersAll old lines before after new × IsLine part × (0 < length part → length lines < max_lines)
       × Consumes given left (flat_map ended lines ++ part)
   -- the lines before the one that goes past the limits were answered
   Stops old given left before after new fault.TooMuchInput =
@@ -62,10 +62,10 @@ module _ (steps : Rows → List ℕ → Rows × Answer) where
   Stops old given left before after new fault.OutOfMemory =
       (lines : List (List ℕ)) × AnswersAll old lines before after new
       × IfSome given (λ input. (further : List (List ℕ)) × (lines_of input ≡ lines ++ further) × (0 < length further))
-  -- the lines before were answered, and of this line's reply a part was written
+  -- the lines before were answered, and of the reply to one more, within the limits, a part was written
   Stops old given left before after new fault.Write =
       (lines : List (List ℕ)) × (line : List ℕ) × (mid : Rows) × (between : Option (List ℕ))
-      × AnswersAll old lines before between mid × FailsAt mid line between after new
+      × AnswersAll old lines before between mid × FailsAt mid line between after new × IsLine line × (length lines < max_lines)
       × IfSome given (λ input. (further : List (List ℕ)) × (lines_of input ≡ lines ++ line ∷ further))
 
   -- All the input was read, each of its lines within the limits, and what was written is the replies to them.

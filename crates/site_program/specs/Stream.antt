@@ -33,7 +33,7 @@ module _ (steps : Rows → List ℕ → Rows × Answer) where
   FaultsAt old left rest before after new fault.TooMuchInput = (new ≡ old) × Appends before after [] × (0 < length rest) × ((left ≡ 0) ⊎ IsTooLong rest)
   FaultsAt old left rest before after new fault.OutOfMemory = (new ≡ old) × Appends before after [] × (0 < length rest)
   FaultsAt old left rest before after new fault.Write =
-      (line : List ℕ) × (back : List ℕ) × (rest ≡ ended line ++ back) × IsLine line × FailsAt steps old line before after new
+      (line : List ℕ) × (back : List ℕ) × (rest ≡ ended line ++ back) × IsLine line × FailsAt steps old line before after new × (0 < left)
 
   -- lines of the stretch were answered, and then the fault came
   pub record Faults (old : Rows) (limit : ℕ) (stretch : List ℕ) (before after : Option (List ℕ)) (new : Rows) (fault : ServeFault) : Type 0 where

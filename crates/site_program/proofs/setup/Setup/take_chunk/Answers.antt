@@ -73,7 +73,7 @@ returns-in_err-finish_line-clause-err g c =
     let line : IsLine (held ++ take end rest) = IsLine-before held rest (take end rest) end refl i.line found fits in
     let err = c.in_err-finish_line.ensures in
     let p = err_from_is_err_and c.from_residual.result c.from_residual.ensures.1 in
-    let faults = FaultsAt-finish _ _ _ _ held rest _ _ _ _ _ refl found line err.only (λ e. err.write (ap Err e)) (λ e. err.memory (ap Err e)) in
+    let faults = FaultsAt-finish _ _ _ _ held rest _ _ _ _ _ refl found line (omega arith) err.only (λ e. err.write (ap Err e)) (λ e. err.memory (ap Err e)) in
     rw (p.1, p.2) (fault_at _ _ _ _ _ _ _ _ _ _ _ _ _ _ i.taken i.whole faults)
 
 -- what follows the last newline is held, or found no memory

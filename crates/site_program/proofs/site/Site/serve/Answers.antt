@@ -32,7 +32,7 @@ chunks-smaller g c =
 pub returns-in-Err-clause-stopped : goal.returns-in-Err-clause-stopped
 returns-in-Err-clause-stopped g c =
     let i = c.chunks.invariant in
-    Stops-from_read _ _ _ _ _ _ _ _ _ _ _ i.read c.in-Err.ensures.bytes i.taken i.line
+    Stops-from_read _ _ _ _ _ _ _ _ _ _ _ i.read c.in-Err.ensures.bytes i.taken i.line i.room
 
 pub returns-in_err-take_chunk-clause-read : goal.returns-in_err-take_chunk-clause-read
 returns-in_err-take_chunk-clause-read g c =
@@ -57,7 +57,7 @@ returns-in_err-answer-clause-stopped g c =
     let counted = some_of _ (sym c.is_empty.ensures ∙ c.if-not-is_empty.true) in
     let some : 0 < length c.chunks.held.items = omega (arith, same, counted) in
     let fails = subst (λ line. FailsAt (steps_of g.S.Stated.says g.S.Stated.number c.args.self.now.setup) c.chunks.tables line (g.W.Sink.contents c.chunks.writer) (g.W.Sink.contents c.answer.new.writer) c.answer.new.tables) c.deref.ensures.value c.in_err-answer.ensures.err in
-    rw (p.1, p.2, c.in_err-answer.ensures.fault) (Stops-from_last _ _ _ _ _ _ _ _ _ _ _ _ read end i.taken i.line some fails)
+    rw (p.1, p.2, c.in_err-answer.ensures.fault) (Stops-from_last _ _ _ _ _ _ _ _ _ _ _ _ read end i.taken i.line some (i.room some) fails)
 
 pub returns-clause-ok : goal.returns-clause-ok
 returns-clause-ok g c =
