@@ -1,5 +1,5 @@
 //! The page of a request.
-ghost use Rattle.std.specs.Prelude.{◌≡◌, None, IfOk, IfErr};
+ghost use Rattle.std.specs.Prelude.{◌≡◌, None, Err, IfOk, IfErr, OnOk, IfSome};
 ghost use Rattle.hook_machine.specs.Runs.{world_of, fault_of, engine_of};
 ghost use Rattle.template_parts.specs.Pages.{page_pass, IsPage, IsRefusedBy};
 
@@ -39,14 +39,17 @@ impl<'p, S: Stated> Page<'p, S> {
     }
 
     /// Prints the page: its status, 200 or 404, and its bytes. It fires the actions of a request, and then prints the
-    /// template over the posts that were found. A page that is refused shows nothing.
+    /// template over the posts that were found. A page that is refused shows nothing, and a page whose run has answered
+    /// a fault answers that fault.
     pub fn finish(self) -> Result<(u16, Vec<u8>), RunFault>
-        requires { fault_of (run_in self) ≡ None }
         ensures status { IfOk result (λ page. page.0 ≡ (found_in self.entry).status) }
-        ensures bytes { IfOk result (λ page. IsPage (page_pass (engine_of S.says S.number (run_in self.entry))
-            (settings_in self.entry) (found_in self.entry).posts (world_of (run_in self.entry))) page.1.items) }
-        ensures err { IfErr result (IsRefusedBy (page_pass (engine_of S.says S.number (run_in self.entry))
-            (settings_in self.entry) (found_in self.entry).posts (world_of (run_in self.entry)))) }
+        ensures bytes { fault_of (run_in self.entry) ≡ None → IfOk result (λ page. IsPage (page_pass
+            (engine_of S.says S.number (run_in self.entry)) (settings_in self.entry) (found_in self.entry).posts
+            (world_of (run_in self.entry))) page.1.items) }
+        ensures err { fault_of (run_in self.entry) ≡ None → IfErr result (IsRefusedBy (page_pass
+            (engine_of S.says S.number (run_in self.entry)) (settings_in self.entry) (found_in self.entry).posts
+            (world_of (run_in self.entry)))) }
+        ensures again { IfSome (fault_of (run_in self.entry)) (λ fault. result ≡ Err fault) }
     {
         let Page {
             alloc,
@@ -67,14 +70,26 @@ fn printed<S: Stated>(
     settings: &Settings,
     found: &Found,
 ) -> Result<(u16, Vec<u8>), RunFault>
-    requires { fault_of run.old ≡ None }
     ensures status { IfOk result (λ page. page.0 ≡ found.now.status) }
-    ensures bytes { IfOk result (λ page. IsPage (page_pass (engine_of S.says S.number run.old) settings.now
-        found.now.posts (world_of run.old)) page.1.items) }
-    ensures err { IfErr result (IsRefusedBy (page_pass (engine_of S.says S.number run.old) settings.now
-        found.now.posts (world_of run.old))) }
+    ensures bytes { fault_of run.old ≡ None → IfOk result (λ page. IsPage (page_pass
+        (engine_of S.says S.number run.old) settings.now found.now.posts (world_of run.old)) page.1.items) }
+    ensures err { fault_of run.old ≡ None → IfErr result (IsRefusedBy (page_pass
+        (engine_of S.says S.number run.old) settings.now found.now.posts (world_of run.old))) }
+    ensures again { IfSome (fault_of run.old) (λ fault. result ≡ Err fault) }
 {
+    kept_fault(run)?;
     print_page(alloc, run, settings, found.posts.as_slice())?;
     let text = run.take_output()?;
     Ok((found.status, text.into_string().into_bytes()))
+}
+
+/// The fault that the run has answered before, if any. Each call of a run answers it, and this one does nothing else.
+fn kept_fault<S: Stated>(run: &mut Run<'_, S>) -> Result<(), RunFault>
+    ensures same { fault_of run.old ≡ None → OnOk result (world_of run.new ≡ world_of run.old) }
+    ensures memory { fault_of run.old ≡ None → IfErr result (λ fault. fault ≡ RunFault.OutOfMemory) }
+    ensures sound { OnOk result (fault_of run.new ≡ None) }
+    ensures again { IfSome (fault_of run.old) (λ fault. result ≡ Err fault) }
+    ensures engine { engine_of S.says S.number run.new ≡ engine_of S.says S.number run.old }
+{
+    run.print("")
 }
