@@ -1,6 +1,8 @@
-//! Worked pages of a site with the bundled plugins that are theorems: each clause below is computed from the
-//! definitions.
+//! Worked pages of a site with the bundled plugins that are theorems: each clause of `worked_pages` is computed from the
+//! definitions. [`serve_bytes`] shows that the premises of `Site::serve` can be met.
 #![tactic(auto)]
+
+mod serving;
 
 ghost use Rattle.std.specs.Prelude.{◌≡◌, codes};
 ghost use Rattle.site_replies.specs.declared.reply.Refusal.{Refusal};
@@ -8,6 +10,8 @@ ghost use Rattle.site_program.specs.Requests.{request};
 ghost use Rattle.site_replies.specs.Reply.{refused, page, bytes_of};
 ghost use Rattle.worked_site.specs.Worked.{IsMarked, bundled};
 ghost use Rattle.site_program.specs.Step.{step};
+
+pub use serving::serve_bytes;
 
 /// What the bundled plugin `marks` makes of a site with one post. The call itself does nothing: it carries these facts.
 pub fn worked_pages()
