@@ -48,47 +48,21 @@ returns-then-some c = search rules
 """,
 }
 
-# Whether each edit must be refused, and its text.
-EDITS = {
-    "renames_a_local": (
-        False,
-        """\
-turns: is_digit
-file: src/lib.rt
-old:     let some = n > 0;
-new:     let any = n > 0;
-old:     some && n < 10
-new:     any && n < 10
-""",
-    ),
-    "is_let_through": (
-        False,
-        """\
-turns: is_digit
-file: src/lib.rt
-old:     some && n < 10
-new:     some && n < 11
-""",
-    ),
-    "counts_two": (
-        True,
-        """\
-turns: after
-file: src/lib.rt
-old:     u16::from(n) + 1
-new:     u16::from(n) + 2
-""",
-    ),
-    "means_the_same": (
-        False,
-        """\
-turns: second_after
-file: src/lib.rt
-old:     u32::from(next) + 1
-new:     1 + u32::from(next)
-""",
-    ),
-}
+# The name of each edit, whether it must be refused, the function that it turns, and what becomes what.
+EDITS = [
+    ("renames_a_local", False, "is_digit", {"    let some =": "    let any =", "    some && n": "    any && n"}),
+    ("is_let_through", False, "is_digit", {"    some && n < 10": "    some && n < 11"}),
+    ("counts_two", True, "after", {"    u16::from(n) + 1": "    u16::from(n) + 2"}),
+    ("means_the_same", False, "second_after", {"    u32::from(next) + 1": "    1 + u32::from(next)"}),
+]
+
+
+def text_of(turned, changes):
+    """The text of an edit of src/lib.rt."""
+    lines = [f"turns: {turned}", "file: src/lib.rt"]
+    for old, new in changes.items():
+        lines += [f"old: {old}", f"new: {new}"]
+    return "\n".join(lines) + "\n"
 
 
 def self_test(toolchain):
@@ -100,13 +74,13 @@ def self_test(toolchain):
             file.write_text(text, encoding="utf-8")
         crate = toolchain.crates(room)[0]
         edits = []
-        for stem, (_, text) in EDITS.items():
+        for stem, _, turned, changes in EDITS:
             file = Path(room, f"{stem}.edit")
-            file.write_text(text, encoding="utf-8")
+            file.write_text(text_of(turned, changes), encoding="utf-8")
             edits.append(read_edits(crate.name, crate.folder, file))
         with tempfile.TemporaryDirectory(prefix="wrong-bodies-") as kept:
             verdicts = try_edits(toolchain, crate, edits, kept)
-    wanted = {f"sample/{stem}": refused for stem, (refused, _) in EDITS.items()}
+    wanted = {f"sample/{stem}": refused for stem, refused, _, _ in EDITS}
     lines = []
     for refused, line in verdicts:
         label = line.partition(":")[0]
