@@ -145,7 +145,12 @@ impl Plans {
     }
 
     /// Removes the entry of a callback under a hook at a priority.
-    pub fn remove(&mut self, hook: &str, priority: i32, callback: CallbackId) -> Result<(), AllocError>
+    pub fn remove(
+        &mut self,
+        hook: &str,
+        priority: i32,
+        callback: CallbackId,
+    ) -> Result<(), AllocError>
         ensures removed { OnOk result (self.new ≡ remove self.old hook.now priority callback) }
         ensures err { OnErr result (self.new ≡ self.old) }
     {
