@@ -5,3 +5,4 @@ pub mod Loading
 pub mod Rows
 pub mod Registered
 pub mod Throughout
+pub mod Built

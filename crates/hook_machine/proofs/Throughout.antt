@@ -12,7 +12,7 @@ use Rattle.hook_machine.specs.Throughout.{worlds_of, names_active, KeepsOutInact
 use Rattle.hook_machine.proofs.Agree.{Agree, agree_done, agree_refused, agree_turn, agree_then, Keeps, agree_filter, agree_action, agree_shortcodes, same, Any, keeps_any}
 use Rattle.hook_machine.proofs.Registered.{keeps_names}
 
-agree-worlds : {A : Type 0} {I : World → Type 0} {c : ℕ} {t u : Trace A} → Agree I c t u → AllByRecursion I (worlds_of t)
+pub agree-worlds : {A : Type 0} {I : World → Type 0} {c : ℕ} {t u : Trace A} → Agree I c t u → AllByRecursion I (worlds_of t)
 agree-worlds (agree_done h) = (h.1, tt)
 agree-worlds agree_refused = tt
 agree-worlds (agree_turn i r) = (i, agree-worlds r)
@@ -23,16 +23,16 @@ agree-turns agree_refused = omega arith
 agree-turns (agree_turn i r) = omega (arith, agree-turns r)
 
 module _ (engine : Engine) (I : World → Type 0) (keep : Keeps engine.plugins I) where
-  kept-filtered : (w : World) (hook value : Text) (args : List Text) → I w → Agree I w.calls (filtered engine w hook value args) (filtered engine w hook value args)
+  pub kept-filtered : (w : World) (hook value : Text) (args : List Text) → I w → Agree I w.calls (filtered engine w hook value args) (filtered engine w hook value args)
   unfolding filtered
   kept-filtered w hook value args i = agree_filter engine.plugins I keep w.calls (invoke engine) (invoke engine) (same engine I keep w.calls) w.calls (omega arith) w hook value args (omega arith, i)
 
-  kept-acted : (w : World) (hook : Text) (args : List Text) → I w → Agree I w.calls (acted engine w hook args) (acted engine w hook args)
+  pub kept-acted : (w : World) (hook : Text) (args : List Text) → I w → Agree I w.calls (acted engine w hook args) (acted engine w hook args)
   unfolding acted
   kept-acted w hook args i =
       agree_then _ _ (agree_action engine.plugins I keep w.calls (invoke engine) (invoke engine) (same engine I keep w.calls) w.calls (omega arith) w hook args (omega arith, i)) (λ d l v x e. agree_done e)
 
-  kept-replaced : (w : World) (text : Text) → I w → Agree I w.calls (replaced engine w text) (replaced engine w text)
+  pub kept-replaced : (w : World) (text : Text) → I w → Agree I w.calls (replaced engine w text) (replaced engine w text)
   unfolding replaced
   kept-replaced w text i = agree_shortcodes engine.plugins I keep w.calls (invoke engine) (invoke engine) (same engine I keep w.calls) w.calls (omega arith) w text (omega arith, i)
 

@@ -7,3 +7,4 @@ pub mod Runs
 pub mod Folding
 pub mod Throughout
 pub mod Worked
+pub mod Tables

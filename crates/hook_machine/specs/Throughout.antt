@@ -11,6 +11,10 @@ worlds_of (Done world x) = world ∷ []
 worlds_of (Refused fault) = []
 worlds_of (Turn world rest) = world ∷ worlds_of rest
 
+-- the fact holds in each of them
+abbrev pub Throughout : {A : Type 0} → (World → Type 0) → Trace A → Type 0
+Throughout Fact trace = AllByRecursion Fact (worlds_of trace)
+
 -- each registration is of an active callback, and each handler of a tag is one of an active plugin
 abbrev pub names_active : List Shape → World → Bool
 names_active plugins world =
@@ -18,7 +22,7 @@ names_active plugins world =
 
 -- in no world of the work a callback of an inactive plugin is registered
 abbrev pub KeepsOutInactive : {A : Type 0} → List Shape → Trace A → Type 0
-KeepsOutInactive plugins trace = AllByRecursion (λ w. IsTrue (names_active plugins w)) (worlds_of trace)
+KeepsOutInactive plugins trace = Throughout (λ w. IsTrue (names_active plugins w)) trace
 
 -- the work makes no more invocations than calls were left
 abbrev pub IsWithinCalls : {A : Type 0} → ℕ → Trace A → Type 0
@@ -26,4 +30,4 @@ IsWithinCalls calls trace = length (turns_of trace) ≤ calls
 
 -- the work goes at most 32 levels deep
 abbrev pub IsWithinDepth : {A : Type 0} → Trace A → Type 0
-IsWithinDepth trace = AllByRecursion (λ w. w.depth ≤ 32) (worlds_of trace)
+IsWithinDepth trace = Throughout (λ w. w.depth ≤ 32) trace

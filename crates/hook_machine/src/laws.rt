@@ -1,9 +1,17 @@
 //! Laws of passes. The calls do nothing: they carry the facts of their clauses.
-ghost use Rattle.std.specs.Prelude.{ℕ, ◌≤◌, List, IsTrue};
+ghost use Rattle.std.specs.Prelude.{◌≡◌, ℕ, ◌≤◌, List, IsTrue};
+ghost use Rattle.hook_changes.specs.declared.reply.Change.{Change};
 ghost use Rattle.callback_store.specs.Shape.{Shape};
-ghost use Rattle.hook_machine.specs.World.{Text, World, fresh, loaded};
+ghost use Rattle.hook_machine.specs.World.{Text, World, changed, fresh, loaded};
 ghost use Rattle.hook_machine.specs.Meaning.{Engine, filtered, acted, replaced};
-ghost use Rattle.hook_machine.specs.Throughout.{names_active, KeepsOutInactive, IsWithinCalls, IsWithinDepth};
+ghost use Rattle.hook_machine.specs.Throughout.{
+  Throughout,
+  names_active,
+  KeepsOutInactive,
+  IsWithinCalls,
+  IsWithinDepth,
+};
+ghost use Rattle.hook_machine.specs.Tables.{table_changes, table_with, HasBuiltTable};
 ghost use Rattle.hook_machine.specs.Folding.{PlainFold};
 
 /// A law: callbacks that neither change anything nor ask, whatever they are called with, make of a value what their
@@ -21,11 +29,14 @@ pub fn inactive_callbacks_stay_out()
     ensures loaded { (plugins : List Shape) (calls : ℕ) (options : List (Text × Text)) (active : List Text)
         → IsTrue (names_active plugins (loaded plugins (fresh calls options active))) }
     ensures filtered { (engine : Engine) (world : World) (hook value : Text) (args : List Text)
-        → IsTrue (names_active engine.plugins world) → KeepsOutInactive engine.plugins (filtered engine world hook value args) }
+        → IsTrue (names_active engine.plugins world)
+        → KeepsOutInactive engine.plugins (filtered engine world hook value args) }
     ensures acted { (engine : Engine) (world : World) (hook : Text) (args : List Text)
-        → IsTrue (names_active engine.plugins world) → KeepsOutInactive engine.plugins (acted engine world hook args) }
+        → IsTrue (names_active engine.plugins world)
+        → KeepsOutInactive engine.plugins (acted engine world hook args) }
     ensures replaced { (engine : Engine) (world : World) (text : Text)
-        → IsTrue (names_active engine.plugins world) → KeepsOutInactive engine.plugins (replaced engine world text) }
+        → IsTrue (names_active engine.plugins world)
+        → KeepsOutInactive engine.plugins (replaced engine world text) }
 {}
 
 /// A law: a pass makes no more invocations than calls are left.
@@ -46,4 +57,20 @@ pub fn passes_keep_to_their_depth()
         → world.depth ≤ 32 → IsWithinDepth (acted engine world hook args) }
     ensures replaced { (engine : Engine) (world : World) (text : Text)
         → world.depth ≤ 32 → IsWithinDepth (replaced engine world text) }
+{}
+
+/// A law: a request's table is what some changes leave, if nothing was registered before, once the request has loaded and
+/// after each invocation and each pass. So it is a table of which `hook_registry::one_list` speaks. Each change of a reply
+/// or a load list makes one change of the table at most.
+pub fn tables_are_built()
+    ensures changed { (plugins : List Shape) (world : World) (change : Change)
+        → (changed plugins world change).table ≡ table_with world.table (table_changes plugins world change) }
+    ensures loaded { (plugins : List Shape) (calls : ℕ) (options : List (Text × Text)) (active : List Text)
+        → HasBuiltTable (loaded plugins (fresh calls options active)) }
+    ensures filtered { (engine : Engine) (world : World) (hook value : Text) (args : List Text)
+        → HasBuiltTable world → Throughout HasBuiltTable (filtered engine world hook value args) }
+    ensures acted { (engine : Engine) (world : World) (hook : Text) (args : List Text)
+        → HasBuiltTable world → Throughout HasBuiltTable (acted engine world hook args) }
+    ensures replaced { (engine : Engine) (world : World) (text : Text)
+        → HasBuiltTable world → Throughout HasBuiltTable (replaced engine world text) }
 {}

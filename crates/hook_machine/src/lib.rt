@@ -15,7 +15,7 @@ mod worked;
 pub use fault::RunFault;
 pub use laws::{
     inactive_callbacks_stay_out, passes_keep_to_their_calls, passes_keep_to_their_depth,
-    plain_callbacks_fold,
+    plain_callbacks_fold, tables_are_built,
 };
 pub use run::Run;
 pub use worked::worked_passes;
