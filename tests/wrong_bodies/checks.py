@@ -10,10 +10,12 @@ import tempfile
 
 # A function's verdict, as `fn hook_changes::kept::Text::new: not proved`.
 VERDICT = re.compile(r"^fn ([\w:+]+): (.*)$", re.M)
+# What is said of an error: a long sentence goes on in indented lines.
+WHY = r"error: (.*(?:\n  .*)*)$"
 # A goal or an answer that failed, as `./proofs/kept/Text/new/Answers.antt:5:13: error: ...`.
-ERROR = re.compile(r"^(?:\./)?proofs/(\S+)/\w+\.antt:\d+:\d+: error: (.*)$", re.M)
+ERROR = re.compile(r"^(?:\./)?proofs/(\S+)/\w+\.antt:\d+:\d+: " + WHY, re.M)
 # A lemma that failed, as `./proofs/Folding.antt:241:16: error: ...`.
-LEMMA = re.compile(r"^(?:\./)?proofs/\w+\.antt:\d+:\d+: error: (.*)$", re.M)
+LEMMA = re.compile(r"^(?:\./)?proofs/\w+\.antt:\d+:\d+: " + WHY, re.M)
 # What is said of an answer that names what isn't there, and of what only cites a failed one.
 ONLY_A_NAME = re.compile(r"has no field|is not in scope|has no `|that can be named|not admitted|not checked")
 NO_FUNCTION = re.compile(r"has no function `([\w:+]+)`")
@@ -63,7 +65,7 @@ class Said:
         """By what the edit's own function refuses it, or None if nothing shows that it does."""
         shown = [it for it in self.goals(edit) if not ONLY_A_NAME.search(it)]
         if shown:
-            return shown[0]
+            return shown[0].splitlines()[0]
         verdict = self.verdict(edit) or ""
         unanswered = UNANSWERED.match(verdict)
         if unanswered:

@@ -69,7 +69,7 @@ def judged(edit, said, is_alone):
     if verdict == "proved":
         return False, f"{edit.label}: NOT REFUSED: {edit.turns} is still proved"
     if is_alone:
-        why = "; ".join(it[:200] for it in said.goals(edit)) or verdict
+        why = "; ".join(" ".join(it.split())[:200] for it in said.goals(edit)) or verdict
         return False, f"{edit.label}: NOT SHOWN: {edit.turns} is not proved, but by no goal of its contract: {why}"
     return None
 
