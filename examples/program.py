@@ -1,0 +1,89 @@
+"""The program as a child process that answers one line at a time, for the scripts of this folder."""
+
+import os
+import subprocess
+import sys
+from pathlib import Path
+from typing import NamedTuple
+
+BUILT_PROGRAM = Path(__file__).resolve().parent.parent / "crates" / "site" / "out" / "site"
+
+
+class Ended(Exception):
+    """The program ended before it had answered."""
+
+
+class Reply(NamedTuple):
+    """The words of a reply's first line, and the page that follows it if it is one."""
+
+    words: list
+    page: bytes
+
+    def is_page(self):
+        return self.words[0] == "page"
+
+    def is_refused(self):
+        return self.words[0] == "refused"
+
+    def text(self):
+        return " ".join(self.words)
+
+
+def read_reply(stream):
+    """Reads a reply: one line, and if it is `page STATUS LENGTH`, so many bytes and a newline after it."""
+    head = stream.readline()
+    if not head.endswith(b"\n"):
+        raise Ended
+    words = head.decode().split()
+    if words[0] != "page":
+        return Reply(words, b"")
+    length = int(words[2])
+    page = stream.read(length + 1)
+    if len(page) != length + 1:
+        raise Ended
+    return Reply(words, page[:length])
+
+
+class Program:
+    """A running program. It ends with the `with` block that it is made for."""
+
+    def __init__(self, path):
+        # In a session of its own, so that Ctrl-C reaches the script alone, and the script ends the program.
+        how = {"stdin": subprocess.PIPE, "stdout": subprocess.PIPE, "bufsize": 0, "start_new_session": True}
+        self.child = subprocess.Popen([path], **how)
+        self.replies = open(self.child.stdout.fileno(), "rb", closefd=False)
+
+    def __enter__(self):
+        return self
+
+    def __exit__(self, *_):
+        # The site is in memory alone, so there is nothing that the program would still have to do.
+        self.child.kill()
+        self.child.wait()
+
+    def ask(self, line):
+        """The reply to a line, which has no newline."""
+        rest = line + b"\n"
+        try:
+            while rest:
+                rest = rest[self.child.stdin.write(rest) :]
+        except BrokenPipeError:
+            raise Ended from None
+        return read_reply(self.replies)
+
+
+def lines_of(commands):
+    """The lines of a command file's bytes, as the program counts them."""
+    lines = commands.split(b"\n")
+    return lines if lines[-1] else lines[:-1]
+
+
+def add_program_option(parser):
+    how = {"type": os.path.abspath, "default": str(BUILT_PROGRAM), "help": "the built program, `site`"}
+    parser.add_argument("--program", metavar="PATH", **how)
+
+
+def check_program(path):
+    """Ends the script if there is no program at a path."""
+    if not os.access(path, os.X_OK) or os.path.isdir(path):
+        sys.exit(f"{Path(sys.argv[0]).name}: there is no program at {path}; ./site builds it")
