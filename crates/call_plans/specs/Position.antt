@@ -9,7 +9,7 @@ abbrev pub first_of : Position → List Entry → Option Entry × Position
 first_of position [] = (None, record position { entries = [] })
 first_of position (e ∷ es) = (Some e, record position { entries = es })
 
--- the group of the priority that is reached, as the table has it now; if there is none, the position stays
+-- the group of the priority that is reached, as it is in the table now; without such a priority the position stays
 abbrev pub reach : Table → Position → Option ℤ → Option Entry × Position
 reach table position None = (None, position)
 reach table position (Some priority) = first_of (record position { reached = Some priority }) (group table position.hook priority)

@@ -113,8 +113,8 @@ impl<S: Stated> Plugins<S> {
         self.list.as_slice()
     }
 
-    /// The plugins by name, in the order of bytes, in which load lists are carried out. `new` has put them in that order
-    /// already, but no invariant of a type that holds callbacks can say so.
+    /// The plugins by name, in the order of bytes, in which load lists are carried out. `new` has put them in that
+    /// order already, but no invariant of a type that holds callbacks can say so.
     pub fn by_name(&self, alloc: Global) -> Result<Vec<&Plugin<S>>, AllocError>
         ensures { IfOk result (λ list. map (λ p. shape_of S.number p.now) list.items ≡ by_name (shapes_of S.number self.entry.now)) }
     {
@@ -158,8 +158,8 @@ impl<S: Stated> Plugins<S> {
         }
     }
 
-    /// Whether a plugin of one of these names has the callback. Where one has, that takes one look-up, and else a walk of
-    /// those plugins.
+    /// Whether a plugin of one of these names has the callback. If one does, that takes one look-up, and otherwise a
+    /// walk of those plugins.
     pub fn is_held_by(&self, names: &[Text], id: CallbackId) -> bool
         ensures { result ≡ is_held_by (shapes_of S.number self.now) names.now id }
     {

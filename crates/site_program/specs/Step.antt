@@ -44,8 +44,8 @@ unfoldable pub step : Engine → ℕ → Rows → List ℕ → Rows × Answer
 step engine calls rows line = carried_out engine calls rows (option_and_then command_of (tree_of line))
 
 module _ (steps : Rows → List ℕ → Rows × Answer) where
-  -- The line is answered so, and the rows are left so: by its step, or refused with the rows unchanged, for want of memory,
-  -- or by the database in place of the `ok` of an edit.
+  -- The reply to a line, and the rows after it: those of its step; or a refusal that leaves the rows unchanged, on allocation
+  -- failure, or by the database in place of the `ok` of an edit.
   abbrev pub Answers : Rows → List ℕ → Answer → Rows → Type 0
   Answers old line reply new =
       ((new, reply) ≡ steps old line)
