@@ -1,0 +1,155 @@
+<?php
+/*
+ * Lines of JSON, as the program `site` reads them, over WordPress's own functions: plugin.php, class-wp-hook.php,
+ * shortcodes.php, formatting.php and kses.php, loaded from the WordPress at DIR.
+ *
+ *     php site.php DIR < COMMANDS
+ *
+ * It serves what bench/wordpress/run sends: put, option, activate, get of the front page and of one post, and `pass`,
+ * which times passes of a filter within this process. Posts and options are PHP arrays, and a page is the default
+ * template, printed by hand; the plugins below do what those of crates/bundled_plugins of the same names do. WordPress
+ * itself does far more for a page than this: its database, its theme, its other callbacks.
+ */
+error_reporting(E_ERROR | E_PARSE);
+ini_set('display_errors', 'stderr');
+ini_set('memory_limit', '-1');
+set_time_limit(0);
+
+define('ABSPATH', rtrim($argv[1] ?? '', '/') . '/');
+define('WPINC', 'wp-includes');
+
+// What these files call of the rest of WordPress.
+function __($text) { return $text; }
+function _doing_it_wrong() {}
+function wp_allowed_protocols() { return ['http', 'https']; }
+function wp_load_alloptions() { return ['blog_charset' => 'UTF-8']; }
+function is_multisite() { return false; }
+function get_option($name, $default = false) {
+    global $options;
+    return 'blog_charset' === $name ? 'UTF-8' : ($options[$name] ?? $default);
+}
+foreach (['plugin', 'formatting', 'kses', 'shortcodes'] as $file) {
+    require ABSPATH . "wp-includes/$file.php";
+}
+
+// ------------------------------------------------------------------------------------------------------- the plugins
+function bold($atts, $content = '') { return "<b>$content</b>"; }
+function italic($atts, $content = '') { return '<i>' . do_shortcode($content) . '</i>'; }
+function show($atts) {
+    $named = $others = '';
+    foreach (is_array($atts) ? $atts : [] as $name => $value) {
+        if (is_int($name)) { $others .= "#$value;"; } else { $named .= "$name=$value;"; }
+    }
+    return $named . $others;
+}
+function shown_link($atts) {
+    $given = shortcode_atts(['href' => '#', 'label' => 'link'], $atts);
+    return '<a href="' . $given['href'] . '">' . $given['label'] . '</a>';
+}
+function mark_y($title) { return $title . 'Y'; }
+function mark_x($title, $id = '') { return $title . 'X' . $id; }
+function once_first($title) { return $title . '1'; }
+function once_again($title) {
+    remove_filter('the_title', 'once_again', 11);
+    add_filter('the_title', 'once_again', 11, 1);
+    return $title . '2';
+}
+function once_last($title) { return $title . '4'; }
+function nest_first($title) { return $title . '1'; }
+function nest_within($title) {
+    remove_filter('the_title', 'nest_within', 11);
+    $inner = apply_filters('the_title', '');
+    add_filter('the_title', 'nest_within', 11, 1);
+    return "$title-$inner-2";
+}
+function nest_after($title) { return $title . '3'; }
+function nest_last($title) { return $title . '4'; }
+
+// What each plugin registers: [hook, priority, callback, accepted arguments], or [shortcode, handler].
+$plugins = [
+    'atts' => [['show', 'show'], ['link', 'shown_link']],
+    'bold' => [['b', 'bold'], ['i', 'italic'], ['raw', 'bold'], ['off', 'bold'], ['alloff', 'bold'], ['hush', 'bold']],
+    'marks' => [['the_title', 10, 'mark_x', 1], ['the_title', 10, 'mark_y', 1], ['the_title', 10, 'mark_x', 2]],
+    'nest' => [
+        ['the_title', 10, 'nest_first', 1], ['the_title', 11, 'nest_within', 1],
+        ['the_title', 11, 'nest_after', 1], ['the_title', 12, 'nest_last', 1],
+    ],
+    'once' => [['the_title', 10, 'once_first', 1], ['the_title', 11, 'once_again', 1], ['the_title', 12, 'once_last', 1]],
+];
+
+// ---------------------------------------------------------------------------------------------------------- the site
+$posts = [];
+$options = [];
+$active = [];
+
+function load_plugins() {
+    global $plugins, $active, $wp_filter, $wp_actions, $wp_filters, $wp_current_filter, $shortcode_tags;
+    $wp_filter = $wp_actions = $wp_filters = $wp_current_filter = $shortcode_tags = [];
+    add_filter('the_content', 'do_shortcode', 11);
+    ksort($active, SORT_STRING);
+    foreach (array_keys($active) as $name) {
+        foreach ($plugins[$name] as $one) {
+            if (2 === count($one)) { add_shortcode($one[0], $one[1]); } else { add_filter($one[0], $one[2], $one[1], $one[3]); }
+        }
+    }
+}
+function found($path) {
+    global $posts, $options;
+    if (preg_match('~\A/\?p=([0-9]+)\z~', $path, $match)) { return isset($posts[(int) $match[1]]) ? [(int) $match[1]] : []; }
+    $ids = array_keys($posts);
+    usort($ids, fn($a, $b) => strcmp($posts[$b][2], $posts[$a][2]) ?: $b - $a);
+    return array_slice($ids, 0, (int) ($options['posts_per_page'] ?? 10));
+}
+function page($path) {
+    global $posts;
+    $ids = found($path);
+    ob_start();
+    load_plugins();
+    foreach (['plugins_loaded', 'init', 'wp_loaded', 'wp', 'template_redirect', 'wp_head'] as $hook) { do_action($hook); }
+    foreach ($ids as $id) {
+        echo '<h2>', apply_filters('the_title', $posts[$id][0], (string) $id), '</h2>';
+        echo str_replace(']]>', ']]&gt;', apply_filters('the_content', $posts[$id][1]));
+    }
+    do_action('wp_footer');
+    return ob_get_clean();
+}
+
+// Nanoseconds of a pass over so many callbacks that give the value back, the best of many.
+function pass_over($count, $spread) {
+    for ($i = 0; $i < $count; $i++) { add_filter('timed', function ($value) { return $value; }, $spread ? $i : 10, 1); }
+    $times = max(1, intdiv(2000, $count));
+    $best = INF;
+    for ($run = 0; $run < 25; $run++) {
+        $begin = hrtime(true);
+        for ($i = 0; $i < $times; $i++) { apply_filters('timed', 'value'); }
+        $best = min($best, (hrtime(true) - $begin) / $times);
+    }
+    remove_all_filters('timed');
+    return $best;
+}
+
+function reply_to($command) {
+    global $posts, $options, $active;
+    switch ($command['cmd']) {
+        case 'put':
+            $posts[] = [$command['title'] ?? '', $command['content'] ?? '', $command['date']];
+            return 'ok ' . array_key_last($posts) . "\n";
+        case 'option':
+            $options[$command['name']] = $command['value'];
+            return "ok\n";
+        case 'activate':
+            $active[$command['plugin']] = true;
+            return "ok\n";
+        case 'get':
+            $page = page($command['path']);
+            return 'page 200 ' . strlen($page) . "\n$page\n";
+        case 'pass':
+            return 'ok ' . (int) pass_over($command['count'], $command['spread']) . "\n";
+    }
+    return "refused 1 BadCommand\n";
+}
+$posts[0] = null;
+unset($posts[0]);
+while (false !== ($line = fgets(STDIN))) {
+    fwrite(STDOUT, reply_to(json_decode($line, true)));
+}
