@@ -42,14 +42,25 @@ pub fn crowd(
     let mut first = 1u16;
     for name in &NAMES {
         let end = first.saturating_add(EACH).min(last);
-        list.push(Plugin {
-            name: Text::copied(alloc, name)?,
-            load: load(alloc, spread, first, end)?,
-            callbacks: callbacks(alloc, first, end)?,
-        })?;
+        list.push(plugin(alloc, spread, name, first, end)?)?;
         first = end;
     }
     Ok(list)
+}
+
+/// The plugin with the callbacks from `first` to before `end`. On its own, so that few exits of `crowd` drop a list.
+fn plugin(
+    alloc: Global,
+    spread: Spread,
+    name: &str,
+    first: u16,
+    end: u16,
+) -> Result<Plugin<Kept>, AllocError> {
+    Ok(Plugin {
+        name: Text::copied(alloc, name)?,
+        load: load(alloc, spread, first, end)?,
+        callbacks: callbacks(alloc, first, end)?,
+    })
 }
 
 fn load(alloc: Global, spread: Spread, first: u16, end: u16) -> Result<Listed<Change>, AllocError> {

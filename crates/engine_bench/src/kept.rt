@@ -6,7 +6,7 @@ use hook_changes::{Call, CallbackId, Listed, Reply, Text, Then};
 use std::alloc::{AllocError, Global};
 
 /// A callback that gives the value as it came.
-#[derive(Clone, Copy)]
+#[derive(Drop)]
 pub struct Kept {
     id: CallbackId,
 }
