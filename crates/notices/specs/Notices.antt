@@ -28,7 +28,7 @@ notices = record { name = codes "notices"; load = load; callbacks = 1 ∷ 2 ∷ 
 abbrev pub replies : Then → Reply
 replies next = record { changes = []; echo = []; next = next }
 
--- the attributes of [notice], and what each is where it isn't given
+-- the attributes of [notice], and what each is if it isn't given
 abbrev pub defaults : List (Text × Text)
 defaults = (codes "kind", codes "info") ∷ (codes "label", codes "Note") ∷ []
 

@@ -69,7 +69,7 @@ pub fn listed(alloc: Global) -> Result<Listed<Plugin<Callback>>, AllocError>
     Ok(plugins)
 }
 
-/// What each request begins with where the plugin is active.
+/// What each request begins with if the plugin is active.
 fn load(alloc: Global) -> Result<Listed<Change>, AllocError>
     ensures { IfOk result (λ changes. changes ≡ load) }
 {
@@ -143,7 +143,7 @@ fn boxed(alloc: Global, kind: &str, label: &str, content: &str) -> Result<Text, 
     Ok(Text::new(html))
 }
 
-/// A title behind the post's ID, where the filter is told one.
+/// A title after the post's ID, if the filter is given one.
 fn numbered(alloc: Global, args: &[Text]) -> Result<Text, AllocError>
     ensures { IfOk result (λ title. title ≡ numbered args.now) }
 {
