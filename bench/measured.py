@@ -19,6 +19,11 @@ def program_named(words):
     return program
 
 
+def started(words):
+    """The program that the words of a command line name, and whether they ask for the smallest sizes alone."""
+    return program_named([word for word in words if word != "--smoke"]), "--smoke" in words
+
+
 def peak_of(pid, program):
     """Peak memory in kilobytes of the program so far, or 0 before it has taken this process over."""
     try:
