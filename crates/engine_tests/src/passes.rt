@@ -24,7 +24,7 @@ const NO_MEMORY: Answer = Err(RunFault::OutOfMemory);
 
 const NONE: [Load; 2] = [No, No];
 
-static CASES: [Case; 21] = [
+static CASES: [Case; 23] = [
     // A hook that is emptied: the list that the pass reached is run to its end, and the next pass has none.
     Case(
         [Add(10, 101), Add(10, 102), Add(20, 102)],
@@ -209,6 +209,17 @@ static CASES: [Case; 21] = [
         Ok("xr [r"),
     ),
     Case([Tag(102), No, No], NONE, false, 1, Ok(""), Ok(""), TOO_MANY),
+    // The handler of a plugin that isn't active isn't made one, and its shortcode stays plain text.
+    Case([Tag(103), No, No], NONE, false, 2, Ok(""), Ok(""), PLAIN),
+    Case(
+        [Tag(103), No, No],
+        NONE,
+        true,
+        2,
+        Ok(""),
+        Ok(""),
+        Ok("xc [c"),
+    ),
     // No callback, no call.
     Case([No, No, No], NONE, false, 0, Ok(""), Ok(""), PLAIN),
 ];
