@@ -3,7 +3,7 @@ ghost use Rattle.std.specs.Prelude.{◌≡◌, IfOk, OnErr, IfErr, None};
 ghost use Rattle.callback_store.specs.Shape.{shapes_of};
 ghost use Rattle.hook_machine.specs.World.{fresh, loaded};
 ghost use Rattle.hook_machine.specs.Ends.{engine_with};
-ghost use Rattle.hook_machine.specs.Runs.{world_of, fault_of};
+ghost use Rattle.hook_machine.specs.Runs.{world_of, IsReady};
 ghost use Rattle.hook_machine.specs.Runs as runs;
 ghost use Rattle.site_replies.specs.Reply.{answer_of};
 ghost use Rattle.permalink_query.specs.Paths.{query_of};
@@ -106,7 +106,7 @@ fn loaded_run<'p, S: Stated>(
 ) -> Result<Run<'p, S>, RunFault>
     ensures loaded { IfOk result (λ run. world_of run ≡ loaded (shapes_of S.number plugins.entry.now)
         (fresh calls options.now active.now)) }
-    ensures sound { IfOk result (λ run. fault_of run ≡ None) }
+    ensures ready { IfOk result (λ run. IsReady run) }
     ensures engine { IfOk result (λ run. runs.engine_of S.says S.number run
         ≡ engine_with S.says (shapes_of S.number plugins.entry.now)) }
     ensures err { IfErr result (λ fault. fault ≡ RunFault.OutOfMemory) }

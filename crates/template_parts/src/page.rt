@@ -1,6 +1,6 @@
 //! The page of a request.
 ghost use Rattle.std.specs.Prelude.{◌≡◌, None, Err, IfOk, IfErr, OnOk, IfSome};
-ghost use Rattle.hook_machine.specs.Runs.{world_of, fault_of, engine_of};
+ghost use Rattle.hook_machine.specs.Runs.{world_of, fault_of, engine_of, IsIdle};
 ghost use Rattle.template_parts.specs.Pages.{page_pass, IsPage, IsRefusedBy};
 
 use crate::pages::print_page;
@@ -42,6 +42,7 @@ impl<'p, S: Stated> Page<'p, S> {
     /// template over the posts that were found. A page that is refused shows nothing, and a page whose run has answered
     /// a fault answers that fault.
     pub fn finish(self) -> Result<(u16, Vec<u8>), RunFault>
+        requires idle { fault_of (run_in self) ≡ None → IsIdle (run_in self) }
         ensures status { IfOk result (λ page. page.0 ≡ (found_in self.entry).status) }
         ensures bytes { fault_of (run_in self.entry) ≡ None → IfOk result (λ page. IsPage (page_pass
             (engine_of S.says S.number (run_in self.entry)) (settings_in self.entry) (found_in self.entry).posts
@@ -70,6 +71,7 @@ fn printed<S: Stated>(
     settings: &Settings,
     found: &Found,
 ) -> Result<(u16, Vec<u8>), RunFault>
+    requires idle { fault_of run.old ≡ None → IsIdle run.old }
     ensures status { IfOk result (λ page. page.0 ≡ found.now.status) }
     ensures bytes { fault_of run.old ≡ None → IfOk result (λ page. IsPage (page_pass
         (engine_of S.says S.number run.old) settings.now found.now.posts (world_of run.old)) page.1.items) }
@@ -77,19 +79,10 @@ fn printed<S: Stated>(
         (engine_of S.says S.number run.old) settings.now found.now.posts (world_of run.old))) }
     ensures again { IfSome (fault_of run.old) (λ fault. result ≡ Err fault) }
 {
-    kept_fault(run)?;
+    if let Some(fault) = run.fault() {
+        return Err(fault);
+    }
     print_page(alloc, run, settings, found.posts.as_slice())?;
     let text = run.take_output()?;
     Ok((found.status, text.into_string().into_bytes()))
-}
-
-/// The fault that the run has answered before, if any. Each call of a run answers it, and this one does nothing else.
-fn kept_fault<S: Stated>(run: &mut Run<'_, S>) -> Result<(), RunFault>
-    ensures same { fault_of run.old ≡ None → OnOk result (world_of run.new ≡ world_of run.old) }
-    ensures memory { fault_of run.old ≡ None → IfErr result (λ fault. fault ≡ RunFault.OutOfMemory) }
-    ensures sound { OnOk result (fault_of run.new ≡ None) }
-    ensures again { IfSome (fault_of run.old) (λ fault. result ≡ Err fault) }
-    ensures engine { engine_of S.says S.number run.new ≡ engine_of S.says S.number run.old }
-{
-    run.print("")
 }

@@ -1,6 +1,6 @@
 //! Printing a template.
 ghost use Rattle.std.specs.Prelude.{◌≡◌, None, OnOk, option_map};
-ghost use Rattle.hook_machine.specs.Runs.{world_of, fault_of, engine_of};
+ghost use Rattle.hook_machine.specs.Runs.{world_of, engine_of, IsReady};
 ghost use Rattle.hook_machine.specs.Ends.{Ends};
 ghost use Rattle.template_parts.specs.Pages.{item_pass, part_node_pass, stored_part_pass, announced_pass, part_pass, element_pass, elements_pass, loop_pass, node_pass, nodes_pass, page_pass};
 
@@ -23,10 +23,10 @@ pub(crate) fn print_page<S: Stated>(
     settings: &Settings,
     posts: &[Post],
 ) -> Result<(), RunFault>
-    requires { fault_of run.old ≡ None }
+    requires { IsReady run.old }
     ensures ends { Ends (page_pass (engine_of S.says S.number run.old) settings.now posts.now (world_of run.old))
         result (world_of run.new) }
-    ensures sound { OnOk result (fault_of run.new ≡ None) }
+    ensures ready { OnOk result (IsReady run.new) }
     ensures engine { engine_of S.says S.number run.new ≡ engine_of S.says S.number run.old }
 {
     let Ok(actions) = request_actions(alloc) else {
@@ -50,10 +50,10 @@ fn print_nodes<S: Stated>(
     nodes: &[Node],
     posts: &[Post],
 ) -> Result<(), RunFault>
-    requires { fault_of run.old ≡ None }
+    requires { IsReady run.old }
     ensures ends { Ends (nodes_pass (engine_of S.says S.number run.old) settings.now nodes.now posts.now (world_of run.old))
         result (world_of run.new) }
-    ensures sound { OnOk result (fault_of run.new ≡ None) }
+    ensures ready { OnOk result (IsReady run.new) }
     ensures engine { engine_of S.says S.number run.new ≡ engine_of S.says S.number run.old }
 {
     for node in nodes {
@@ -70,10 +70,10 @@ fn print_node<S: Stated>(
     node: &Node,
     posts: &[Post],
 ) -> Result<(), RunFault>
-    requires { fault_of run.old ≡ None }
+    requires { IsReady run.old }
     ensures ends { Ends (node_pass (engine_of S.says S.number run.old) settings.now posts.now (world_of run.old) node.now)
         result (world_of run.new) }
-    ensures sound { OnOk result (fault_of run.new ≡ None) }
+    ensures ready { OnOk result (IsReady run.new) }
     ensures engine { engine_of S.says S.number run.new ≡ engine_of S.says S.number run.old }
 {
     match node {
@@ -90,10 +90,10 @@ fn print_loop<S: Stated>(
     otherwise: &Listed<Element>,
     posts: &[Post],
 ) -> Result<(), RunFault>
-    requires { fault_of run.old ≡ None }
+    requires { IsReady run.old }
     ensures ends { Ends (loop_pass (engine_of S.says S.number run.old) settings.now body.now otherwise.now
         (world_of run.old) posts.now) result (world_of run.new) }
-    ensures sound { OnOk result (fault_of run.new ≡ None) }
+    ensures ready { OnOk result (IsReady run.new) }
     ensures engine { engine_of S.says S.number run.new ≡ engine_of S.says S.number run.old }
 {
     if posts.is_empty() {
@@ -112,10 +112,10 @@ fn print_elements<S: Stated>(
     elements: &[Element],
     post: Option<&Post>,
 ) -> Result<(), RunFault>
-    requires { fault_of run.old ≡ None }
+    requires { IsReady run.old }
     ensures ends { Ends (elements_pass (engine_of S.says S.number run.old) settings.now elements.now
         (option_map (λ p. p.now) post.entry) (world_of run.old)) result (world_of run.new) }
-    ensures sound { OnOk result (fault_of run.new ≡ None) }
+    ensures ready { OnOk result (IsReady run.new) }
     ensures engine { engine_of S.says S.number run.new ≡ engine_of S.says S.number run.old }
 {
     for element in elements {
@@ -132,10 +132,10 @@ fn print_element<S: Stated>(
     element: &Element,
     post: Option<&Post>,
 ) -> Result<(), RunFault>
-    requires { fault_of run.old ≡ None }
+    requires { IsReady run.old }
     ensures ends { Ends (element_pass (engine_of S.says S.number run.old) settings.now
         (option_map (λ p. p.now) post.entry) (world_of run.old) element.now) result (world_of run.new) }
-    ensures sound { OnOk result (fault_of run.new ≡ None) }
+    ensures ready { OnOk result (IsReady run.new) }
     ensures engine { engine_of S.says S.number run.new ≡ engine_of S.says S.number run.old }
 {
     match element {
@@ -152,10 +152,10 @@ fn print_part<S: Stated>(
     part: Part,
     post: Option<&Post>,
 ) -> Result<(), RunFault>
-    requires { fault_of run.old ≡ None }
+    requires { IsReady run.old }
     ensures ends { Ends (part_pass (engine_of S.says S.number run.old) settings.now
         (option_map (λ p. p.now) post.entry) (world_of run.old) part) result (world_of run.new) }
-    ensures sound { OnOk result (fault_of run.new ≡ None) }
+    ensures ready { OnOk result (IsReady run.new) }
     ensures engine { engine_of S.says S.number run.new ≡ engine_of S.says S.number run.old }
 {
     match part {
@@ -188,11 +188,11 @@ fn print_announced<S: Stated>(
     template: Option<&Template>,
     post: Option<&Post>,
 ) -> Result<(), RunFault>
-    requires { fault_of run.old ≡ None }
+    requires { IsReady run.old }
     ensures ends { Ends (announced_pass (engine_of S.says S.number run.old) settings.now hook.now
         (option_map (λ t. t.now) template.entry) (option_map (λ p. p.now) post.entry) (world_of run.old))
         result (world_of run.new) }
-    ensures sound { OnOk result (fault_of run.new ≡ None) }
+    ensures ready { OnOk result (IsReady run.new) }
     ensures engine { engine_of S.says S.number run.new ≡ engine_of S.says S.number run.old }
 {
     run.do_action(hook, &Listed::empty(alloc))?;
@@ -207,11 +207,11 @@ fn print_stored_part<S: Stated>(
     template: Option<&Template>,
     post: Option<&Post>,
 ) -> Result<(), RunFault>
-    requires { fault_of run.old ≡ None }
+    requires { IsReady run.old }
     ensures ends { Ends (stored_part_pass (engine_of S.says S.number run.old) settings.now
         (option_map (λ t. t.now) template.entry) (option_map (λ p. p.now) post.entry) (world_of run.old))
         result (world_of run.new) }
-    ensures sound { OnOk result (fault_of run.new ≡ None) }
+    ensures ready { OnOk result (IsReady run.new) }
     ensures engine { engine_of S.says S.number run.new ≡ engine_of S.says S.number run.old }
 {
     let Some(template) = template else {
@@ -231,10 +231,10 @@ fn print_part_node<S: Stated>(
     node: &Node,
     post: Option<&Post>,
 ) -> Result<(), RunFault>
-    requires { fault_of run.old ≡ None }
+    requires { IsReady run.old }
     ensures ends { Ends (part_node_pass (engine_of S.says S.number run.old) settings.now
         (option_map (λ p. p.now) post.entry) (world_of run.old) node.now) result (world_of run.new) }
-    ensures sound { OnOk result (fault_of run.new ≡ None) }
+    ensures ready { OnOk result (IsReady run.new) }
     ensures engine { engine_of S.says S.number run.new ≡ engine_of S.says S.number run.old }
 {
     match node {
@@ -251,10 +251,10 @@ fn print_item<S: Stated>(
     item: &Item,
     post: Option<&Post>,
 ) -> Result<(), RunFault>
-    requires { fault_of run.old ≡ None }
+    requires { IsReady run.old }
     ensures ends { Ends (item_pass (engine_of S.says S.number run.old) settings.now
         (option_map (λ p. p.now) post.entry) (world_of run.old) item.now) result (world_of run.new) }
-    ensures sound { OnOk result (fault_of run.new ≡ None) }
+    ensures ready { OnOk result (IsReady run.new) }
     ensures engine { engine_of S.says S.number run.new ≡ engine_of S.says S.number run.old }
 {
     match item {

@@ -1,6 +1,6 @@
 //! Printing template tags.
 ghost use Rattle.std.specs.Prelude.{◌≡◌, [], ◌∷◌, None, IfOk, OnOk, option_map, codes, decimal};
-ghost use Rattle.hook_machine.specs.Runs.{world_of, fault_of, engine_of};
+ghost use Rattle.hook_machine.specs.Runs.{world_of, engine_of, IsReady};
 ghost use Rattle.hook_machine.specs.Ends.{Ends};
 ghost use Rattle.hook_machine.specs.Meaning.{filtered};
 ghost use Rattle.page_escapes.specs.Escapes.{ends_escaped, html_escaped};
@@ -25,10 +25,10 @@ pub(crate) fn print_tag<S: Stated>(
     tag: Tag,
     post: Option<&Post>,
 ) -> Result<(), RunFault>
-    requires { fault_of run.old ≡ None }
+    requires { IsReady run.old }
     ensures ends { Ends (tag_pass (engine_of S.says S.number run.old) settings.now
         (option_map (λ p. p.now) post.entry) (world_of run.old) tag) result (world_of run.new) }
-    ensures sound { OnOk result (fault_of run.new ≡ None) }
+    ensures ready { OnOk result (IsReady run.new) }
     ensures engine { engine_of S.says S.number run.new ≡ engine_of S.says S.number run.old }
 {
     match tag {
@@ -48,9 +48,9 @@ fn print_html_escaped<S: Stated>(
     run: &mut Run<'_, S>,
     text: &str,
 ) -> Result<(), RunFault>
-    requires { fault_of run.old ≡ None }
+    requires { IsReady run.old }
     ensures ends { Ends (printed (world_of run.old) (html_escaped text.now)) result (world_of run.new) }
-    ensures sound { OnOk result (fault_of run.new ≡ None) }
+    ensures ready { OnOk result (IsReady run.new) }
     ensures engine { engine_of S.says S.number run.new ≡ engine_of S.says S.number run.old }
 {
     let Ok(escaped) = escape_html(alloc, text) else {
@@ -65,9 +65,9 @@ fn print_ends_escaped<S: Stated>(
     run: &mut Run<'_, S>,
     text: &str,
 ) -> Result<(), RunFault>
-    requires { fault_of run.old ≡ None }
+    requires { IsReady run.old }
     ensures ends { Ends (printed (world_of run.old) (ends_escaped text.now)) result (world_of run.new) }
-    ensures sound { OnOk result (fault_of run.new ≡ None) }
+    ensures ready { OnOk result (IsReady run.new) }
     ensures engine { engine_of S.says S.number run.new ≡ engine_of S.says S.number run.old }
 {
     let Ok(escaped) = escape_ends(alloc, text) else {
@@ -84,10 +84,10 @@ fn print_post_tag<S: Stated>(
     tag: PostTag,
     post: &Post,
 ) -> Result<(), RunFault>
-    requires { fault_of run.old ≡ None }
+    requires { IsReady run.old }
     ensures ends { Ends (post_tag_pass (engine_of S.says S.number run.old) settings.now post.now (world_of run.old) tag)
         result (world_of run.new) }
-    ensures sound { OnOk result (fault_of run.new ≡ None) }
+    ensures ready { OnOk result (IsReady run.new) }
     ensures engine { engine_of S.says S.number run.new ≡ engine_of S.says S.number run.old }
 {
     match tag {
@@ -106,10 +106,10 @@ fn filtered_title<S: Stated>(
     run: &mut Run<'_, S>,
     post: &Post,
 ) -> Result<Text, RunFault>
-    requires { fault_of run.old ≡ None }
+    requires { IsReady run.old }
     ensures ends { Ends (filtered (engine_of S.says S.number run.old) (world_of run.old) (codes "the_title")
         post.now.title (decimal post.now.id ∷ [])) result (world_of run.new) }
-    ensures sound { OnOk result (fault_of run.new ≡ None) }
+    ensures ready { OnOk result (IsReady run.new) }
     ensures engine { engine_of S.says S.number run.new ≡ engine_of S.says S.number run.old }
 {
     let Ok((title, args)) = title_call(alloc, post) else {
@@ -124,10 +124,10 @@ fn print_title<S: Stated>(
     settings: &Settings,
     post: &Post,
 ) -> Result<(), RunFault>
-    requires { fault_of run.old ≡ None }
+    requires { IsReady run.old }
     ensures ends { Ends (title_pass (engine_of S.says S.number run.old) settings.now (λ title. title) post.now (world_of run.old))
         result (world_of run.new) }
-    ensures sound { OnOk result (fault_of run.new ≡ None) }
+    ensures ready { OnOk result (IsReady run.new) }
     ensures engine { engine_of S.says S.number run.new ≡ engine_of S.says S.number run.old }
 {
     let title = filtered_title(alloc, run, post)?;
@@ -140,10 +140,10 @@ fn print_escaped_title<S: Stated>(
     settings: &Settings,
     post: &Post,
 ) -> Result<(), RunFault>
-    requires { fault_of run.old ≡ None }
+    requires { IsReady run.old }
     ensures ends { Ends (title_pass (engine_of S.says S.number run.old) settings.now html_escaped post.now (world_of run.old))
         result (world_of run.new) }
-    ensures sound { OnOk result (fault_of run.new ≡ None) }
+    ensures ready { OnOk result (IsReady run.new) }
     ensures engine { engine_of S.says S.number run.new ≡ engine_of S.says S.number run.old }
 {
     let title = filtered_title(alloc, run, post)?;
@@ -156,10 +156,10 @@ fn print_content<S: Stated>(
     settings: &Settings,
     post: &Post,
 ) -> Result<(), RunFault>
-    requires { fault_of run.old ≡ None }
+    requires { IsReady run.old }
     ensures ends { Ends (content_pass (engine_of S.says S.number run.old) settings.now post.now (world_of run.old))
         result (world_of run.new) }
-    ensures sound { OnOk result (fault_of run.new ≡ None) }
+    ensures ready { OnOk result (IsReady run.new) }
     ensures engine { engine_of S.says S.number run.new ≡ engine_of S.says S.number run.old }
 {
     let Ok(content) = post.content.clone() else {
@@ -174,9 +174,9 @@ fn print_permalink<S: Stated>(
     run: &mut Run<'_, S>,
     post: &Post,
 ) -> Result<(), RunFault>
-    requires { fault_of run.old ≡ None }
+    requires { IsReady run.old }
     ensures ends { Ends (printed (world_of run.old) (permalink post.now)) result (world_of run.new) }
-    ensures sound { OnOk result (fault_of run.new ≡ None) }
+    ensures ready { OnOk result (IsReady run.new) }
     ensures engine { engine_of S.says S.number run.new ≡ engine_of S.says S.number run.old }
 {
     let Ok(path) = permalink(alloc, post) else {

@@ -26,7 +26,7 @@ loop-element-preserved g c =
     let done = subst (λ e. Ends (element_pass e c.args.settings.now (option_map (λ p. p.now) c.args.post) (world_of c.loop-element.run) c.element-item.result) (Ok tt) (world_of c.print_element.new.run)) i.same_engine c.in_ok-print_element.ensures.ends in
     record {
       same_engine = c.in_ok-print_element.ensures.engine ∙ i.same_engine;
-      sound = c.in_ok-print_element.ensures.sound;
+      ready = c.in_ok-print_element.ensures.ready;
       rest = sym (each_step work (world_of c.loop-element.run) (world_of c.print_element.new.run) c.args.elements.now c.loop-element.element-index c.element-item.result c.element-item.result c.loop-element-test.true c.element-item.is done) ∙ i.rest;
     }
 

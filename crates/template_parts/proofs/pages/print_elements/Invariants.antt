@@ -1,5 +1,5 @@
 use Rattle.std.proofs.Common.{◌≡◌, None, drop, option_map}
-use Rattle.hook_machine.specs.Runs.{world_of, fault_of, engine_of}
+use Rattle.hook_machine.specs.Runs.{world_of, IsReady, engine_of}
 use Rattle.hook_machine.specs.Trace.{end_of}
 use Rattle.template_parts.specs.Pages.{each, element_pass}
 use Rattle.template_parts.proofs.pages.print_elements.Given as goal
@@ -11,6 +11,6 @@ invariant-loop-element g l =
     let work = element_pass engine l.fn.settings (option_map (λ p. p.now) l.fn.post) in
     record {
       same_engine : engine_of g.S.Stated.says g.S.Stated.number l.run ≡ engine;
-      sound : fault_of l.run ≡ None;
+      ready : IsReady l.run;
       rest : end_of (each work (world_of l.run) (drop l.element-index l.elements)) ≡ end_of (each work (world_of l.fn.run) l.elements);
     }

@@ -41,7 +41,7 @@ loop-post-preserved g c =
     let done = subst (λ e. Ends (of_post e c.args.settings.now c.args.body.now (world_of c.loop-post.run) c.post-item.result) (Ok tt) later) i.same_engine at_body in
     record {
       same_engine = c.in_ok-print_elements.ensures.engine ∙ i.same_engine;
-      sound = c.in_ok-print_elements.ensures.sound;
+      ready = c.in_ok-print_elements.ensures.ready;
       rest = sym (each_step (of_post engine c.args.settings.now c.args.body.now) (world_of c.loop-post.run) later c.args.posts.now c.loop-post.post-index c.post-item.result c.post-item.result c.loop-post-test.true c.post-item.is done) ∙ i.rest;
     }
 

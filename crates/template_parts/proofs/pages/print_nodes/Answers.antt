@@ -26,7 +26,7 @@ loop-node-preserved g c =
     let done = subst (λ e. Ends (node_pass e c.args.settings.now c.args.posts.now (world_of c.loop-node.run) c.node-item.result) (Ok tt) (world_of c.print_node.new.run)) i.same_engine c.in_ok-print_node.ensures.ends in
     record {
       same_engine = c.in_ok-print_node.ensures.engine ∙ i.same_engine;
-      sound = c.in_ok-print_node.ensures.sound;
+      ready = c.in_ok-print_node.ensures.ready;
       rest = sym (each_step work (world_of c.loop-node.run) (world_of c.print_node.new.run) c.args.nodes.now c.loop-node.node-index c.node-item.result c.node-item.result c.loop-node-test.true c.node-item.is done) ∙ i.rest;
     }
 

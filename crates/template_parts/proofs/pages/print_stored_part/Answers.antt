@@ -26,7 +26,7 @@ loop-node-preserved g c =
     let done = subst (λ e. Ends (part_node_pass e c.args.settings.now (option_map (λ p. p.now) c.args.post) (world_of c.loop-node.run) c.node-item.result) (Ok tt) (world_of c.print_part_node.new.run)) i.same_engine c.in_ok-print_part_node.ensures.ends in
     record {
       same_engine = c.in_ok-print_part_node.ensures.engine ∙ i.same_engine;
-      sound = c.in_ok-print_part_node.ensures.sound;
+      ready = c.in_ok-print_part_node.ensures.ready;
       rest = sym (each_step work (world_of c.loop-node.run) (world_of c.print_part_node.new.run) c.as_slice-node-items.result.now c.loop-node.node-index c.node-item.result c.node-item.result c.loop-node-test.true c.node-item.is done) ∙ i.rest;
     }
 

@@ -1,5 +1,5 @@
 use Rattle.std.proofs.Common.{◌≡◌, None, drop, option_map}
-use Rattle.hook_machine.specs.Runs.{world_of, fault_of, engine_of}
+use Rattle.hook_machine.specs.Runs.{world_of, IsReady, engine_of}
 use Rattle.hook_machine.specs.Trace.{end_of}
 use Rattle.template_parts.specs.Pages.{each, part_node_pass}
 use Rattle.template_parts.proofs.pages.print_stored_part.Given as goal
@@ -11,6 +11,6 @@ invariant-loop-node g l =
     let work = part_node_pass engine l.fn.settings (option_map (λ p. p.now) l.fn.post) in
     record {
       same_engine : engine_of g.S.Stated.says g.S.Stated.number l.run ≡ engine;
-      sound : fault_of l.run ≡ None;
+      ready : IsReady l.run;
       rest : end_of (each work (world_of l.run) (drop l.node-index l.node-items)) ≡ end_of (each work (world_of l.fn.run) l.node-items);
     }

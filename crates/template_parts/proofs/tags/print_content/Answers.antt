@@ -6,9 +6,9 @@ use Rattle.template_parts.proofs.tags.print_content.Goals as goal
 pub returns-in_err-value-clause-ends : goal.returns-in_err-value-clause-ends
 returns-in_err-value-clause-ends g c =
     let p = err_from_is_err_and c.from_residual.result c.from_residual.ensures.1 in
-    rw (p.1, p.2) (shown_refused _ _ _ _ _ _ _ _ _ _ _ _ c.in-Ok.ensures c.empty.ensures (c.in_err-value.ensures.filtered c.requires))
+    rw (p.1, p.2) (shown_refused _ _ _ _ _ _ _ _ _ _ _ _ c.in-Ok.ensures c.empty.ensures (c.in_err-value.ensures.filtered c.requires.0))
 
 -- the filter gave a value, and it was printed escaped
 pub returns-clause-ends : goal.returns-clause-ends
 returns-clause-ends g c =
-    shown_by _ _ _ _ _ _ _ _ _ _ _ _ _ _ c.in-Ok.ensures c.empty.ensures (c.in_ok-value.ensures.filtered c.requires) c.as_str.ensures c.print_ends_escaped.ensures.ends
+    shown_by _ _ _ _ _ _ _ _ _ _ _ _ _ _ c.in-Ok.ensures c.empty.ensures (c.in_ok-value.ensures.filtered c.requires.0) c.as_str.ensures c.print_ends_escaped.ensures.ends

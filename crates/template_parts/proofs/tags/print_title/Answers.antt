@@ -13,4 +13,4 @@ returns-in_err-title-clause-ends g c =
 pub returns-clause-ends : goal.returns-clause-ends
 returns-clause-ends g c =
     shown_ends _ _ _ _ _ _ _ _ _ _ _ _ _ _ refl refl (c.in_ok-title.ensures.ends) c.as_str.ensures
-    (c.print.ensures.printed c.in_ok-title.ensures.sound) (c.print.ensures.memory c.in_ok-title.ensures.sound)
+    (c.print.ensures.printed c.in_ok-title.ensures.ready.0) (c.print.ensures.memory c.in_ok-title.ensures.ready.0)

@@ -22,7 +22,7 @@ returns-clause-ok g c =
     let same_engine = ap (runs.engine_of g.S.Stated.says g.S.Stated.number) begin.run ∙ run.engine in
     let work =
     work_is engine (calls_of c.args.self.now) c.args.found c.args.options.now c.args.templates.now c.args.active.now _ _ _ _ same_engine (begin.settings ∙ c.in-Ok.ensures) begin.found (ap world_of begin.run ∙ run.loaded) in
-    subst (λ w. IfOk c.finish.result (λ page. IsPage w page.1.items)) work (c.finish.ensures.bytes (ap fault_of begin.run ∙ run.sound))
+    subst (λ w. IfOk c.finish.result (λ page. IsPage w page.1.items)) work (c.finish.ensures.bytes (ap fault_of begin.run ∙ run.ready.0))
 
 -- the page was refused as what was found
 pub returns-clause-err : goal.returns-clause-err
@@ -33,4 +33,4 @@ returns-clause-err g c =
     let same_engine = ap (runs.engine_of g.S.Stated.says g.S.Stated.number) begin.run ∙ run.engine in
     let work =
     work_is engine (calls_of c.args.self.now) c.args.found c.args.options.now c.args.templates.now c.args.active.now _ _ _ _ same_engine (begin.settings ∙ c.in-Ok.ensures) begin.found (ap world_of begin.run ∙ run.loaded) in
-    subst (λ w. IfErr c.finish.result (IsRefusedBy w)) work (c.finish.ensures.err (ap fault_of begin.run ∙ run.sound))
+    subst (λ w. IfErr c.finish.result (IsRefusedBy w)) work (c.finish.ensures.err (ap fault_of begin.run ∙ run.ready.0))
