@@ -4,3 +4,4 @@ pub mod MatchLemmas
 pub mod PieceLemmas
 pub mod MemoryLemmas
 pub mod SpanLemmas
+mod OpenedLemmas

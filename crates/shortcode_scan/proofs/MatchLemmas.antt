@@ -1,5 +1,5 @@
 -- Where a match stands: from its place on, within the text.
-use Rattle.std.proofs.Common.{◌≡◌, ℕ, ◌+◌, ◌<◌, ◌≤◌, false, List, length, Option, Some, None, refl, sym, ◌∙◌, subst, arith, inl, inr}
+use Rattle.std.proofs.Common.{◌≡◌, ℕ, ◌+◌, ◌<◌, ◌≤◌, false, List, [], length, Option, Some, None, refl, sym, ◌∙◌, subst, arith, inl, inr}
 use Rattle.std.specs.Prelude.{◌==◌, slice_index, nat_lt, ◌&&◌, ◌-◌}
 use Rattle.std.proofs.lemmas.List.{get_or_past}
 use Rattle.std.proofs.lemmas.Bool.{cases_lt, cond_both, false≢true}
@@ -14,7 +14,7 @@ use Rattle.shortcode_atts.specs.Steps.{◌>>=◌}
 use Rattle.shortcode_atts.proofs.StepLemmas.{bind_some, only_if-some}
 use Rattle.shortcode_scan.specs.Matches.{closing_tag, closing_from, is_doubled, core_of, without_content, with_closing, name_start, name_at, bracket_from, with_extras, match_at, span}
 use Rattle.shortcode_scan.specs.Pieces.{start_of, end_of}
-use Rattle.shortcode_scan.proofs.PlaceLemmas.{first_place-some}
+use Rattle.shortcode_scan.proofs.PlaceLemmas.{first_place-some, first_place-none_later}
 
 -- a piece that is a match
 abbrev IsMatch : Piece → Type 0
@@ -107,3 +107,28 @@ module _ (names : List (List ℕ)) (text : List ℕ) where
       let ends = core_ends text name (start + length name) r h.below in
       subst (LiesAt text i) (same_Some _ p c.2)
       (with_extras-lies text i (span start (start + length name)) (core_of text name (start + length name) r) (omega (arith, after, h.low_le, ends.0)) ends.1)
+
+-- no name is at a place if there are no names
+name_at-unnamed : (text : List ℕ) (j : ℕ) → name_at [] text j ≡ None
+unfolding name_at
+name_at-unnamed text j = refl
+
+no_step : {A B : Type 0} (o : Option A) (f : A → Option B) → ((x : A) → f x ≡ None) → (o >>= f) ≡ None
+no_step None f h = refl
+no_step (Some x) f h = h x
+
+pub match_at-unnamed : (text : List ℕ) (i : ℕ) → match_at [] text i ≡ None
+unfolding match_at
+match_at-unnamed text i = no_step (name_start text i) _ (λ start. rw (name_at-unnamed text start) refl)
+
+module _ (names : List (List ℕ)) (text : List ℕ) where
+  -- no match begins where no `]` follows
+  pub match_at-unended : (first i : ℕ) → first ≤ i → bracket_from text first ≡ None → (o : Option Piece) → match_at names text i ≡ o → o ≡ None
+  unfolding match_at
+  match_at-unended first i le none None e = refl
+  match_at-unended first i le none (Some p) e =
+      let a = bind_some (name_start text i) _ p e in
+      let b = bind_some (name_at names text a.0) _ p a.2 in
+      let c = bind_some (bracket_from text (a.0 + length b.0)) _ p b.2 in
+      let after = name_start-after text i a.0 a.1 in
+      absurd (none-some c.0 (sym (first_place-none_later (λ k. slice_index text k == 93) first (a.0 + length b.0) (length text) (omega (arith, after)) none) ∙ c.1))

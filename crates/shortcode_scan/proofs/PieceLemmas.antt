@@ -12,10 +12,10 @@ use Rattle.shortcode_scan.specs.declared.Piece.TheVariants.{Plain, Match}
 use Rattle.shortcode_atts.specs.Steps.{◌>>=◌}
 use Rattle.shortcode_atts.proofs.StepLemmas.{bind_some}
 use Rattle.shortcode_scan.specs.Places.{first_place}
-use Rattle.shortcode_scan.specs.Matches.{match_at, span}
+use Rattle.shortcode_scan.specs.Matches.{bracket_from, match_at, span}
 use Rattle.shortcode_scan.specs.Pieces.{plain_between, NoMatch, PiecesFrom, IsPieces, match_from, pieces_within, pieces_of, BeginsNotPlain, start_of, end_of, joined}
 use Rattle.shortcode_scan.proofs.PlaceLemmas.{first_place-some, first_place-none_is}
-use Rattle.shortcode_scan.proofs.MatchLemmas.{match_at-elsewhere, match_at-within, match_at-not_plain, match_at-lies}
+use Rattle.shortcode_scan.proofs.MatchLemmas.{match_at-elsewhere, match_at-unended, match_at-unnamed, match_at-within, match_at-not_plain, match_at-lies}
 
 module _ (names : List (List ℕ)) (text : List ℕ) where
   pub NoMatch-join : (i j k : ℕ) → NoMatch names text i j → NoMatch names text j k → NoMatch names text i k
@@ -30,6 +30,11 @@ module _ (names : List (List ℕ)) (text : List ℕ) where
 
   pub NoMatch-without : (i n : ℕ) → first_place (λ j. slice_index text j == 91) i n ≡ None → NoMatch names text i n
   NoMatch-without i n e = λ j a b. match_at-elsewhere names text j (first_place-none_is (λ j. slice_index text j == 91) i n e j a b)
+
+  -- nor from a place on that no `]` follows
+  pub NoMatch-unended : (i first n : ℕ) → first_place (λ j. slice_index text j == 91) i (length text) ≡ Some first → bracket_from text first ≡ None → NoMatch names text i n
+  NoMatch-unended i first n e none =
+      λ j a b. elim (cases_lt j first) [ inl lt ↦ NoMatch-before i (length text) first e j a lt | inr le ↦ match_at-unended names text first j le none _ refl ]
 
   -- one more match
   pub PiecesFrom-match : (i : ℕ) (p : Piece) (ps : List Piece) → match_at names text i ≡ Some p → PiecesFrom names text (end_of p) ps → PiecesFrom names text i (p ∷ ps)
@@ -95,6 +100,10 @@ module _ (names : List (List ℕ)) (text : List ℕ) where
       let starts : s.start ≡ t.start = g.0 ∙ sym h.0 in
       let rest = one_list s.end ps qs g.4 (subst (λ e. PiecesFrom names text e qs) (sym ends) h.4) in
       λ k. Plain (record { start = starts k; end = ends k }) ∷ rest k
+
+-- a text is one plain piece if there are no names
+pub IsPieces-unnamed : (text : List ℕ) → IsPieces [] text (plain_between 0 (length text))
+IsPieces-unnamed text = IsPieces-end [] text [] 0 (omega arith) (λ k a b. match_at-unnamed text k) (λ rest h. h)
 
 no_value : {A : Type 0} (o : Option A) → is_some o ≡ false → o ≡ None
 no_value None e = refl

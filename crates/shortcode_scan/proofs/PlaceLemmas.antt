@@ -177,3 +177,7 @@ module _ (test : ℕ → Bool) (low later high : ℕ) (le : low ≤ later) where
   pub first_place-covered : (r : Option ℕ) → r ≡ first_place test low high → IfSome r (λ k. later ≤ k) → r ≡ first_place test later high
   first_place-covered None e h = sym (first_place-none_later (sym e))
   first_place-covered (Some k) e h = sym (first_place-later k h (sym e))
+
+-- no place is before the end and from the end on
+pub first_place-past : (test : ℕ → Bool) (high : ℕ) → first_place test high high ≡ None
+first_place-past test high = first_place-none test high high (λ j a b. absurd (omega arith))

@@ -1,5 +1,5 @@
 -- What a scan knows of places ahead.
-use Rattle.std.specs.Prelude.{◌≡◌, ℕ, ◌<◌, List, [], false, length, map, bytes_eq, slice_index_or}
+use Rattle.std.specs.Prelude.{◌≡◌, ℕ, ◌<◌, List, [], None, false, length, map, bytes_eq, slice_index_or}
 use Rattle.std.specs.List.{list_any}
 use Rattle.memchr.specs.Find.{occurs_at}
 use Rattle.shortcode_scan.specs.declared.ahead.Ahead.{Ahead}
@@ -11,9 +11,9 @@ use Rattle.shortcode_scan.specs.Matches.{bracket_from, closing_tag}
 abbrev pub IsAheadOf : List ℕ → List ℕ → Ahead → Type 0
 IsAheadOf text tag a = a.next ≡ first_place (occurs_at text tag) a.from (length text)
 
--- what a search for a tag from the front on finds
-abbrev pub from_front : List ℕ → List ℕ → Ahead
-from_front text tag = record { from = 0; next = first_place (occurs_at text tag) 0 (length text) }
+-- what is known before a search: nothing begins at the text's end
+abbrev pub unsearched : List ℕ → Ahead
+unsearched text = record { from = length text; next = None }
 
 -- none of the names is empty
 abbrev pub IsNamed : List (List ℕ) → Type 0

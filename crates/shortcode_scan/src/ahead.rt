@@ -3,7 +3,7 @@ ghost use Rattle.std.specs.Prelude.{◌≡◌, ◌+◌, ◌<◌, ◌≤◌, ◌+
 ghost use Rattle.memchr.specs.Find.{occurs_at};
 ghost use Rattle.shortcode_scan.specs.Places.{first_place};
 ghost use Rattle.shortcode_scan.specs.Matches.{bracket_from, closing_tag};
-ghost use Rattle.shortcode_scan.specs.Memory.{IsAheadOf, Knows, from_front};
+ghost use Rattle.shortcode_scan.specs.Memory.{IsAheadOf, Knows, unsearched};
 
 use crate::places::{bracket_from, closing_tag, tag_from};
 use hook_changes::TagName;
@@ -29,6 +29,16 @@ pub(crate) struct Memory {
 }
 
 impl Ahead {
+    /// What is known where no search was made: that nothing begins at the end of the text.
+    fn unsearched(text: &[u8]) -> Ahead
+        ensures { result ≡ unsearched text.now }
+    {
+        Ahead {
+            from: text.len(),
+            next: None,
+        }
+    }
+
     /// Whether it answers a search from the place on too.
     fn covers(&self, from: usize) -> bool
         ensures { IsTrue result → (self.now.from ≤ from) × IfSome self.now.next (λ k. from ≤ k) }
@@ -83,7 +93,7 @@ pub(crate) fn next_closing(
     ahead.next
 }
 
-/// Adds the search for the closing tag of a name, and what it finds from the front of the text on.
+/// Adds the search for the closing tag of a name, which has not begun.
 fn push_search(
     alloc: Global,
     name: &[u8],
@@ -92,17 +102,14 @@ fn push_search(
     closings: &mut Vec<Ahead>,
 ) -> Result<(), AllocError>
     ensures tags { OnOk result (tags.new.items ≡ tags.old.items ++ closing_tag name.now ∷ []) }
-    ensures closings { OnOk result (closings.new.items ≡ closings.old.items
-        ++ from_front text.now (closing_tag name.now) ∷ []) }
+    ensures closings { OnOk result (closings.new.items ≡ closings.old.items ++ unsearched text.now ∷ []) }
 {
-    let tag = closing_tag(alloc, name)?;
-    let next = tag_from(text, &tag, 0);
-    tags.push(tag)?;
-    closings.push(Ahead { from: 0, next })?;
+    tags.push(closing_tag(alloc, name)?)?;
+    closings.push(Ahead::unsearched(text))?;
     Ok(())
 }
 
-/// What the first searches, from the front of the text, find.
+/// What is known before the first search.
 pub(crate) fn first_memory(
     alloc: Global,
     names: &[TagName],
@@ -116,12 +123,8 @@ pub(crate) fn first_memory(
         let name = name.as_str().as_bytes();
         push_search(alloc, name, text, &mut tags, &mut closings)?;
     }
-    let bracket = Ahead {
-        from: 0,
-        next: bracket_from(text, 0),
-    };
     Ok(Memory {
-        bracket,
+        bracket: Ahead::unsearched(text),
         tags,
         closings,
     })

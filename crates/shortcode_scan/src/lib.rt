@@ -11,6 +11,8 @@ ghost use Rattle.shortcode_scan.specs.Pieces.{IsPieces, pieces_of, joined};
 ghost use Rattle.shortcode_scan.specs.Live.{live};
 
 use hook_changes::TagName;
+use live_names::{live_few, live_many};
+use places::opening_from;
 use std::alloc::{AllocError, Global};
 
 mod ahead;
@@ -48,6 +50,10 @@ pub enum Piece {
     },
 }
 
+/// The largest number of names that are searched for one by one: for a few that is faster than to collect what a text
+/// opens.
+const FEW_NAMES: usize = 8;
+
 /// The names that the text opens, in the order of `names`: those that stand in it as `[` and the name, followed by the
 /// end or by one of `<`, `>`, `&`, `/`, `[`, `]`, `=` and the bytes up to the space (Shortcode API, do_shortcode).
 ///
@@ -55,13 +61,15 @@ pub enum Piece {
 pub fn live(alloc: Global, names: &[TagName], text: &str) -> Result<Vec<TagName>, AllocError>
     ensures { IfOk result (λ found. found.items ≡ live names.now text.now) }
 {
-    let mut found = Vec::new(alloc);
-    for name in names {
-        if live_names::is_live(alloc, text.as_bytes(), name.as_str().as_bytes())? {
-            found.push(name.clone()?)?;
-        }
+    let text = text.as_bytes();
+    if opening_from(text, 0).is_none() {
+        return Ok(Vec::new(alloc));
     }
-    Ok(found)
+    if names.len() <= FEW_NAMES {
+        live_few(alloc, names, text)
+    } else {
+        live_many(alloc, names, text)
+    }
 }
 
 /// The pieces of the text, where `live` are the names that count (Shortcode API, get_shortcode_regex): from its first

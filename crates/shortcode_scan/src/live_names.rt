@@ -1,8 +1,12 @@
 //! The names that a text opens.
-ghost use Rattle.std.specs.Prelude.{◌≡◌, ◌<◌, ◌≤◌, length, IfOk};
-ghost use Rattle.shortcode_scan.specs.Live.{ends_name, has_opening, is_live, is_name_end};
+ghost use Rattle.std.specs.Prelude.{◌≡◌, ◌<◌, ◌≤◌, ◌==◌, true, length, slice_index, option_map, IfOk};
+ghost use Rattle.shortcode_scan.specs.Live.{ends_name, has_opening, is_live, is_name_end, live};
+ghost use Rattle.shortcode_scan.specs.Opened.{is_among, name_opened, AreOpened};
 
-use crate::places::{opening, tag_from};
+use crate::matches::name_len;
+use crate::places::{opening, opening_from, tag_from};
+use hook_changes::TagName;
+use indexmap::IndexSet;
 use memchr::memmem::Finder;
 use std::alloc::{AllocError, Global};
 
@@ -46,4 +50,69 @@ pub(crate) fn is_live(alloc: Global, text: &[u8], name: &[u8]) -> Result<bool, A
 {
     let opening = opening(alloc, name)?;
     Ok(has_opening(text, &opening))
+}
+
+/// Those of the names that the text opens, each searched for by itself: the text is gone over once for each.
+pub(crate) fn live_few(
+    alloc: Global,
+    names: &[TagName],
+    text: &[u8],
+) -> Result<Vec<TagName>, AllocError>
+    ensures { IfOk result (λ found. found.items ≡ live names.now text.now) }
+{
+    let mut found = Vec::new(alloc);
+    for name in names {
+        if is_live(alloc, text, name.as_str().as_bytes())? {
+            found.push(name.clone()?)?;
+        }
+    }
+    Ok(found)
+}
+
+/// What a `[` opens: the bytes of names that follow it, if there are some and a name may end where they do.
+#[tactic(auto, unfolding(crate::specs::Opened::name_opened))]
+fn name_opened(text: &[u8], at: usize) -> Option<&[u8]>
+    requires { at < length text.now }
+    ensures { option_map (λ name. name.now) result ≡ name_opened text.now at }
+{
+    let rest = &text[at + 1..];
+    let len = name_len(rest);
+    if 0 < len && is_name_end(text, at + 1 + len) {
+        Some(&rest[..len])
+    } else {
+        None
+    }
+}
+
+/// The names that a text opens, each once: the text is gone over once, however many names are looked for among them.
+fn opened(alloc: Global, text: &[u8]) -> Result<IndexSet<&[u8]>, AllocError>
+    ensures { IfOk result (λ names. AreOpened text.now names.keys) }
+{
+    let mut names = IndexSet::new(alloc);
+    let mut at = 0;
+    'search: while let Some(open) = opening_from(text, at) {
+        if let Some(name) = name_opened(text, open) {
+            names.insert(name)?;
+        }
+        at = open + 1;
+    }
+    Ok(names)
+}
+
+/// Those of the names that the text opens, each looked up among all that it opens.
+pub(crate) fn live_many(
+    alloc: Global,
+    names: &[TagName],
+    text: &[u8],
+) -> Result<Vec<TagName>, AllocError>
+    ensures { IfOk result (λ found. found.items ≡ live names.now text.now) }
+{
+    let opened = opened(alloc, text)?;
+    let mut found = Vec::new(alloc);
+    for name in names {
+        if opened.contains(name.as_str().as_bytes()) {
+            found.push(name.clone()?)?;
+        }
+    }
+    Ok(found)
 }

@@ -1,5 +1,6 @@
 //! The shortcodes of a text, leftmost first.
-ghost use Rattle.std.specs.Prelude.{◌≡◌, ◌+◌, ◌<◌, ◌≤◌, ◌++◌, [], true, false, None, Some, bytes_eq, length, slice_index_or, slice_range, IfNone, IfOk, IfSome, OnOk};
+ghost use Rattle.std.specs.Prelude.{◌≡◌, ◌+◌, ◌<◌, ◌≤◌, ◌++◌, [], true, false, None};
+ghost use Rattle.std.specs.Prelude.{Some, bytes_eq, length, slice_index_or, slice_range, IfNone, IfOk, IfSome, OnOk};
 ghost use Rattle.std.specs.List.{list_any, prefix_len};
 ghost use Rattle.shortcode_atts.specs.NameByte.{is_name_byte};
 ghost use Rattle.shortcode_scan.specs.Memory.{IsAheadOf, IsNamed, Knows};
@@ -78,7 +79,7 @@ fn name_at(names: &[TagName], text: &[u8], start: usize) -> Option<Name>
 }
 
 /// How many bytes of a name stand at the front.
-fn name_len(rest: &[u8]) -> usize
+pub(crate) fn name_len(rest: &[u8]) -> usize
     ensures value { result ≡ prefix_len is_name_byte rest.now }
     ensures within { result ≤ length rest.now }
 {
@@ -218,7 +219,7 @@ fn match_at(names: &[TagName], text: &[u8], memory: &mut Memory, at: usize) -> O
     Some(with_extras(text, at, Span { start, end }, core))
 }
 
-/// The first match from a place on.
+/// The first match from a place on. Where no `]` is ahead no shortcode ends, and the search is over.
 fn next_match(names: &[TagName], text: &[u8], memory: &mut Memory, from: usize) -> Option<Found>
     requires in_text { from ≤ length text.now }
     requires known { Knows names.now text.now memory.old }
@@ -232,6 +233,7 @@ fn next_match(names: &[TagName], text: &[u8], memory: &mut Memory, from: usize) 
 {
     let mut at = from;
     'search: while let Some(open) = opening_from(text, at) {
+        next_bracket(text, &mut memory.bracket, open)?;
         if let Some(found) = match_at(names, text, memory, open) {
             return Some(found);
         }
@@ -254,8 +256,12 @@ fn push_plain(pieces: &mut Vec<Piece>, start: usize, end: usize) -> Result<(), A
 pub(crate) fn cut(alloc: Global, live: &[TagName], bytes: &[u8]) -> Result<Vec<Piece>, AllocError>
     ensures { IfOk result (λ pieces. IsPieces live.now bytes.now pieces.items) }
 {
-    let mut memory = first_memory(alloc, live, bytes)?;
     let mut pieces = Vec::new(alloc);
+    if live.is_empty() {
+        push_plain(&mut pieces, 0, bytes.len())?;
+        return Ok(pieces);
+    }
+    let mut memory = first_memory(alloc, live, bytes)?;
     push_pieces(live, bytes, &mut memory, &mut pieces)?;
     Ok(pieces)
 }

@@ -1,5 +1,5 @@
-use Rattle.std.proofs.Common.{sym, arith}
-use Rattle.shortcode_scan.proofs.PieceLemmas.{NoMatch-before, NoMatch-without, NoMatch-join, NoMatch-one}
+use Rattle.std.proofs.Common.{length, sym, arith}
+use Rattle.shortcode_scan.proofs.PieceLemmas.{NoMatch-before, NoMatch-without, NoMatch-unended, NoMatch-join, NoMatch-one}
 use Rattle.shortcode_scan.proofs.matches.next_match.Goals as goal
 
 pub returns-in-Some-match_at-clause-before : goal.returns-in-Some-match_at-clause-before
@@ -27,3 +27,10 @@ returns-clause-none c =
     let names = c.args.names.now in
     let text = c.args.text.now in
     NoMatch-join names text _ _ _ c.search.invariant.2 (NoMatch-without names text _ _ (sym c.in_default.ensures.value))
+
+pub returns-in_err-next_bracket-clause-none : goal.returns-in_err-next_bracket-clause-none
+returns-in_err-next_bracket-clause-none c =
+    let names = c.args.names.now in
+    let text = c.args.text.now in
+    let none = NoMatch-unended names text _ _ (length text) (sym c.in-Some.ensures.value) (sym c.in_err-next_bracket.ensures.value) in
+    rw c.from_residual.ensures (NoMatch-join names text _ _ _ c.search.invariant.2 none)
