@@ -1,6 +1,6 @@
 -- The items of a text: each leaves a shorter rest, and one list of items alone stands in a text.
 use Rattle.std.proofs.Common.{◌≡◌, ℕ, zero, suc, ◌+◌, ◌<◌, ◌≤◌, Bool, true, false, not, List, [], ◌∷◌, length, drop, Option, Some, None, refl, sym, ap, ◌∙◌, subst, arith, length-drop}
-use Rattle.std.specs.Prelude.{◌==◌, take_while, nat_lt}
+use Rattle.std.specs.Prelude.{◌==◌, take_while, nat_lt, option_map}
 use Rattle.std.specs.List.{prefix_len}
 use Rattle.std.specs.Option.{option_or, option_map_or}
 use Rattle.std.proofs.lemmas.Bool.{cond_both, ltb-true, cond-true, not-false, not_from_false, lt-ltb, false≢true}
@@ -10,6 +10,7 @@ use Rattle.shortcode_atts.specs.declared.items.Form.{Form}
 use Rattle.shortcode_atts.specs.declared.items.Form.TheVariants.{Quoted, Bare, Word}
 use Rattle.shortcode_atts.specs.Steps.{◌>>=◌, only_if}
 use Rattle.shortcode_atts.proofs.StepLemmas.{bind_some, only_if-some}
+use Rattle.shortcode_atts.specs.Found.{first_of}
 use Rattle.shortcode_atts.specs.NameByte.{is_name_byte}
 use Rattle.shortcode_atts.specs.Items.{is_white, is_word_char, is_bare_char, after_run, skip_white, after_char, is_ended, run_at, quoted_at, spelled_at, value_at, Item, named_at, single_at, item_at, IsItems, items_within, items_of}
 
@@ -197,3 +198,56 @@ item_at-nil = refl
 pub one_list_of_items : (cs : List ℕ) (its : List Item) → IsItems cs its → its ≡ items_of cs
 one_list_of_items cs [] h = sym (items_of-none cs (ap item_at h ∙ item_at-nil))
 one_list_of_items cs (it ∷ its) h = ap (λ rest. it ∷ rest) (one_list_of_items it.rest its h.1) ∙ sym (items_of-some cs it h.0)
+
+-- a value with a name, at the front
+abbrev pub valued_at : List ℕ → List ℕ → Form → Option Item
+valued_at name cs form = option_map (λ v. record { name = Some name; value = v.0; rest = v.1 }) (value_at form cs)
+
+-- what follows a name, which is the same in all forms: an equals sign, and then a value in the first of the forms that fits
+abbrev pub after_sign : List Form → List ℕ → List ℕ → Option Item
+after_sign forms name rest = first_of (λ form. valued_at name (skip_white rest) form) forms
+
+abbrev after_name : List Form → List ℕ × List ℕ → Option Item
+after_name forms name = after_char 61 (skip_white name.1) >>= after_sign forms name.0
+
+first_of-none : (forms : List Form) → first_of (λ form. None) forms ≡ None
+first_of-none [] = refl
+first_of-none (form ∷ forms) = first_of-none forms
+
+first_of-bind : {A : Type 0} (o : Option A) (f : Form → A → Option Item) (forms : List Form)
+    → first_of (λ form. o >>= f form) forms ≡ (o >>= λ x. first_of (λ form. f form x) forms)
+first_of-bind None f forms = first_of-none forms
+first_of-bind (Some x) f forms = refl
+
+bind-map : {A B : Type 0} (o : Option A) (k : A → B) → (o >>= λ x. Some (k x)) ≡ option_map k o
+bind-map None k = refl
+bind-map (Some x) k = refl
+
+named_at-is : (form : Form) (cs : List ℕ)
+    → named_at form cs ≡ (run_at is_name_byte cs >>= λ name. after_char 61 (skip_white name.1) >>= λ rest. valued_at name.0 (skip_white rest) form)
+unfolding named_at
+named_at-is form cs i =
+    run_at is_name_byte cs >>= λ name. after_char 61 (skip_white name.1)
+    >>= λ rest. bind-map (value_at form (skip_white rest)) (λ v. record { name = Some name.0; value = v.0; rest = v.1 }) i
+
+first_named-is : (forms : List Form) (cs : List ℕ) → first_of (λ form. named_at form cs) forms ≡ (run_at is_name_byte cs >>= after_name forms)
+first_named-is forms cs =
+    (λ i. first_of (λ form. named_at-is form cs i) forms)
+    ∙ first_of-bind (run_at is_name_byte cs) (λ form name. after_char 61 (skip_white name.1) >>= λ rest. valued_at name.0 (skip_white rest) form) forms
+    ∙ (λ i. run_at is_name_byte cs >>= λ name. first_of-bind (after_char 61 (skip_white name.1)) (λ form rest. valued_at name.0 (skip_white rest) form) forms i)
+
+-- the same, part by part
+pub no_name : (forms : List Form) (cs : List ℕ) → None ≡ run_at is_name_byte cs → None ≡ first_of (λ form. named_at form cs) forms
+no_name forms cs e = ap (λ o. o >>= after_name forms) e ∙ sym (first_named-is forms cs)
+
+with_name : (forms : List Form) (cs : List ℕ) (name : List ℕ × List ℕ) → Some name ≡ run_at is_name_byte cs
+    → after_name forms name ≡ first_of (λ form. named_at form cs) forms
+with_name forms cs name e = ap (λ o. o >>= after_name forms) e ∙ sym (first_named-is forms cs)
+
+pub no_sign : (forms : List Form) (cs : List ℕ) (name : List ℕ × List ℕ) → Some name ≡ run_at is_name_byte cs
+    → None ≡ after_char 61 (skip_white name.1) → None ≡ first_of (λ form. named_at form cs) forms
+no_sign forms cs name e f = ap (λ o. o >>= after_sign forms name.0) f ∙ with_name forms cs name e
+
+pub with_sign : (forms : List Form) (cs : List ℕ) (name : List ℕ × List ℕ) (rest : List ℕ) → Some name ≡ run_at is_name_byte cs
+    → Some rest ≡ after_char 61 (skip_white name.1) → after_sign forms name.0 rest ≡ first_of (λ form. named_at form cs) forms
+with_sign forms cs name rest e f = ap (λ o. o >>= after_sign forms name.0) f ∙ with_name forms cs name e

@@ -1,10 +1,12 @@
 //! The items of an attribute text.
-ghost use Rattle.std.specs.Prelude.{◌≡◌, ℕ, ◌<◌, ◌≤◌, List, length, take, drop, nat_lt, Option, option_map, IfSome};
+ghost use Rattle.std.specs.Prelude.{◌≡◌, ℕ, ◌<◌, ◌≤◌, List, length, take};
+ghost use Rattle.std.specs.Prelude.{drop, nat_lt, Option, Some, option_map, IfSome};
 ghost use Rattle.std.specs.List.{prefix_len};
 ghost use Rattle.shortcode_atts.specs.Found.{pair_now, item_now, belongs, first_of};
 ghost use Rattle.shortcode_atts.specs.Steps.{only_if};
 ghost use Rattle.shortcode_atts.specs.NameByte.{is_name_byte};
-ghost use Rattle.shortcode_atts.specs.Items.{is_white, is_bare_char, skip_white, after_char, is_ended, run_at, quoted_at, spelled_at, value_at, named_at, single_at, item_at};
+ghost use Rattle.shortcode_atts.specs.Items.{is_white, is_bare_char, skip_white, after_char, is_ended, run_at};
+ghost use Rattle.shortcode_atts.specs.Items.{quoted_at, spelled_at, value_at, named_at, single_at, item_at};
 
 /// How a value is written.
 #[derive(Clone, Copy)]
@@ -173,22 +175,6 @@ fn value_at(form: Form, text: &[char]) -> Option<(&[char], &[char])>
     }
 }
 
-/// `name = value` at the front.
-#[tactic(auto, unfolding(crate::specs::Items::named_at, crate::specs::Items::run_at))]
-fn named_at(form: Form, text: &[char]) -> Option<Found<'_>>
-    ensures value { option_map item_now result ≡ named_at form text.now }
-    ensures shorter { IfSome result (λ it. length it.rest.now < length text.now) }
-{
-    let (name, rest) = split(text, run_len(Run::Name, text))?;
-    let rest = after_char('=', skip_white(rest))?;
-    let (value, rest) = value_at(form, skip_white(rest))?;
-    Some(Found {
-        name: Some(name),
-        value,
-        rest,
-    })
-}
-
 /// A value alone at the front.
 #[tactic(auto, unfolding(crate::specs::Items::single_at))]
 fn single_at(form: Form, text: &[char]) -> Option<Found<'_>>
@@ -203,17 +189,41 @@ fn single_at(form: Form, text: &[char]) -> Option<Found<'_>>
     })
 }
 
-/// `name = value` at the front, in the first of the forms that fits.
+/// A value of this name at the front, in the first of the forms that fits.
+fn first_valued<'t>(name: &'t [char], forms: &[Form], text: &'t [char]) -> Option<Found<'t>>
+    ensures value { option_map item_now result ≡ first_of (λ form. option_map
+        (λ v. record { name = Some name.now; value = v.0; rest = v.1 }) (value_at form text.now)) forms.now }
+    ensures shorter { IfSome result (λ it. length it.rest.now < length text.now) }
+{
+    for form in forms {
+        if let Some((value, rest)) = value_at(*form, text) {
+            return Some(Found {
+                name: Some(name),
+                value,
+                rest,
+            });
+        }
+    }
+    None
+}
+
+/// A name at the front, and what follows.
+#[tactic(auto, unfolding(crate::specs::Items::run_at))]
+fn name_at(text: &[char]) -> Option<(&[char], &[char])>
+    ensures value { option_map pair_now result ≡ run_at is_name_byte text.now }
+    ensures shorter { IfSome result (λ x. length x.1.now < length text.now) }
+{
+    split(text, run_len(Run::Name, text))
+}
+
+/// `name = value` at the front, in the first of the forms that fits. The name is read once for all forms.
 fn first_named<'t>(forms: &[Form], text: &'t [char]) -> Option<Found<'t>>
     ensures value { option_map item_now result ≡ first_of (λ form. named_at form text.now) forms.now }
     ensures shorter { IfSome result (λ it. length it.rest.now < length text.now) }
 {
-    for form in forms {
-        if let Some(found) = named_at(*form, text) {
-            return Some(found);
-        }
-    }
-    None
+    let (name, rest) = name_at(text)?;
+    let rest = after_char('=', skip_white(rest))?;
+    first_valued(name, forms, skip_white(rest))
 }
 
 /// A value alone at the front, in the first of the forms that fits.

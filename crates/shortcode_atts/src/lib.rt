@@ -2,8 +2,10 @@
 //! defaults of a handler (shortcode_atts).
 #![tactic(auto)]
 
-ghost use Rattle.std.specs.Prelude.{◌≡◌, ℕ, List, map, option_map, slice_get, string_bytes, unwrap_or, Some, None, IfOk, OnOk};
-ghost use Rattle.shortcode_atts.specs.Attributes.{Attributes, attributes, add, add_under, value_of, pair_or, with_defaults, no_attributes, pair_bytes};
+ghost use Rattle.std.specs.Prelude.{◌≡◌, ℕ, List, map, option_map, slice_get};
+ghost use Rattle.std.specs.Prelude.{string_bytes, unwrap_or, Some, None, IfOk, OnOk};
+ghost use Rattle.shortcode_atts.specs.Attributes.{Attributes, attributes, add, add_under, value_of};
+ghost use Rattle.shortcode_atts.specs.Attributes.{pair_or, with_defaults, no_attributes, pair_bytes};
 ghost use Rattle.shortcode_atts.specs.Found.{item_now, pair_now};
 ghost use Rattle.shortcode_atts.specs.Items.{Item, IsItems, items_of};
 
@@ -134,8 +136,8 @@ impl Atts {
         Ok((name, value))
     }
 
-    /// Each default name, in order, with its value here, or else the default (Shortcode API, shortcode_atts). Attributes
-    /// under other names, and those without a name, are left out.
+    /// Each default name, in order, with its value here, or else the default (Shortcode API, shortcode_atts).
+    /// Attributes under other names, and those without a name, are left out.
     ///
     /// Refused for want of memory alone.
     pub fn with_defaults(
