@@ -1,2 +1,5 @@
 pub mod LossyLemmas
 pub mod MonthLemmas
+pub mod DateOrder
+pub mod MonthDates
+pub mod Spans

@@ -18,10 +18,10 @@ digits-two n m rest h =
     ∙ one_digit (10 * n + m / 10) (m % 10) rest (omega arith)
     ∙ ap (λ k. number_from k rest) sum
 
-number-two : (m : ℕ) → m < 100 → number (two_digits m) ≡ Some m
+pub number-two : (m : ℕ) → m < 100 → number (two_digits m) ≡ Some m
 number-two m h = let sum : 100 * 0 + m ≡ m = omega arith in digits-two 0 m [] h ∙ ap (λ k. number_from k []) sum
 
-number-four : (m : ℕ) → m < 10000 → number (two_digits (m / 100) ++ two_digits (m % 100)) ≡ Some m
+pub number-four : (m : ℕ) → m < 10000 → number (two_digits (m / 100) ++ two_digits (m % 100)) ≡ Some m
 number-four m h =
     let sum : 100 * (100 * 0 + m / 100) + m % 100 ≡ m = omega arith in
     digits-two 0 (m / 100) (two_digits (m % 100)) (omega arith)
@@ -46,7 +46,7 @@ length_of true false short = (lit≤ tt, lit≤ tt)
 length_of false leap true = (lit≤ tt, lit≤ tt)
 length_of false leap false = (lit≤ tt, lit≤ tt)
 
-days_bounds : (year : ℤ) (month : ℕ) → (28 ≤ days_in_month year month) × (days_in_month year month ≤ 31)
+pub days_bounds : (year : ℤ) (month : ℕ) → (28 ≤ days_in_month year month) × (days_in_month year month ≤ 31)
 days_bounds year month = length_of (month == 2) (is_leap_year year) ((month == 4) || (month == 6) || (month == 9) || (month == 11))
 
 -- a month's bounds
@@ -56,7 +56,7 @@ pub record IsMonth (year month : ℕ) : Type 0 where
   pub month_low : 1 ≤ month
   pub month_high : month ≤ 12
 
-month_bounds : (year month : ℕ) → is_month year month ≡ true → IsMonth year month
+pub month_bounds : (year month : ℕ) → is_month year month ≡ true → IsMonth year month
 month_bounds year month h =
     let (y, m) = and_parts (nat_le 1 year && nat_le year 9999) (nat_le 1 month && nat_le month 12) h in
     let (y1, y2) = and_parts (nat_le 1 year) (nat_le year 9999) y in

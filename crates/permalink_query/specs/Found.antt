@@ -1,14 +1,15 @@
 -- Which posts a query finds.
-use Rattle.std.specs.Prelude.{Bool, true, false, not, ℕ, ◌-◌, ◌*◌, ◌&&◌, nat_le, if◌then◌else◌, List, [], ◌∷◌, filter, find, codes, Option, Some, None, option_and_then, option_map, unwrap_or}
+use Rattle.std.specs.Prelude.{Bool, true, false, not, ℕ, ◌-◌, ◌*◌, ◌&&◌, nat_le, take, drop, if◌then◌else◌, List, [], ◌∷◌, filter, find, codes, Option, Some, None, option_and_then, option_map, unwrap_or}
 use Rattle.std.specs.Option.{option_to_list}
 use Rattle.std.specs.Str.{bytes_eq}
 use Rattle.site_records.specs.declared.post.Post.{Post}
 use Rattle.site_records.specs.declared.post.PostKind.{PostKind}
 use Rattle.site_records.specs.declared.post.PostKind.TheVariants.{Post as OfPost, Page as OfPage}
 use Rattle.post_tables.specs.Rows.{Text, post_with}
-use Rattle.post_tables.specs.Page.{page_of, is_kind, is_published}
+use Rattle.post_tables.specs.Sorting.{sorted}
+use Rattle.post_tables.specs.Page.{newest, is_kind, is_published}
 use Rattle.permalink_query.specs.Numbers.{is_within, whole_number}
-use Rattle.permalink_query.specs.Months.{is_month, month_start, month_end}
+use Rattle.permalink_query.specs.Months.{is_month, is_in_month}
 use Rattle.permalink_query.specs.declared.query.Query.{Query}
 use Rattle.permalink_query.specs.declared.query.Query.TheVariants as query
 use Rattle.site_records.specs.declared.found.Found.{Found}
@@ -27,13 +28,25 @@ part_size value = option_and_then (λ n. if is_within 1 100 n then Some n else N
 abbrev pub posts_per_page : List (Text × Text) → ℕ
 posts_per_page options = unwrap_or (option_and_then part_size (option_value (codes "posts_per_page") options)) 10
 
--- a part of the published posts of a span, newest first; part 0 is the first too (class WP_Query, paged)
-abbrev pub part_of_posts : (from to : Text) (limit part : ℕ) → List Post → List Post
-part_of_posts from to limit part posts = page_of OfPost from to limit ((part - 1) * limit) posts
+-- the published ones of a kind (class WP_Query, post_type and post_status)
+abbrev pub published : PostKind → List Post → List Post
+published kind = filter (λ p. is_kind p.kind kind && is_published p.status)
+
+-- the published posts
+abbrev pub published_posts : List Post → List Post
+published_posts = published OfPost
+
+-- the posts of a month (class WP_Query, m)
+abbrev pub posts_of_month : (year month : ℕ) → List Post → List Post
+posts_of_month year month = filter (λ p. is_in_month year month p.date)
+
+-- a part of some posts, newest first, `size` at a time; part 0 is the first too (class WP_Query, paged)
+abbrev pub part_of_posts : (size part : ℕ) → List Post → List Post
+part_of_posts size part posts = take size (drop ((part - 1) * size) (sorted newest posts))
 
 -- the published post or page with the ID (class WP_Query, p and page_id)
 abbrev pub published_with : PostKind → ℕ → List Post → List Post
-published_with kind id posts = filter (λ p. is_kind p.kind kind && is_published p.status) (option_to_list (post_with id posts))
+published_with kind id posts = published kind (option_to_list (post_with id posts))
 
 -- posts are shown with status 200, and where nothing is found it is 404 (class WP, handle_404)
 abbrev pub showing : FoundKind → List Post → Found
@@ -59,11 +72,11 @@ is_void _ = false
 -- what a site's posts and options have for a query (class WP_Query)
 abbrev pub found : List Post → List (Text × Text) → Query → Found
 found posts options (query.Front part) =
-    front_of part (part_of_posts (codes "0001-01-01 00:00:00") (codes "9999-12-31 23:59:59") (posts_per_page options) part posts)
+    front_of part (part_of_posts (posts_per_page options) part (published_posts posts))
 found posts options (query.Single id) = unless_empty Single (published_with OfPost id posts)
 found posts options (query.Page id) = unless_empty Page (published_with OfPage id posts)
 found posts options (query.Month year month part) =
     if is_month year month
-    then unless_empty Month (part_of_posts (month_start year month) (month_end year month) (posts_per_page options) part posts)
+    then unless_empty Month (part_of_posts (posts_per_page options) part (posts_of_month year month (published_posts posts)))
     else nothing
 found posts options query.Nothing = nothing

@@ -3,21 +3,30 @@ ghost use Rattle.std.specs.Prelude.{
   codes,
   ◌≡◌,
   ◌≤◌,
+  ◌-◌,
+  ◌*◌,
   ◌&&◌,
   true,
   false,
   Ok,
+  None,
+  is_some,
+  IfSome,
   IfOk,
   IfErr,
   filter,
   option_map,
 };
+ghost use Rattle.std.specs.List.{list_all};
 ghost use Rattle.std.specs.Option.{option_to_list};
-ghost use Rattle.post_tables.specs.Page.{is_kind, is_published};
+ghost use Rattle.post_tables.specs.Page.{is_kind, is_published, page_of};
+ghost use Rattle.site_records.specs.Dates.{is_post_date};
 ghost use Rattle.permalink_query.specs.Found.{
   option_value,
   posts_per_page,
   part_of_posts,
+  published_posts,
+  posts_of_month,
   published_with,
   unless_empty,
   front_of,
@@ -25,7 +34,7 @@ ghost use Rattle.permalink_query.specs.Found.{
   is_void,
   found,
 };
-ghost use Rattle.permalink_query.specs.Months.{is_month};
+ghost use Rattle.permalink_query.specs.Months.{is_month, month_start, month_end};
 
 use crate::fault::FindFault;
 use crate::month::month_span;
@@ -91,18 +100,41 @@ fn find_month(
     ensures err { IfErr result (λ e. e ≡ FindFault.OutOfMemory) }
     ensures void { is_month year month ≡ false → result ≡ Ok nothing }
 {
-    let Some((from, to)) = month_span(alloc, year, month)? else {
+    let Some(posts) = month_part(alloc, tables, posts_per_page(options), year, month, part)? else {
         return Ok(nothing(alloc));
     };
-    let posts = part_of(tables, &from, &to, posts_per_page(options), part)?;
     Ok(unless_empty(alloc, FoundKind::Month, posts))
 }
 
+/// A part of the published posts of a month, or `None` if the calendar has no such month.
+fn month_part(
+    alloc: Global,
+    tables: &mut Tables,
+    size: u32,
+    year: u16,
+    month: u8,
+    part: u32,
+) -> Result<Option<Listed<Post>>, FindFault>
+    requires { size ≤ 100 }
+    ensures there { IfOk result (λ posts. is_some posts ≡ is_month year month) }
+    ensures none { is_month year month ≡ false → result ≡ Ok None }
+    ensures posts { IfOk result (λ found. IfSome found (λ posts. posts
+        ≡ part_of_posts size part (posts_of_month year month (published_posts tables.old.posts)))) }
+    ensures same { tables.new ≡ tables.old }
+    ensures err { IfErr result (λ e. e ≡ FindFault.OutOfMemory) }
+{
+    let Some((from, to)) = month_span(alloc, year, month)? else {
+        return Ok(None);
+    };
+    let posts = part_of(tables, &from, &to, size, part)?;
+    Ok(Some(posts))
+}
+
+/// A part of all published posts. Each has a date between the first and the last that there are.
 fn front_part(tables: &mut Tables, size: u32, part: u32) -> Result<Listed<Post>, FindFault>
     requires { size ≤ 100 }
     ensures ok { IfOk result (λ posts. posts
-        ≡ part_of_posts (codes "0001-01-01 00:00:00") (codes "9999-12-31 23:59:59") size part
-        tables.old.posts) }
+        ≡ part_of_posts size part (published_posts tables.old.posts)) }
     ensures same { tables.new ≡ tables.old }
     ensures err { IfErr result (λ e. e ≡ FindFault.OutOfMemory) }
 {
@@ -125,6 +157,7 @@ fn all_dates() -> (PostDate, PostDate)
     }
 }
 
+/// The posts of a span that a part has.
 fn part_of(
     tables: &mut Tables,
     from: &PostDate,
@@ -134,7 +167,8 @@ fn part_of(
 ) -> Result<Listed<Post>, FindFault>
     requires { size ≤ 100 }
     ensures ok { IfOk result (λ posts. posts
-        ≡ part_of_posts from.now to.now size part tables.old.posts) }
+        ≡ page_of PostKind.Post from.now to.now size ((part - 1) * size) tables.old.posts) }
+    ensures dated { list_all (λ p. is_post_date p.date) tables.old.posts ≡ true }
     ensures same { tables.new ≡ tables.old }
     ensures err { IfErr result (λ e. e ≡ FindFault.OutOfMemory) }
 {

@@ -1,8 +1,16 @@
 //! Worked queries that are theorems: each clause below is computed from the definitions.
-ghost use Rattle.std.specs.Prelude.{◌≡◌, codes, [], ◌∷◌};
+ghost use Rattle.std.specs.Prelude.{◌≡◌, codes, [], ◌∷◌, true, false};
 ghost use Rattle.post_tables.specs.Worked.{monday, tuesday, wednesday, post, page, some_posts};
 ghost use Rattle.permalink_query.specs.Paths.{query_of};
-ghost use Rattle.permalink_query.specs.Found.{found, showing, nothing, posts_per_page};
+ghost use Rattle.permalink_query.specs.Found.{
+  found,
+  showing,
+  nothing,
+  posts_per_page,
+  published_posts,
+  part_of_posts,
+};
+ghost use Rattle.permalink_query.specs.Months.{is_in_month};
 
 use crate::query::Query;
 use site_records::FoundKind;
@@ -82,6 +90,15 @@ pub fn worked_finds()
         (post 2 wednesday ∷ post 6 tuesday ∷ post 5 monday ∷ post 1 monday ∷ []) }
     ensures june { found some_posts [] (Query.Month 2024 6 1) ≡ nothing }
     ensures no_month { found some_posts [] (Query.Month 2024 13 1) ≡ nothing }
+
+    // The published posts, a part of them, and the ends of a month.
+    ensures published { published_posts some_posts
+        ≡ post 1 monday ∷ post 2 wednesday ∷ post 5 monday ∷ post 6 tuesday ∷ [] }
+    ensures last_part { part_of_posts 3 2 (published_posts some_posts) ≡ post 1 monday ∷ [] }
+    ensures first_second { is_in_month 2024 5 (codes "2024-05-01 00:00:00") ≡ true }
+    ensures last_second { is_in_month 2024 5 (codes "2024-05-31 23:59:59") ≡ true }
+    ensures next_second { is_in_month 2024 5 (codes "2024-06-01 00:00:00") ≡ false }
+    ensures other_year { is_in_month 2024 5 (codes "2023-05-15 10:00:00") ≡ false }
 
     // The first option of a name counts, where it is a number from 1 to 100.
     ensures two_by_two { found some_posts ((codes "posts_per_page", codes "2") ∷ [])

@@ -7,6 +7,8 @@ use Rattle.sqlite.specs.Held.{Held}
 use Rattle.sqlite.specs.Tree.{IsTable}
 use Rattle.site_records.specs.declared.post.Post.{Post}
 use Rattle.site_records.specs.declared.post.PostKind.{PostKind}
+use Rattle.sqlite_rules.specs.Lists.{Has}
+use Rattle.sqlite_rules.proofs.ListLemmas.{all_has}
 use Rattle.post_tables.specs.Sorting.{put_sorted, sorted}
 use Rattle.post_tables.specs.Page.{newest, is_listed, page_of}
 use Rattle.post_tables.specs.Stored.{IsSite, rows_of, trees_of, post_in}
@@ -35,14 +37,26 @@ nothing_taken : (n : ℕ) (none : List Post) → none ≡ [] → take n none ≡
 nothing_taken zero none is = refl
 nothing_taken (suc n) none is = ap (take (suc n)) is
 
-pub beyond : (h : Held MemStore) → IsSite h → (kind : PostKind) (from to : List ℕ) (limit offset : ℕ) → 2 ^ 32 ≤ offset → page_of kind from to limit offset (rows_of h).posts ≡ []
-beyond h is kind from to limit offset far =
-    let ok = is.holds.sound.posts in
-    let ps : List Post = (rows_of h).posts in
-    let few : length ps ≤ 2 ^ 32 = few_posts (2 ^ 32) ps (rising_from ps (subst IsTable (rows_are (trees_of h 0) ok.each) ok.ordered))
-    (λ q there. let r = mapped_from post_in (trees_of h 0) q there in subst (λ (p : Post). p.id < 2 ^ 32) (sym r.2) (ok.readable r.0 r.1).id) in
-    let listed : List Post = filter (is_listed kind from to) ps in
-    let some : length listed ≤ length ps = length-some (is_listed kind from to) ps in
-    let all : length (sorted newest listed) ≡ length listed = length-sorted newest listed in
-    let past : length (sorted newest listed) ≤ offset = omega arith in
-    nothing_taken limit (drop offset (sorted newest listed)) (drop_of_length-le (sorted newest listed) past)
+module _ (h : Held MemStore) (is : IsSite h) (kind : PostKind) (from to : List ℕ) (limit offset : ℕ) where
+  past_all : ((q : Post) → Has (rows_of h).posts q → q.id < offset) → page_of kind from to limit offset (rows_of h).posts ≡ []
+  past_all below =
+      let ok = is.holds.sound.posts in
+      let ps : List Post = (rows_of h).posts in
+      let few : length ps ≤ offset = few_posts offset ps (rising_from ps (subst IsTable (rows_are (trees_of h 0) ok.each) ok.ordered)) below in
+      let listed : List Post = filter (is_listed kind from to) ps in
+      let some : length listed ≤ length ps = length-some (is_listed kind from to) ps in
+      let all : length (sorted newest listed) ≡ length listed = length-sorted newest listed in
+      let past : length (sorted newest listed) ≤ offset = omega arith in
+      nothing_taken limit (drop offset (sorted newest listed)) (drop_of_length-le (sorted newest listed) past)
+
+  pub beyond : 2 ^ 32 ≤ offset → page_of kind from to limit offset (rows_of h).posts ≡ []
+  beyond far = past_all (λ q there.
+      let r = mapped_from post_in (trees_of h 0) q there in
+      let low : q.id < 2 ^ 32 = subst (λ (p : Post). p.id < 2 ^ 32) (sym r.2) (is.holds.sound.posts.readable r.0 r.1).id in
+      omega arith)
+
+  -- nor after the greatest ID
+  pub beyond_given : (rows_of h).largest < offset → page_of kind from to limit offset (rows_of h).posts ≡ []
+  beyond_given far = past_all (λ q there.
+      let given : q.id ≤ (rows_of h).largest = all_has _ (rows_of h).posts q is.holds.sound.given there in
+      omega arith)

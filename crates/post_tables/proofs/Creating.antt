@@ -23,7 +23,7 @@ use Rattle.sqlite_tied.specs.Compute.{everything}
 use Rattle.sqlite.proofs.Callers.{IsPlain, command_of, statement_of, runs_as}
 use Rattle.post_tables.specs.Rows.{no_rows}
 use Rattle.post_tables.specs.Schema.{no_schema, post_schema, option_schema, template_schema, table_schema, site_schema, create_post, create_option, create_template, create_active, create_index, post_table, sequence_table, option_table, template_table, active_table}
-use Rattle.post_tables.specs.Stored.{IsBare, IsSite, ArePosts, AreNamed, IsCounter, rows_of, text_rest, text_in, no_rest, nothing_in, named_in, post_in, top_in}
+use Rattle.post_tables.specs.Stored.{IsBare, IsSite, ArePosts, AreNamed, IsCounter, AreGiven, rows_of, text_rest, text_in, no_rest, nothing_in, named_in, post_in, top_in}
 use Rattle.post_tables.proofs.Texts.{post_is, sequence_is, option_is, template_is, active_is, index_is}
 use Rattle.post_tables.proofs.Memory.{wrote}
 
@@ -177,6 +177,7 @@ index_made old new limit (Ok count) bare h =
             posts = no_posts (t.now.trees 0) none.0;
             counter = subst IsCounter (sym none.1.0) tt;
             bounded = subst (λ rows. top_in rows < 2 ^ 32) (sym none.1.0) (lit≤ tt);
+            given = subst (λ rows. AreGiven (map post_in rows) (top_in (t.now.trees 1))) (sym none.0) tt;
             options = no_named text_rest text_in (t.now.trees 2) none.1.1.0;
             templates = no_named text_rest text_in (t.now.trees 4) none.1.1.1.0;
             active = no_named no_rest nothing_in (t.now.trees 6) none.1.1.1.1.0;

@@ -1,6 +1,5 @@
 -- What deleting a post makes of the site.
-use Rattle.std.proofs.Common.{◌≡◌, inl, ℕ, pos, List, [], ◌∷◌, length, map, filter, Bool, true, false, not, ◌==◌, codes, None, Ok, Err, Result, refl, sym, ap, subst, ◌∙◌, arith, ◌<◌, unwrap_or}
-use Rattle.std.specs.List.{list_any}
+use Rattle.std.proofs.Common.{◌≡◌, ℕ, pos, List, [], ◌∷◌, map, filter, Bool, true, not, ◌==◌, codes, None, Ok, refl, sym, ap, subst, ◌∙◌, arith}
 use Rattle.sqlite.specs.Order.{Row}
 use Rattle.sqlite_value.specs.declared.value.Value.TheVariants.{Null, Int}
 use Rattle.sqlite_value.specs.declared.keys.Collation.TheVariants.{Binary}
@@ -14,9 +13,8 @@ use Rattle.sqlite_schema.specs.declared.command.Command.{Command}
 use Rattle.sqlite_schema.specs.declared.command.Command.TheVariants.{Delete}
 use Rattle.sqlite_schema.specs.declared.schema.Keys.TheVariants.{Enforced}
 use Rattle.sqlite_trees.specs.View.{is_int}
-use Rattle.sqlite_trees.specs.Tree.{has_rowid}
 use Rattle.sqlite_rules.specs.Lists.{Has}
-use Rattle.sqlite_rules.specs.Edit.{edit_of, row_at}
+use Rattle.sqlite_rules.specs.Edit.{edit_of}
 use Rattle.sqlite_rules.specs.Calls.{ids_of}
 use Rattle.sqlite_rules.specs.declared.error.Rowids.TheVariants.{Given}
 use Rattle.sqlite_trees.specs.declared.memory.MemStore.{MemStore}
@@ -28,17 +26,17 @@ use Rattle.sqlite.specs.Effect.{Database}
 use Rattle.sqlite.specs.Does.{Tally, Does}
 use Rattle.sqlite.specs.Listing.{understood}
 use Rattle.sqlite.specs.State.{mode_of, Executes}
-use Rattle.sqlite.specs.declared.error.Error.{Error}
 use Rattle.sqlite.proofs.Callers.{IsPlain, command_of, statement_of, runs_as, one_step}
 use Rattle.post_tables.specs.Schema.{site_schema, post_table}
-use Rattle.post_tables.specs.Rows.{Rows, without_post, has_post}
-use Rattle.post_tables.specs.Stored.{HoldsSite, IsSite, ArePosts, IsCounter, post_in, top_in, rows_of}
-use Rattle.post_tables.proofs.Comparing.{number_compares, len_map, nil_of}
+use Rattle.post_tables.specs.Rows.{without_post}
+use Rattle.post_tables.specs.Stored.{HoldsSite, ArePosts, IsCounter, post_in, top_in}
+use Rattle.post_tables.proofs.Comparing.{number_compares}
 use Rattle.post_tables.proofs.Creating.{went, same_value}
-use Rattle.post_tables.proofs.Memory.{wrote, refused}
+use Rattle.post_tables.proofs.Memory.{wrote}
+use Rattle.post_tables.proofs.GivenIds.{some_given}
 use Rattle.post_tables.proofs.Parts.{posts_now}
-use Rattle.post_tables.proofs.PostRows.{mapped_filter, none_has, one_has, some_posts, none_without}
-use Rattle.post_tables.proofs.Statements.{IsDone, kept_site}
+use Rattle.post_tables.proofs.PostRows.{mapped_filter, some_posts}
+use Rattle.post_tables.proofs.Statements.{IsDone}
 use Rattle.post_tables.proofs.Deleting as deleting
 
 abbrev pub delete_text : List ℕ
@@ -82,7 +80,7 @@ deletes_post old new holds id count h =
     let tested : (r : Row) → Has (db 0) r → passes r ≡ ((post_in r).id == id) = λ r there. ap passes (ok.each r there) ∙ number_compares (post_in r).id id in
     let it = posts_now db t.now.trees holds.sound
     (ap (λ (x : Trees). x 2) trees ∙ applied.tables.1.1.0 (λ e. omega arith), ap (λ (x : Trees). x 4) trees ∙ applied.tables.1.1.1.0 (λ e. omega arith), ap (λ (x : Trees). x 6) trees ∙ applied.tables.1.1.1.1.0 (λ e. omega arith))
-    (subst ArePosts (sym posts) (some_posts _ (db 0) ok)) (subst IsCounter (sym top) holds.sound.counter) _ (ap (map post_in) posts ∙ mapped_filter id passes (db 0) tested) _ holds.sound.bounded (ap top_in top) in
+    (subst ArePosts (sym posts) (some_posts _ (db 0) ok)) (subst IsCounter (sym top) holds.sound.counter) _ (ap (map post_in) posts ∙ mapped_filter id passes (db 0) tested) _ holds.sound.bounded (ap top_in top) (some_given (λ q. not (q.id == id)) (map post_in (db 0)) (top_in (db 1)) holds.sound.given) in
     record {
       holds = record { schema_is = ap (λ (d : Database). d.schema) now; sound = it.sound };
       rows = it.are;

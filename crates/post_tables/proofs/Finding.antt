@@ -1,5 +1,5 @@
 -- What the queries for an ID answer, also within a transaction.
-use Rattle.std.proofs.Common.{◌≡◌, ◌⊎◌, inl, inr, ℕ, pos, negsuc, List, [], ◌∷◌, map, filter, Bool, false, not, ◌==◌, codes, Option, Some, None, Ok, Err, Result, IfOk, IfErr, Vec, is_some, nat_eq, length, ◌≤◌, lit≤, refl, sym, ap, subst, ◌∙◌}
+use Rattle.std.proofs.Common.{◌≡◌, inl, inr, ℕ, pos, negsuc, List, [], ◌∷◌, map, filter, Bool, false, not, ◌==◌, codes, Option, Some, None, Ok, Err, Result, IfOk, Vec, is_some, nat_eq, length, ◌≤◌, lit≤, refl, sym, ap, subst, ◌∙◌}
 use Rattle.std.specs.declared.alloc.Global.{Global}
 use Rattle.std.specs.Option.{option_to_list}
 use Rattle.std.specs.List.{IsDistinct}
@@ -18,13 +18,11 @@ use Rattle.sqlite.specs.Command.TheVariants.{Select}
 use Rattle.sqlite.specs.Listing.{understood, reads_listing}
 use Rattle.sqlite_tied.specs.Compute.{everything}
 use Rattle.sqlite_trees.specs.declared.memory.MemStore.{MemStore}
-use Rattle.sqlite_schema.specs.declared.command.Returning.{Returning}
-use Rattle.sqlite_resolve.specs.declared.compiled.Compiled.{Compiled}
 use Rattle.sqlite_rules.specs.Lists.{Has}
 use Rattle.sqlite.specs.declared.error.Error.{Error}
 use Rattle.sqlite.specs.Held.{Held, state}
 use Rattle.sqlite.specs.Steps.{over_memory}
-use Rattle.sqlite.specs.State.{Shown, ShowsRows, FailsToQuery, FailsToShow, IsNotRun, IsTooLate, IsUnchanged, Fails}
+use Rattle.sqlite.specs.State.{Shown}
 use Rattle.sqlite.proofs.Callers.{IsPlain, command_of, reads_as}
 use Rattle.site_records.specs.declared.post.Post.{Post}
 use Rattle.post_tables.specs.Schema.{site_schema}

@@ -2,6 +2,7 @@ pub mod Texts
 pub mod Memory
 pub mod Creating
 pub mod Statements
+pub mod GivenIds
 pub mod Parts
 pub mod Comparing
 pub mod NamedTable
@@ -22,5 +23,7 @@ pub mod PostSteps
 pub mod DeleteSteps
 pub mod Updating
 pub mod Finding
+pub mod PartLemmas
+pub mod PartIds
 pub mod Beyond
 pub mod NewIds

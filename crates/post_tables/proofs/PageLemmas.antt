@@ -76,8 +76,9 @@ projects = col 1 0 ∷ col 1 2 ∷ col 1 3 ∷ col 1 4 ∷ col 1 5 ∷ col 1 6 �
 abbrev pub orders : List (Term × Key)
 orders = (col 1 6, by) ∷ (col 1 0, by) ∷ []
 
-abbrev pub query : Query
-query = reading.query 0 wheres projects [] orders (col 0 3) (col 0 4)
+-- a part, and what is shown of each of its posts
+abbrev pub query : List Term → Query
+query shown = reading.query 0 wheres shown [] orders (col 0 3) (col 0 4)
 
 -- ---- the statement
 
@@ -87,7 +88,7 @@ page_text = codes "SELECT id, kind, status, title, content, date FROM post WHERE
 abbrev names : List (List ℕ)
 names = codes "id" ∷ codes "kind" ∷ codes "status" ∷ codes "title" ∷ codes "content" ∷ codes "date" ∷ []
 
-page_is : (command_of (understood site_schema page_text) ≡ Select (record { lets = []; body = query }) names) × (reads_listing site_schema page_text ≡ false)
+page_is : (command_of (understood site_schema page_text) ≡ Select (record { lets = []; body = query projects }) names) × (reads_listing site_schema page_text ≡ false)
 unfolding understood everything
 page_is = (refl, refl)
 
@@ -131,7 +132,7 @@ pub rising_from : (ps : List Post) → IsTable (map row_of ps) → Rising ps
 rising_from [] up = tt
 rising_from (p ∷ ps) up = (below_from p ps up.0, rising_from ps up.1)
 
-rising_filter : (f : Post → Bool) (ps : List Post) → Rising ps → Rising (filter f ps)
+pub rising_filter : (f : Post → Bool) (ps : List Post) → Rising ps → Rising (filter f ps)
 rising_filter f [] up = tt
 rising_filter f (p ∷ ps) up =
     let later = rising_filter f ps up.1 in
@@ -153,12 +154,12 @@ module _ (kind : PostKind) (from to : List ℕ) (limit offset : ℕ) where
   abbrev pub params : Row
   params = Text (kind_text kind) ∷ Text from ∷ Text to ∷ Int (pos limit) ∷ Int (pos offset) ∷ []
 
-  page_typed : accepts_program site_schema [] query params ≡ true
+  page_typed : accepts_program site_schema [] (query projects) params ≡ true
   page_typed = refl
 
   pub page_safe : IsSafe page_text params
   page_safe = record {
-    query = query;
+    query = query projects;
     names = names;
     is = page_is.0;
     unlisted = page_is.1;
@@ -175,56 +176,60 @@ module _ (kind : PostKind) (from to : List ℕ) (limit offset : ℕ) where
   passes_is p = rw (text_compares, text_compares, text_compares, text_compares, is_eq-slice_cmp, is_eq-slice_cmp, kinds_tie, published_ties)
       (ap (λ b. is_kind p.kind kind && (is_published p.status && (is_ge (by_bytes p.date from) && b))) (and_true _))
 
-  -- what a post is sorted by, and what is shown of it
-  abbrev pub out : Post → Output
-  out p = (Text p.date ∷ Int (pos p.id) ∷ [], shown_post p)
+  module _ (shown : List Term) where
+    -- what a post is sorted by, and what is shown of it
+    abbrev pub out : Post → Output
+    out p = output (query shown) (params ∷ row_of p ∷ [])
 
-  newest_is : (a b : Post) → output_cmp query (out a) (out b) ≡ newest a b
-  newest_is a b = rw (value_cmp-Text, value_cmp-Int, then-Equal, pos_cmp) refl
+    newest_is : (a b : Post) → output_cmp (query shown) (out a) (out b) ≡ newest a b
+    newest_is a b = rw (value_cmp-Text, value_cmp-Int, then-Equal, pos_cmp) refl
 
-  abbrev shows : Row → Output
-  shows r = output query (params ∷ r ∷ [])
+    abbrev shows : Row → Output
+    shows r = output (query shown) (params ∷ r ∷ [])
 
-  listed_rows : (ps : List Post) → map shows (filter passes (map row_of ps)) ≡ map out (filter (is_listed kind from to) ps)
-  listed_rows [] = refl
-  listed_rows (p ∷ ps) = rw (passes_is p) (elim (is_listed kind from to p) as (λ b. map shows (cond b (row_of p ∷ filter passes (map row_of ps)) (filter passes (map row_of ps))) ≡ map out (cond b (p ∷ filter (is_listed kind from to) ps) (filter (is_listed kind from to) ps)))
-      [ true ↦ ap (λ l. out p ∷ l) (listed_rows ps) | false ↦ listed_rows ps ])
+    listed_rows : (ps : List Post) → map shows (filter passes (map row_of ps)) ≡ map out (filter (is_listed kind from to) ps)
+    listed_rows [] = refl
+    listed_rows (p ∷ ps) = rw (passes_is p) (elim (is_listed kind from to p) as (λ b. map shows (cond b (row_of p ∷ filter passes (map row_of ps)) (filter passes (map row_of ps))) ≡ map out (cond b (p ∷ filter (is_listed kind from to) ps) (filter (is_listed kind from to) ps)))
+        [ true ↦ ap (λ l. out p ∷ l) (listed_rows ps) | false ↦ listed_rows ps ])
 
-  tied_ids : (a b : Post) → nat_cmp a.id b.id ≡ Less → eq_by_cmp (output_cmp query) (out a) (out b) ≡ false
-  tied_ids a b lower = false_from_ne_true _ (λ tied.
-      let both = then_tied (by_bytes b.date a.date) (nat_cmp b.id a.id) (sym (newest_is a b) ∙ equal_is _ tied) in
-      let flipped = nat_cmp_total.antisymm a.id b.id ∙ ap ordering_reverse both.1 in
-      cc)
+    tied_ids : (a b : Post) → nat_cmp a.id b.id ≡ Less → eq_by_cmp (output_cmp (query shown)) (out a) (out b) ≡ false
+    tied_ids a b lower = false_from_ne_true _ (λ tied.
+        let both = then_tied (by_bytes b.date a.date) (nat_cmp b.id a.id) (sym (newest_is a b) ∙ equal_is _ tied) in
+        let flipped = nat_cmp_total.antisymm a.id b.id ∙ ap ordering_reverse both.1 in
+        cc)
 
-  apart : (ps : List Post) → Rising ps → IsDistinct (eq_by_cmp (output_cmp query)) (map out ps)
-  unfolding IsDistinct
-  apart [] up = tt
-  apart (p ∷ ps) up = (all_from _ (map out ps) (λ o h. let b = mapped_from out ps o h in rw (b.2) (tied_ids p b.0 (all_has _ ps b.0 up.0 b.1))), apart ps up.1)
+    apart : (ps : List Post) → Rising ps → IsDistinct (eq_by_cmp (output_cmp (query shown))) (map out ps)
+    unfolding IsDistinct
+    apart [] up = tt
+    apart (p ∷ ps) up = (all_from _ (map out ps) (λ o h. let b = mapped_from out ps o h in rw (b.2) (tied_ids p b.0 (all_has _ ps b.0 up.0 b.1))), apart ps up.1)
 
-  first_shown : (ps : List Post) → map (λ (o : Output). o.1) (map out ps) ≡ map shown_post ps
-  first_shown [] = refl
-  first_shown (p ∷ ps) = ap (λ l. shown_post p ∷ l) (first_shown ps)
+    abbrev pub shown_of : Post → Row
+    shown_of p = (out p).1
 
-  -- the answer over the rows of posts
-  pub answered_page : (db : Trees) (rows : List Row) (ps : List Post) → db 0 ≡ map row_of ps → IsTable (db 0) → IsAnswer query db params rows → rows ≡ map shown_post (page_of kind from to limit offset ps)
-  answered_page db rows ps are up a =
-      let ls : List Post = filter (is_listed kind from to) ps in
-      let outs : map shows (filter passes (db 0)) ≡ map out ls = ap (λ l. map shows (filter passes l)) are ∙ listed_rows ps in
-      let distinct : IsDistinct (eq_by_cmp (output_cmp query)) (map out ls) = apart ls (rising_filter (is_listed kind from to) ps (rising_from ps (subst IsTable are up))) in
-      let all = reading.answer_is 0 wheres projects [] orders (col 0 3) (col 0 4) db params rows a (subst (IsDistinct (eq_by_cmp (output_cmp query))) (sym outs) distinct) in
-      all ∙ ap (λ l. page query params (map (λ (o : Output). o.1) (sorted (output_cmp query) l))) outs
-      ∙ ap (λ l. page query params (map (λ (o : Output). o.1) l)) (sym (sorted_mapped newest (output_cmp query) out newest_is ls))
-      ∙ ap (page query params) (first_shown (sorted newest ls))
-      ∙ ap (take limit) (drop-map shown_post offset (sorted newest ls))
-      ∙ take-map shown_post limit (drop offset (sorted newest ls))
+    first_shown : (ps : List Post) → map (λ (o : Output). o.1) (map out ps) ≡ map shown_of ps
+    first_shown [] = refl
+    first_shown (p ∷ ps) = ap (λ l. shown_of p ∷ l) (first_shown ps)
+
+    -- the answer over the rows of posts
+    pub answered_page : (db : Trees) (rows : List Row) (ps : List Post) → db 0 ≡ map row_of ps → IsTable (db 0) → IsAnswer (query shown) db params rows → rows ≡ map shown_of (page_of kind from to limit offset ps)
+    answered_page db rows ps are up a =
+        let ls : List Post = filter (is_listed kind from to) ps in
+        let outs : map shows (filter passes (db 0)) ≡ map out ls = ap (λ l. map shows (filter passes l)) are ∙ listed_rows ps in
+        let distinct : IsDistinct (eq_by_cmp (output_cmp (query shown))) (map out ls) = apart ls (rising_filter (is_listed kind from to) ps (rising_from ps (subst IsTable are up))) in
+        let all = reading.answer_is 0 wheres shown [] orders (col 0 3) (col 0 4) db params rows a (subst (IsDistinct (eq_by_cmp (output_cmp (query shown)))) (sym outs) distinct) in
+        all ∙ ap (λ l. page (query shown) params (map (λ (o : Output). o.1) (sorted (output_cmp (query shown)) l))) outs
+        ∙ ap (λ l. page (query shown) params (map (λ (o : Output). o.1) l)) (sym (sorted_mapped newest (output_cmp (query shown)) out newest_is ls))
+        ∙ ap (page (query shown) params) (first_shown (sorted newest ls))
+        ∙ ap (take limit) (drop-map shown_of offset (sorted newest ls))
+        ∙ take-map shown_of limit (drop offset (sorted newest ls))
 
 -- what the statement answers over the tables of a site
 page_read : (old new : Held MemStore) (kind : PostKind) (from to : List ℕ) (limit offset : ℕ) (rows : List Row) → IsSite old → Shown page_text (params kind from to limit offset) (state over_memory old) (state over_memory new) rows
     → rows ≡ map shown_post (page_of kind from to limit offset (rows_of old).posts)
 page_read old new kind from to limit offset rows is h =
-    let read = reads_as page_text (params kind from to limit offset) (state over_memory old) (state over_memory new) site_schema is.holds.schema_is (Select (record { lets = []; body = query }) names) page_is.0 page_plain page_is.1 rows h in
+    let read = reads_as page_text (params kind from to limit offset) (state over_memory old) (state over_memory new) site_schema is.holds.schema_is (Select (record { lets = []; body = query projects }) names) page_is.0 page_plain page_is.1 rows h in
     let posts = is.holds.sound.posts in
-    answered_page kind from to limit offset (overlay (trees_of old) []) rows (map post_in (trees_of old 0)) (rows_are (trees_of old 0) posts.each) posts.ordered (read.answer Null)
+    answered_page kind from to limit offset projects (overlay (trees_of old) []) rows (map post_in (trees_of old 0)) (rows_are (trees_of old 0) posts.each) posts.ordered (read.answer Null)
 
 -- ---- that its rows can be read
 
@@ -267,18 +272,18 @@ shown_rows (p ∷ ps) each = (shown_row p (each p (inl refl)), shown_rows ps (λ
 pub all_shown : (rows : List Row) (ps : List Post) → rows ≡ map shown_post ps → ((p : Post) → Has ps p → IsReadable p) → All IsPostRow rows
 all_shown rows ps are each = All-from_recursion IsPostRow rows (subst (AllByRecursion IsPostRow) (sym are) (shown_rows ps each))
 
-has_taken : {A : Type 0} (n : ℕ) (xs : List A) (x : A) → Has (take n xs) x → Has xs x
+pub has_taken : {A : Type 0} (n : ℕ) (xs : List A) (x : A) → Has (take n xs) x → Has xs x
 has_taken zero xs x h = absurd h
 has_taken (suc n) [] x h = h
 has_taken (suc n) (y ∷ xs) x (inl same) = inl same
 has_taken (suc n) (y ∷ xs) x (inr more) = inr (has_taken n xs x more)
 
-has_left : {A : Type 0} (n : ℕ) (xs : List A) (x : A) → Has (drop n xs) x → Has xs x
+pub has_left : {A : Type 0} (n : ℕ) (xs : List A) (x : A) → Has (drop n xs) x → Has xs x
 has_left zero xs x h = h
 has_left (suc n) [] x h = h
 has_left (suc n) (y ∷ xs) x h = inr (has_left n xs x h)
 
-newest_total : IsTotalOrder newest
+pub newest_total : IsTotalOrder newest
 newest_total = then_total (back_total (on_total (λ (p : Post). p.date) nat_list_cmp_total)) (back_total (on_total (λ (p : Post). p.id) nat_cmp_total))
 
 -- a part has posts of the list alone

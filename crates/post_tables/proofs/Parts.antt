@@ -1,12 +1,12 @@
 -- What the rows of a site are where one table has changed.
-use Rattle.std.proofs.Common.{◌≡◌, ◌≢◌, ◌<◌, ◌^◌, ℕ, List, [], ◌∷◌, map, refl, sym, subst, ◌∙◌, arith}
+use Rattle.std.proofs.Common.{◌≡◌, ◌≢◌, ◌<◌, ◌^◌, ℕ, List, [], ◌∷◌, map, refl, sym, subst, subst₂, ◌∙◌, arith}
 use Rattle.std.specs.List.{AllByRecursion}
 use Rattle.sqlite.specs.Table.{Table}
 use Rattle.sqlite.specs.Tree.{Trees}
 use Rattle.site_records.specs.declared.post.Post.{Post}
 use Rattle.post_tables.specs.Schema.{site_schema}
 use Rattle.post_tables.specs.Rows.{Rows, Named, Names}
-use Rattle.post_tables.specs.Stored.{AreSound, ArePosts, AreNamed, IsCounter, rows_in, text_rest, text_in, no_rest, nothing_in, named_in, post_in, top_in}
+use Rattle.post_tables.specs.Stored.{AreSound, ArePosts, AreNamed, IsCounter, AreGiven, rows_in, text_rest, text_in, no_rest, nothing_in, named_in, post_in, top_in}
 
 -- the other tables are as they were
 abbrev pub Others : ℕ → Trees → Trees → Type 0
@@ -43,6 +43,7 @@ module _ (db next : Trees) (ok : AreSound db) where
           posts = subst ArePosts (sym posts) ok.posts;
           counter = subst IsCounter (sym top) ok.counter;
           bounded = subst (λ rows. top_in rows < 2 ^ 32) (sym top) ok.bounded;
+          given = subst₂ (λ rows counter. AreGiven (map post_in rows) (top_in counter)) (sym posts) (sym top) ok.given;
           options = named;
           templates = subst (AreNamed text_rest text_in) (sym templates) ok.templates;
           active = subst (AreNamed no_rest nothing_in) (sym active) ok.active;
@@ -61,6 +62,7 @@ module _ (db next : Trees) (ok : AreSound db) where
           posts = subst ArePosts (sym posts) ok.posts;
           counter = subst IsCounter (sym top) ok.counter;
           bounded = subst (λ rows. top_in rows < 2 ^ 32) (sym top) ok.bounded;
+          given = subst₂ (λ rows counter. AreGiven (map post_in rows) (top_in counter)) (sym posts) (sym top) ok.given;
           options = subst (AreNamed text_rest text_in) (sym options) ok.options;
           templates = named;
           active = subst (AreNamed no_rest nothing_in) (sym active) ok.active;
@@ -79,6 +81,7 @@ module _ (db next : Trees) (ok : AreSound db) where
           posts = subst ArePosts (sym posts) ok.posts;
           counter = subst IsCounter (sym top) ok.counter;
           bounded = subst (λ rows. top_in rows < 2 ^ 32) (sym top) ok.bounded;
+          given = subst₂ (λ rows counter. AreGiven (map post_in rows) (top_in counter)) (sym posts) (sym top) ok.given;
           options = subst (AreNamed text_rest text_in) (sym options) ok.options;
           templates = subst (AreNamed text_rest text_in) (sym templates) ok.templates;
           active = named;
@@ -88,12 +91,13 @@ module _ (db next : Trees) (ok : AreSound db) where
 
   -- the posts change, and perhaps the row that counts for them
   pub posts_now : (next 2 ≡ db 2) × (next 4 ≡ db 4) × (next 6 ≡ db 6) → ArePosts (next 0) → IsCounter (next 1) → (ps : List Post) → map post_in (next 0) ≡ ps → (top : ℕ) → top < 2 ^ 32 → top_in (next 1) ≡ top
-      → IsNow (record (rows_in db) { posts = ps; largest = top })
-  posts_now o posts counter ps are top low is = record {
+      → AreGiven ps top → IsNow (record (rows_in db) { posts = ps; largest = top })
+  posts_now o posts counter ps are top low is given = record {
     sound = record {
       posts = posts;
       counter = counter;
       bounded = subst (λ n. n < 2 ^ 32) (sym is) low;
+      given = subst₂ AreGiven (sym are) (sym is) given;
       options = subst (AreNamed text_rest text_in) (sym o.0) ok.options;
       templates = subst (AreNamed text_rest text_in) (sym o.1) ok.templates;
       active = subst (AreNamed no_rest nothing_in) (sym o.2) ok.active;

@@ -1,5 +1,5 @@
 -- Posts in the rows of their table.
-use Rattle.std.proofs.Common.{◌≡◌, ◌⊎◌, inl, inr, ℕ, pos, ◌+◌, ◌<◌, ◌≤◌, ◌^◌, List, [], ◌∷◌, map, filter, length, Bool, true, false, not, ◌&&◌, ◌||◌, ◌==◌, nat_lt, cond, Option, Some, None, is_some, refl, sym, ap, subst, ◌∙◌, arith, true≢false, Less, Equal}
+use Rattle.std.proofs.Common.{◌≡◌, ◌⊎◌, inl, inr, ℕ, pos, ◌+◌, ◌<◌, ◌≤◌, List, [], ◌∷◌, map, filter, length, Bool, true, false, not, ◌==◌, nat_lt, cond, Option, Some, None, is_some, refl, sym, ap, subst, ◌∙◌, arith, true≢false, Less, Equal}
 use Rattle.std.specs.List.{AllByRecursion}
 use Rattle.std.specs.Ordering.{is_eq, nat_cmp}
 use Rattle.std.proofs.lemmas.Bool.{cases_Bool, or_parts, false_from_ne_true}
@@ -18,7 +18,7 @@ use Rattle.sqlite_trees.specs.declared.store.Shape.TheVariants.{Table}
 use Rattle.sqlite_trees.specs.View.{is_int}
 use Rattle.sqlite.specs.Tree.{rowid, put_row, IsTable}
 use Rattle.site_records.specs.declared.post.Post.{Post}
-use Rattle.post_tables.specs.Rows.{with_post, without_post, has_post, post_with, PostEdit, edited_post, edited_posts, are_new}
+use Rattle.post_tables.specs.Rows.{with_post, without_post, has_post, post_with, PostEdit, edited_post, edited_posts}
 use Rattle.post_tables.specs.Stored.{row_of, post_in, IsReadable, ArePosts}
 use Rattle.post_tables.proofs.Comparing.{pos_cmp, mapped_has}
 use Rattle.post_tables.proofs.PageLemmas.{kind_back, status_back, Rising}

@@ -17,6 +17,7 @@ use Rattle.post_tables.specs.Rows.{with_post, with_new}
 use Rattle.post_tables.specs.Stored.{HoldsSite, IsReadable, ArePosts, IsCounter, row_of, post_in, top_in}
 use Rattle.post_tables.proofs.Creating.{went, same_value}
 use Rattle.post_tables.proofs.Memory.{wrote}
+use Rattle.post_tables.proofs.GivenIds.{more_given}
 use Rattle.post_tables.proofs.Parts.{posts_now}
 use Rattle.post_tables.proofs.PostRows.{same_posts, still_posts}
 use Rattle.post_tables.proofs.Statements.{IsDone}
@@ -45,7 +46,7 @@ puts_post old new holds count p readable h =
     let low : max (top_in (db 1)) p.id < 2 ^ 32 = omega arith in
     let it = posts_now db t.now.trees holds.sound
     (ap (λ (x : Trees). x 2) trees ∙ made.others.0, ap (λ (x : Trees). x 4) trees ∙ made.others.1, ap (λ (x : Trees). x 6) trees ∙ made.others.2)
-    (subst ArePosts (sym posts) (still_posts p readable (db 0) holds.sound.posts)) (subst (λ (x : Trees). IsCounter (x 1)) (sym trees) made.counter) _ shown _ low top in
+    (subst ArePosts (sym posts) (still_posts p readable (db 0) holds.sound.posts)) (subst (λ (x : Trees). IsCounter (x 1)) (sym trees) made.counter) _ shown _ low top (more_given p (map post_in (db 0)) (top_in (db 1)) holds.sound.given) in
     record {
       holds = record { schema_is = ap (λ (d : Database). d.schema) now; sound = it.sound };
       rows = it.are;

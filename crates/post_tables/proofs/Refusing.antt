@@ -1,10 +1,10 @@
 -- Why a query over the tables is refused: only where an allocation failed.
-use Rattle.std.proofs.Common.{◌≡◌, ◌≢◌, inl, inr, ℕ, List, [], true, false, None, Some, Ok, Err, Result, IfErr, length, append-nil, refl, sym, ap, subst, subst₂, ◌∙◌, arith, true≢false}
-use Rattle.std.specs.Prelude.{◌&&◌, nat_le, Bool, Any, IsSome}
+use Rattle.std.proofs.Common.{◌≡◌, ◌≢◌, inl, inr, ℕ, List, [], true, false, Ok, Err, Result, IfErr, length, append-nil, sym, ap, subst, subst₂, ◌∙◌, arith, true≢false}
+use Rattle.std.specs.Prelude.{nat_le, IsSome}
 use Rattle.std.proofs.lemmas.Bool.{leb-true}
 use Rattle.sqlite.specs.Order.{Row}
 use Rattle.sqlite.specs.Query.{Query}
-use Rattle.sqlite.specs.Effect.{Database, RefusesToRead}
+use Rattle.sqlite.specs.Effect.{RefusesToRead}
 use Rattle.sqlite.specs.declared.error.Error.{Error}
 use Rattle.sqlite.specs.declared.error.Error.TheVariants.{SqliteFailure}
 use Rattle.sqlite.specs.declared.error.ErrorCode.TheVariants as code
@@ -20,7 +20,7 @@ use Rattle.sqlite_typing.specs.Types.{accepts_program}
 use Rattle.sqlite.specs.Held.{Held, state}
 use Rattle.sqlite.specs.Steps.{over_memory}
 use Rattle.sqlite.specs.Listing.{understood, reads_listing, IsSourceOf}
-use Rattle.sqlite.specs.State.{Fails, HasCause, IsNotRun, IsNoStatement, FailsToQuery, FailsToShow, IsTooLate, store_error}
+use Rattle.sqlite.specs.State.{Fails, HasCause, IsNotRun, IsNoStatement, FailsToQuery, store_error}
 use Rattle.sqlite.proofs.Callers.{IsPlain, command_of}
 use Rattle.sqlite.specs.Reading.{IsReadError}
 use Rattle.sqlite_value.specs.declared.value.Value.{Value}

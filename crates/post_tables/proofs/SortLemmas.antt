@@ -99,7 +99,7 @@ module _ {X : Type 0} (R : X → X → Ordering) (o : IsTotalOrder R) where
           let under : R y x ≡ Less = o.antisymm y x ∙ ap ordering_reverse e in
           (all_from _ (put_sorted R x ys) (λ z there. elim (put_had x ys z there) [ inl same ↦ subst (λ w. R y w ≡ Less) (sym same) under | inr was ↦ all_has _ ys z up.0 was ]), later)
 
-  sorted_rises : (xs : List X) → IsDistinct (eq_by_cmp R) xs → IsStrictlySortedBy R (sorted R xs)
+  pub sorted_rises : (xs : List X) → IsDistinct (eq_by_cmp R) xs → IsStrictlySortedBy R (sorted R xs)
   unfolding IsStrictlySortedBy IsDistinct
   sorted_rises [] apart = tt
   sorted_rises (x ∷ xs) apart = put_rises x (sorted R xs) (sorted_rises xs apart.1) (λ y h. all_has _ xs y apart.0 (sorted_had xs y h))

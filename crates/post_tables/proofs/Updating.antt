@@ -1,5 +1,5 @@
 -- What an edit makes of the post with an ID.
-use Rattle.std.proofs.Common.{◌≡◌, ◌<◌, inl, inr, ℕ, pos, negsuc, List, [], ◌∷◌, length, map, filter, Bool, true, false, not, ◌==◌, codes, Option, option_map, Some, None, is_some, unwrap_or, Ok, Bor, refl, sym, ap, subst, ◌∙◌, arith}
+use Rattle.std.proofs.Common.{◌≡◌, inl, inr, ℕ, pos, negsuc, List, [], ◌∷◌, map, filter, Bool, true, false, not, ◌==◌, codes, Option, option_map, Some, None, unwrap_or, Ok, Bor, refl, sym, ap, subst, ◌∙◌, arith}
 use Rattle.std.specs.List.{IsDistinct}
 use Rattle.std.specs.Prelude.{IfSome, IsUtf8}
 use Rattle.site_records.specs.Dates.{is_post_date}
@@ -40,14 +40,15 @@ use Rattle.site_records.specs.declared.post.Post.{Post}
 use Rattle.site_records.specs.declared.post.PostStatus.{PostStatus}
 use Rattle.post_tables.specs.Schema.{site_schema, post_table}
 use Rattle.post_tables.specs.Sorting.{sorted}
-use Rattle.post_tables.specs.Rows.{with_post, without_post, has_post, post_with, PostEdit, edited_post, edited_posts}
-use Rattle.post_tables.specs.Stored.{HoldsSite, IsReadable, ArePosts, IsCounter, row_of, post_in, top_in, rows_of, status_text}
+use Rattle.post_tables.specs.Rows.{with_post, without_post, post_with, PostEdit, edited_post, edited_posts}
+use Rattle.post_tables.specs.Stored.{HoldsSite, IsReadable, ArePosts, IsCounter, row_of, post_in, top_in, status_text}
 use Rattle.post_tables.proofs.Comparing.{cast_int, cast_null, number_compares, pos_cmp, same_number}
 use Rattle.post_tables.proofs.Creating.{went, same_value}
 use Rattle.post_tables.proofs.Memory.{wrote}
+use Rattle.post_tables.proofs.GivenIds.{edited_given}
 use Rattle.post_tables.proofs.Parts.{posts_now}
 use Rattle.post_tables.proofs.PageLemmas.{rising_from, rows_are}
-use Rattle.post_tables.proofs.PostRows.{same_posts, still_posts, some_posts, mapped_filter, one_or_none, none_edited, one_edited, any_is_found}
+use Rattle.post_tables.proofs.PostRows.{same_posts, still_posts, some_posts, mapped_filter, one_or_none, none_edited, one_edited}
 use Rattle.post_tables.proofs.Statements.{IsDone}
 use Rattle.post_tables.proofs.Reading as reading
 
@@ -196,7 +197,7 @@ edits_post old new holds id e good count h =
     let top : t.now.trees 1 ≡ db 1 = ap (λ (x : Trees). x 1) trees ∙ applied.tables.1.0 (λ e. omega arith) in
     let it = posts_now db t.now.trees holds.sound
     (ap (λ (x : Trees). x 2) trees ∙ applied.tables.1.1.0 (λ e. omega arith), ap (λ (x : Trees). x 4) trees ∙ applied.tables.1.1.1.0 (λ e. omega arith), ap (λ (x : Trees). x 6) trees ∙ applied.tables.1.1.1.1.0 (λ e. omega arith))
-    (subst (λ (x : Trees). ArePosts (x 0)) (sym trees) made.posts) (subst IsCounter (sym top) holds.sound.counter) _ (ap (λ (x : Trees). map post_in (x 0)) trees ∙ made.are) _ holds.sound.bounded (ap top_in top) in
+    (subst (λ (x : Trees). ArePosts (x 0)) (sym trees) made.posts) (subst IsCounter (sym top) holds.sound.counter) _ (ap (λ (x : Trees). map post_in (x 0)) trees ∙ made.are) _ holds.sound.bounded (ap top_in top) (edited_given id e (map post_in (db 0)) (top_in (db 1)) holds.sound.given) in
     record {
       holds = record { schema_is = ap (λ (d : Database). d.schema) now; sound = it.sound };
       rows = it.are;

@@ -1,5 +1,5 @@
 -- How the tables hold the rows of a site, and what stays true of them.
-use Rattle.std.specs.Prelude.{⊤, Bool, IsUtf8, None, length, if◌then◌else◌, codes, ◌≡◌, ℕ, ℤ, pos, negsuc, false, true, List, [], ◌∷◌, drop, map, IsTrue, bytes_eq, ◌<◌, ◌^◌, Result, IfOk, OnOk, OnErr}
+use Rattle.std.specs.Prelude.{⊤, Bool, IsUtf8, None, if◌then◌else◌, codes, ◌≡◌, ℕ, ℤ, pos, negsuc, false, true, List, [], ◌∷◌, drop, map, IsTrue, bytes_eq, ◌<◌, ◌≤◌, ◌^◌, Result, OnOk, OnErr}
 use Rattle.std.specs.List.{AllByRecursion, list_any}
 use Rattle.std.specs.Ordering.{is_eq, nat_cmp}
 use Rattle.std.specs.FinMap.{FinMap, from_entries}
@@ -22,7 +22,7 @@ use Rattle.site_records.specs.declared.post.PostStatus.{PostStatus}
 use Rattle.site_records.specs.declared.post.PostStatus.TheVariants.{Publish, Draft}
 use Rattle.site_records.specs.Dates.{is_post_date}
 use Rattle.post_tables.specs.Schema.{site_schema}
-use Rattle.post_tables.specs.Rows.{Text, by_bytes, Rows, has_post}
+use Rattle.post_tables.specs.Rows.{Text, by_bytes, Rows}
 
 -- the rows of the trees
 abbrev pub trees_of : Held MemStore → Trees
@@ -147,10 +147,15 @@ rows_in t = record {
   largest = top_in (t 1);
 }
 
+-- no ID of these is greater than the greatest ever given
+abbrev pub AreGiven : List Post → ℕ → Type 0
+AreGiven posts largest = AllByRecursion (λ p. p.id ≤ largest) posts
+
 pub record AreSound (t : Trees) : Type 0 where
   pub posts : ArePosts (t 0)
   pub counter : IsCounter (t 1)
   pub bounded : top_in (t 1) < 2 ^ 32
+  pub given : AreGiven (map post_in (t 0)) (top_in (t 1))
   pub options : AreNamed text_rest text_in (t 2)
   pub templates : AreNamed text_rest text_in (t 4)
   pub active : AreNamed no_rest nothing_in (t 6)

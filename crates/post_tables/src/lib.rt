@@ -3,6 +3,7 @@
 
 mod fault;
 mod import;
+mod listing;
 mod named;
 mod posts;
 mod read;

@@ -41,6 +41,7 @@ ghost use Rattle.post_tables.specs.Stored.{
 ghost use Rattle.sqlite.specs.Held.{state};
 ghost use Rattle.sqlite.specs.Steps.{over_memory};
 
+use crate::read::read_top;
 use site_records::{PostDate, PostKind, PostStatus};
 use sqlite::{Connection, Error, MemStore, Row, Transaction, params};
 
@@ -61,7 +62,7 @@ pub(crate) struct NewPost<'a> {
 }
 
 /// What the column `kind` has.
-fn kind_text(kind: PostKind) -> &'static str
+pub(crate) fn kind_text(kind: PostKind) -> &'static str
     ensures { result.now ≡ kind_text kind }
 {
     match kind {
@@ -197,8 +198,8 @@ pub(crate) fn edit_post(
     )
 }
 
-/// The greatest ID ever given is in the row that AUTOINCREMENT keeps.
-pub(crate) fn top_rows(conn: &mut Connection<MemStore>) -> Result<Vec<Row>, Error>
+/// The row that AUTOINCREMENT keeps, which has the greatest ID ever given.
+fn top_rows(conn: &mut Connection<MemStore>) -> Result<Vec<Row>, Error>
     requires { IsSite conn.old }
     ensures reads { Reads conn.old conn.new }
     ensures rows { IfOk result (λ rows. IsTop rows.items (rows_of conn.old).largest) }
@@ -206,6 +207,16 @@ pub(crate) fn top_rows(conn: &mut Connection<MemStore>) -> Result<Vec<Row>, Erro
     ensures memory { IfErr result IsNoMemory }
 {
     conn.query_all("SELECT seq FROM sqlite_sequence WHERE name = 'post'", &[])
+}
+
+/// The greatest ID ever given, or 0 before the first.
+pub(crate) fn largest_id(conn: &mut Connection<MemStore>) -> Result<u32, Error>
+    requires { IsSite conn.old }
+    ensures reads { Reads conn.old conn.new }
+    ensures largest { IfOk result (λ id. id ≡ (rows_of conn.old).largest) }
+    ensures memory { IfErr result IsNoMemory }
+{
+    read_top(&top_rows(conn)?)
 }
 
 pub(crate) fn post_rows(conn: &mut Connection<MemStore>, id: u32) -> Result<Vec<Row>, Error>

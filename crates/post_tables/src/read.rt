@@ -21,6 +21,7 @@ ghost use Rattle.post_tables.specs.Reading.{
   post_from,
   pair_from,
   name_from,
+  IsId,
   IsNoMemory,
   IsPostRow,
   IsPairRow,
@@ -78,9 +79,9 @@ fn read_date(text: &str) -> PostDate
     }
 }
 
-// The ID of a post's row.
-fn id_in(row: &Row) -> Result<u32, Error>
-    requires { IsPostRow row.now }
+/// The ID that a row begins with.
+pub(crate) fn read_id(row: &Row) -> Result<u32, Error>
+    requires { IsId (column row.now 0) }
     ensures ok { IfOk result (λ id. id ≡ magnitude (id_in (column row.now 0))) }
     ensures memory { IfErr result IsNoMemory }
 {
@@ -120,7 +121,7 @@ fn read_post(row: &Row) -> Result<Post, Error>
     ensures ok { IfOk result (λ post. post ≡ post_from row.now) }
 {
     Ok(Post {
-        id: id_in(row)?,
+        id: read_id(row)?,
         kind: kind_in(row)?,
         status: status_in(row)?,
         title: read_text(row, 3)?,
@@ -129,8 +130,8 @@ fn read_post(row: &Row) -> Result<Post, Error>
     })
 }
 
-// Puts a value behind the others.
-fn push<T: Drop>(values: &mut Vec<T>, value: T) -> Result<(), Error>
+/// Puts a value behind the others.
+pub(crate) fn push<T: Drop>(values: &mut Vec<T>, value: T) -> Result<(), Error>
     ensures ok { OnOk result (values.new.items ≡ values.old.items ++ value ∷ []) }
     ensures memory { IfErr result IsNoMemory }
 {

@@ -12,8 +12,13 @@ ghost use Rattle.std.specs.Prelude.{
   OnOk,
   OnErr,
   All,
+  Some,
+  map,
 };
 ghost use Rattle.std.specs.FinMap.{insert, entries, keys};
+ghost use Rattle.std.specs.List.{list_all};
+ghost use Rattle.std.specs.List.Sorted.{IsStrictlySortedBy};
+ghost use Rattle.std.specs.Ordering.{nat_cmp};
 ghost use Rattle.std.specs.Option.{option_copied};
 ghost use Rattle.post_tables.specs.Rows.{
   no_rows,
@@ -30,19 +35,19 @@ ghost use Rattle.post_tables.specs.Rows.{
   IsOfStore,
   IsRefusedAs,
 };
-ghost use Rattle.post_tables.specs.Page.{page_of};
+ghost use Rattle.post_tables.specs.Page.{newest, is_listed, page_of};
+ghost use Rattle.site_records.specs.Dates.{is_post_date};
 ghost use Rattle.post_tables.specs.Stored.{IsSite, Reads, rows_of};
 
 use crate::fault::TablesFault;
 use crate::import::import;
+use crate::listing::part;
 use crate::named::{
     active_rows, delete_active, delete_template, option_rows, put_active, put_option, put_template,
     template_rows,
 };
-use crate::posts::{
-    NewPost, delete_post, edit_post, has_post, insert_post, page_rows, post_rows, top_rows,
-};
-use crate::read::{read_found, read_names, read_pairs, read_posts, read_top};
+use crate::posts::{NewPost, delete_post, edit_post, has_post, insert_post, largest_id, post_rows};
+use crate::read::{read_found, read_names, read_pairs};
 use crate::schema::create;
 use hook_changes::{Listed, Text};
 use site_records::{Post, PostDate, PostKind, PostStatus, SiteRecords};
@@ -85,7 +90,7 @@ fn next_id(conn: &mut Connection<MemStore>) -> Result<u32, TablesFault>
         → 2147483647 ≤ (rows_of conn.old).largest }
     ensures fault { IfErr result (λ e. (e ≡ TablesFault.IdsUsedUp) ⊎ (e ≡ TablesFault.OutOfMemory)) }
 {
-    let largest = read_top(&top_rows(conn)?)?;
+    let largest = largest_id(conn)?;
     if largest >= GREATEST_ID {
         return Err(TablesFault::IdsUsedUp);
     }
@@ -93,6 +98,16 @@ fn next_id(conn: &mut Connection<MemStore>) -> Result<u32, TablesFault>
 }
 
 impl Tables {
+    /// A law: whatever calls were made, the IDs of posts ascend, so that each stands once, and none is above the
+    /// largest that was ever given. The call changes nothing: it carries these facts.
+    pub fn ids_stand_once(&self)
+        ensures once { IsStrictlySortedBy nat_cmp (map (λ p. p.id) self.now.posts) }
+        ensures given { All (λ p. p.id ≤ self.now.largest) self.now.posts }
+    {
+        // What holds of all tables is known once they are looked into.
+        let _conn = &self.conn;
+    }
+
     /// New tables with no rows.
     pub fn open_in_memory(alloc: Global) -> Result<Tables, TablesFault>
         ensures ok { IfOk result (λ tables. tables ≡ no_rows) }
@@ -125,6 +140,7 @@ impl Tables {
               date = date.now;
             })
             self.old) }
+        ensures fresh { IfOk result (λ id. has_post id self.old.posts ≡ false) }
         ensures err { OnErr result (self.new ≡ self.old) }
 
         // There is no ID left exactly where the greatest was given.
@@ -216,13 +232,17 @@ impl Tables {
             ≡ page_of kind from.now to.now limit offset self.old.posts) }
         ensures same { self.new ≡ self.old }
         ensures fault { IfErr result (λ e. e ≡ TablesFault.OutOfMemory) }
+
+        // Each is newer than all after it. All of them are listed, and are the posts that have their IDs.
+        ensures in_order { IfOk result (λ posts. IsStrictlySortedBy newest posts) }
+        ensures stored { IfOk result (λ posts. All (λ p. (is_listed kind from.now to.now p ≡ true)
+            × (post_with p.id self.old.posts ≡ Some p)) posts) }
+
+        // Whatever calls were made, each post has the date of a day and a time.
+        ensures dated { list_all (λ p. is_post_date p.date) self.old.posts ≡ true }
     {
-        // There are fewer IDs than that.
-        let Ok(offset) = u32::try_from(offset) else {
-            return Ok(Listed::empty(self.alloc));
-        };
-        let rows = page_rows(&mut self.conn, kind, from, to, limit, offset)?;
-        Ok(Listed::new(read_posts(self.alloc, &rows)?))
+        let posts = part(&mut self.conn, self.alloc, kind, from, to, limit, offset)?;
+        Ok(Listed::new(posts))
     }
 
     /// Sets the value of an option.

@@ -1,4 +1,4 @@
-use Rattle.std.proofs.Common.{◌<◌, ◌^◌, arith}
+use Rattle.std.proofs.Common.{arith}
 use Rattle.sqlite.proofs.Callers.{memory_is_clean}
 use Rattle.site_records.specs.declared.post.Post.{Post}
 use Rattle.post_tables.specs.Rows.{with_new}

@@ -1,10 +1,24 @@
-use Rattle.std.proofs.Common.{◌≤◌, ◌^◌, ◌∙◌, sym, ap, arith}
-use Rattle.post_tables.specs.Page.{page_of}
-use Rattle.post_tables.proofs.Beyond.{beyond}
+use Rattle.std.proofs.Common.{◌≡◌, ◌∙◌, true, sym, subst}
+use Rattle.std.specs.Prelude.{All}
+use Rattle.std.specs.List.{list_all}
+use Rattle.std.specs.List.Sorted.{IsStrictlySortedBy}
+use Rattle.site_records.specs.Dates.{is_post_date}
+use Rattle.post_tables.specs.Page.{newest}
+use Rattle.post_tables.proofs.PartLemmas.{IsOf, site_rises, site_dated, part_rises, part_is_of}
 use Rattle.post_tables.proofs.tables.Tables.posts_of.Goals as goal
 
-pub returns-in_default-clause-ok : goal.returns-in_default-clause-ok
-returns-in_default-clause-ok c =
-    let far : 2 ^ 32 ≤ c.args.offset = omega (arith, c.in_default.ensures) in
-    let none = beyond c.self.inside.conn c.self.invariant c.args.kind c.args.from.now c.args.to.now c.args.limit c.args.offset far in
-    c.empty.ensures ∙ sym none ∙ ap (λ s. page_of c.args.kind c.args.from.now c.args.to.now c.args.limit c.args.offset s.posts) c.self.view_is
+pub returns-in_err-posts-clause-dated : goal.returns-in_err-posts-clause-dated
+returns-in_err-posts-clause-dated c = subst (λ s. list_all (λ p. is_post_date p.date) s.posts ≡ true) c.self.view_is (site_dated c.self.inside.conn c.self.invariant)
+
+pub returns-clause-in_order : goal.returns-clause-in_order
+returns-clause-in_order c =
+    let rises = part_rises c.args.kind c.args.from.now c.args.to.now c.args.limit c.args.offset _ (site_rises c.self.inside.conn c.self.invariant) in
+    subst (IsStrictlySortedBy newest) (sym (c.new.ensures ∙ c.in_ok-posts.ensures.posts)) rises
+
+pub returns-clause-stored : goal.returns-clause-stored
+returns-clause-stored c =
+    let each = part_is_of c.args.kind c.args.from.now c.args.to.now c.args.limit c.args.offset _ (site_rises c.self.inside.conn c.self.invariant) in
+    subst (λ s. All (IsOf c.args.kind c.args.from.now c.args.to.now s.posts) c.new.result) c.self.view_is (subst (All (IsOf c.args.kind c.args.from.now c.args.to.now _)) (sym (c.new.ensures ∙ c.in_ok-posts.ensures.posts)) each)
+
+pub returns-clause-dated : goal.returns-clause-dated
+returns-clause-dated c = subst (λ s. list_all (λ p. is_post_date p.date) s.posts ≡ true) c.self.view_is (site_dated c.self.inside.conn c.self.invariant)
