@@ -1,6 +1,7 @@
 //! What a callback reads of its call, and the forms of its reply.
 ghost use Rattle.std.specs.Prelude.{◌≡◌, ◌++◌, IfOk, OnOk, codes, flat_map};
-ghost use Rattle.bundled_plugins.specs.Calls.{first_argument, second_argument, text_in, shown, listed, answers_text, changes_and_answers, changes_and_asks, asks};
+ghost use Rattle.bundled_plugins.specs.Calls.{first_argument, second_argument, text_in, shown, listed};
+ghost use Rattle.bundled_plugins.specs.Calls.{answers_text, changes_and_answers, changes_and_asks, asks};
 
 use hook_changes::{Answer, Ask, Call, Change, Listed, Reply, Text, Then};
 use itoa::Buffer;

@@ -4,7 +4,8 @@ ghost use Rattle.std.specs.List.{list_all};
 ghost use Rattle.hook_changes.specs.declared.reply.Change.{Change};
 ghost use Rattle.hook_changes.specs.declared.reply.Ask.{Ask};
 ghost use Rattle.bundled_plugins.specs.Calls.{shown, answers_text, changes_and_asks};
-ghost use Rattle.bundled_plugins.specs.Replies.{says, reply_in, the_title, asks_its_own_hook, replaces_content, attributes_listed, named_listed, positional_listed, link, asks_in_turn, is_run_of_d, in_parentheses, goes_deeper, counts_pings};
+ghost use Rattle.bundled_plugins.specs.Replies.{says, reply_in, the_title, asks_its_own_hook, replaces_content, attributes_listed, named_listed};
+ghost use Rattle.bundled_plugins.specs.Replies.{positional_listed, link, asks_in_turn, is_run_of_d, in_parentheses, goes_deeper, counts_pings};
 ghost use Rattle.bundled_plugins.specs.Rows.{replies_of, AreStated};
 
 use crate::calls::{

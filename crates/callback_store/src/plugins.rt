@@ -1,12 +1,14 @@
 // Plugins, with their load lists and callbacks.
-ghost use Rattle.std.specs.Prelude.{◌≡◌, ◌≢◌, ◌++◌, map, IfOk, IfErr, OnOk, IsTrue, IfSome, None, Some, option_map, is_some, find, bytes_eq, ◌==◌, ◌&&◌, ◌||◌, not, nat_lt, length, slice_get};
+ghost use Rattle.std.specs.Prelude.{◌≡◌, ◌≢◌, ◌++◌, map, IfOk, IfErr, OnOk, IsTrue, IfSome, None, Some};
+ghost use Rattle.std.specs.Prelude.{option_map, is_some, find, bytes_eq, ◌==◌, ◌&&◌, ◌||◌, not, nat_lt, length, slice_get};
 ghost use Rattle.std.specs.List.{list_any};
 ghost use Rattle.std.specs.List.Sorted.{IsPermutation, IsSortedByKey};
 ghost use Rattle.std.specs.Ordering.{nat_cmp};
 ghost use Rattle.std.specs.Cmp.Lexicographic.{slice_cmp};
 ghost use Rattle.std.specs.Option.{option_copied};
 ghost use Rattle.hook_changes.specs.Names.{is_tag_name};
-ghost use Rattle.callback_store.specs.Shape.{AreInOrder, shape_of, shapes_of, has_callback, is_held, is_held_by, by_name, owner, load_of};
+ghost use Rattle.callback_store.specs.Shape.{AreInOrder, shape_of, shapes_of, has_callback, is_held};
+ghost use Rattle.callback_store.specs.Shape.{is_held_by, by_name, owner, load_of};
 ghost use Rattle.callback_store.specs.Faults.{has_repeat, is_large, has_same_callback, numbers, fault_of};
 
 use crate::fault::PluginFault;

@@ -48,8 +48,8 @@ impl PieceCache {
         }
     }
 
-    /// The pieces of the text by the names in `live`, as `shortcode_scan::pieces` gives them. They are kept for the next
-    /// time, unless memory for that runs out.
+    /// The pieces of the text by the names in `live`, as `shortcode_scan::pieces` gives them. They are kept for the
+    /// next time, unless memory for that runs out.
     pub fn pieces(&mut self, live: &[TagName], text: &str) -> Result<Vec<Piece>, AllocError>
         ensures pieces { IfOk result (λ pieces. IsPieces live.now text.now pieces.items) }
         ensures value { IfOk result (λ pieces. pieces.items ≡ pieces_of live.now text.now) }

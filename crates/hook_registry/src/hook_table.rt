@@ -1,9 +1,11 @@
 // The registrations of every hook.
-ghost use Rattle.std.specs.Prelude.{◌≡◌, ◌≤◌, [], List, IfOk, IfErr, OnOk, OnErr, unwrap_or, map, min, ◌+◌, Option, None};
+ghost use Rattle.std.specs.Prelude.{◌≡◌, ◌≤◌, [], List, IfOk, IfErr, OnOk};
+ghost use Rattle.std.specs.Prelude.{OnErr, unwrap_or, map, min, ◌+◌, Option, None};
 ghost use Rattle.std.specs.List.{list_any};
 ghost use Rattle.hook_registry.specs.Named.{value_of, set_value, remove_value};
 ghost use Rattle.hook_registry.specs.Order.{IsAscending};
-ghost use Rattle.hook_registry.specs.Table.{Table, registrations, add, remove, remove_all, group, next_priority, has, is_of, priority_of};
+ghost use Rattle.hook_registry.specs.Table.{Table, registrations, add, remove, remove_all};
+ghost use Rattle.hook_registry.specs.Table.{group, next_priority, has, is_of, priority_of};
 
 use crate::list::{self, HookList};
 use crate::registration::{Entry, Priority, Registration};

@@ -19,11 +19,11 @@ ghost use Rattle.hook_registry.specs.Table.{
 ghost use Rattle.hook_registry.specs.OneList.{TableChange, changed, table_after, list_after};
 ghost use Rattle.hook_registry.specs.OneList.{is_in, is_same, registrations_in, priority_changed};
 
-/// A law: after any changes from an empty registry, the table has under each hook what one list of all registrations, in
-/// the order of adding, has of that hook, by ascending priority and those of one priority in their order. So at each
+/// A law: after any changes from an empty registry, the table has under each hook what one list of all registrations,
+/// in the order of adding, has of that hook, by ascending priority and those of one priority in their order. So at each
 /// priority it has the callbacks of the one list, and the least priority above any is the one list's. A hook has a
-/// registration, and a callback its least priority under it, as in the one list; and `Registry::remove` says whether the
-/// one list has the registration.
+/// registration, and a callback its least priority under it, as in the one list; and `Registry::remove` says whether
+/// the one list has the registration.
 pub fn one_list()
     ensures registrations { (changes : List TableChange) (hook : List ℕ)
         → registrations (table_after changes) hook ≡ by_priority (registrations_in (list_after changes) hook) }

@@ -1,9 +1,11 @@
 // The registrations of one hook.
-ghost use Rattle.std.specs.Prelude.{◌≡◌, ◌≤◌, ◌==◌, true, false, not, length, [], List, Option, Some, IfOk, OnOk, OnErr, map, filter};
+ghost use Rattle.std.specs.Prelude.{◌≡◌, ◌≤◌, ◌==◌, true, false, not, length, []};
+ghost use Rattle.std.specs.Prelude.{List, Option, Some, IfOk, OnOk, OnErr, map, filter};
 ghost use Rattle.std.specs.List.{list_any};
 ghost use Rattle.std.specs.List.Sorted.{IsPartitionPoint};
 ghost use Rattle.hook_registry.specs.Order.{IsAscending};
-ghost use Rattle.hook_registry.specs.Table.{with_added, is_at, is_of, is_other, is_above, is_below, entry_of, least, least_priority};
+ghost use Rattle.hook_registry.specs.Table.{with_added, is_at, is_of, is_other, is_above};
+ghost use Rattle.hook_registry.specs.Table.{is_below, entry_of, least, least_priority};
 
 use crate::registration::{Entry, Priority, Registration};
 use hook_changes::CallbackId;

@@ -2,7 +2,8 @@
 ghost use Rattle.std.specs.Prelude.{◌≡◌, ◌≤◌, ◌+◌, [], IfOk, OnOk, OnErr, map, is_some, min, unwrap_or};
 ghost use Rattle.std.specs.List.{list_any};
 ghost use Rattle.hook_registry.specs.Named.{value_of, set_value, remove_value};
-ghost use Rattle.hook_registry.specs.Table.{Table, registrations, add, remove, remove_all, group, next_priority, has, is_of, priority_of, times_fired};
+ghost use Rattle.hook_registry.specs.Table.{Table, registrations, add, remove, remove_all, group};
+ghost use Rattle.hook_registry.specs.Table.{next_priority, has, is_of, priority_of, times_fired};
 
 use crate::hook_table::HookTable;
 use crate::named::Named;
