@@ -1,5 +1,6 @@
 // The groups of one hook.
-ghost use Rattle.std.specs.Prelude.{◌≡◌, ◌<◌, [], true, false, not, length, map, filter, None, Some, OnOk, OnErr, MatchOption, MatchResult};
+ghost use Rattle.std.specs.Prelude.{◌≡◌, ◌<◌, [], true, false, not, length, map};
+ghost use Rattle.std.specs.Prelude.{filter, None, Some, OnOk, OnErr, MatchOption, MatchResult};
 ghost use Rattle.hook_registry.specs.Table.{with_added, is_at, is_of, is_other, is_above, entry_of, least_priority};
 ghost use Rattle.call_plans.specs.Groups.{registrations_of, IsPlan, IsAt, IsGap, IsPlaceAbove};
 
@@ -10,8 +11,8 @@ use hook_registry::{Entry, Priority};
 use std::alloc::{AllocError, Global};
 use std::marker::Model;
 
-/// The groups of one hook by ascending priority, none of them empty. Contracts see the hook's registrations in the order
-/// in which they run.
+/// The groups of one hook by ascending priority, none of them empty. Contracts see the hook's registrations in the
+/// order in which they run.
 #[derive(Drop)]
 pub struct HookPlan {
     groups: Vec<Group>,

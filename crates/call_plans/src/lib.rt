@@ -1,7 +1,7 @@
 //! Plans of hooks: the callbacks of each hook in groups, one for each priority, which passes share.
 //!
-//! A pass holds the group that it reached, and a change puts a new group in its place (class WP_Hook). So a pass goes on
-//! through the group as it was, whatever changes meanwhile, and copies none of it.
+//! A pass holds the group that it reached, and a change puts a new group in its place (class WP_Hook). So a pass goes
+//! on through the group as it was, whatever changes meanwhile, and copies none of it.
 #![tactic(auto)]
 
 mod entries;

@@ -1,13 +1,16 @@
 //! Makes passes of a filter over many callbacks, so that a script can time them.
 //!
-//! `engine_bench COUNT TIMES [many]` registers COUNT callbacks (0 to 1,000), all at one priority or each at its own, makes
-//! TIMES passes over them and prints the value after the last one. A number that is left out is 3.
+//! `engine_bench COUNT TIMES [many]` registers COUNT callbacks (0 to 1,000), all at one priority or each at its own,
+//! makes TIMES passes over them and prints the value after the last one. A number that is left out is 3.
 #![tactic(auto)]
+
+ghost use Rattle.hook_machine.specs.Runs.{IsReady};
 
 mod crowd;
 mod kept;
 
 use callback_store::{Plugins, Stated};
+use content_cache::PieceCache;
 use crowd::{HOOK, Spread, active, crowd};
 use hook_changes::{Listed, Text};
 use hook_machine::{Run, RunFault};
@@ -57,19 +60,27 @@ fn passes_over<S: Stated>(
     times: u32,
 ) -> Result<Text, RunFault> {
     let active = active(alloc)?;
+    let mut cache = PieceCache::new(alloc, 1)?;
     let mut run = Run::new(alloc, plugins, active.as_slice(), &[], u32::MAX)?;
-    let value = passes(alloc, &mut run, times);
+    let value = passes(alloc, &mut run, times, &mut cache);
     run.end();
     value
 }
 
 /// Runs `times` passes, after the load lists of all plugins, and returns the value of the last.
-fn passes<S: Stated>(alloc: Global, run: &mut Run<'_, S>, times: u32) -> Result<Text, RunFault> {
+fn passes<S: Stated>(
+    alloc: Global,
+    run: &mut Run<'_, S>,
+    times: u32,
+    cache: &mut PieceCache,
+) -> Result<Text, RunFault>
+    requires { IsReady run.old }
+{
     run.load()?;
     let none = Listed::empty(alloc);
     let mut value = Text::copied(alloc, "value")?;
     for _ in 0..times {
-        value = run.apply_filters(HOOK, value, &none)?;
+        value = run.apply_filters(HOOK, value, &none, cache)?;
     }
     Ok(value)
 }

@@ -1,8 +1,11 @@
 //! Passes over the test plugins, each worked out from the rules.
+ghost use Rattle.hook_machine.specs.Runs.{CanBegin, IsReady};
+
 use crate::callbacks::Tested;
 use crate::plugins::{Given, Load, plugins};
 use Load::{Add, No, Tag};
 use callback_store::Plugins;
+use content_cache::PieceCache;
 use hook_changes::{Listed, Text};
 use hook_machine::{Run, RunFault};
 use std::alloc::{AllocError, Global};
@@ -249,9 +252,12 @@ fn is_run_over(alloc: Global, plugins: &Plugins<Tested>, case: &Case) -> bool {
 }
 
 fn runs(alloc: Global, plugins: &Plugins<Tested>, active: &[Text], case: &Case) -> bool {
+    let Ok(mut cache) = PieceCache::new(alloc, 1) else {
+        return false;
+    };
     match Run::new(alloc, plugins, active, &[], case.3) {
         Ok(mut run) => {
-            let is_answered = answers(alloc, &mut run, case);
+            let is_answered = answers(alloc, &mut run, case, &mut cache);
             run.end();
             is_answered
         }
@@ -259,18 +265,33 @@ fn runs(alloc: Global, plugins: &Plugins<Tested>, active: &[Text], case: &Case) 
     }
 }
 
-fn answers(alloc: Global, run: &mut Run<'_, Tested>, case: &Case) -> bool {
+fn answers(alloc: Global, run: &mut Run<'_, Tested>, case: &Case, cache: &mut PieceCache) -> bool
+    requires { IsReady run.old }
+{
     run.load().is_ok()
-        && is_title(alloc, run, case.4)
-        && is_title(alloc, run, case.5)
-        && is_text(run.do_shortcode(TEXT), case.6)
+        && is_title(alloc, run, case.4, cache)
+        && is_title(alloc, run, case.5, cache)
+        && is_text(run.do_shortcode(TEXT, cache), case.6)
 }
 
-fn is_title(alloc: Global, run: &mut Run<'_, Tested>, wanted: Answer) -> bool {
-    is_text(
-        run.apply_filters("the_title", Text::empty(alloc), &Listed::empty(alloc)),
-        wanted,
-    )
+fn is_title(
+    alloc: Global,
+    run: &mut Run<'_, Tested>,
+    wanted: Answer,
+    cache: &mut PieceCache,
+) -> bool
+    requires { CanBegin run.old }
+    ensures { CanBegin run.new }
+{
+    match run.apply_filters(
+        "the_title",
+        Text::empty(alloc),
+        &Listed::empty(alloc),
+        cache,
+    ) {
+        Ok(text) => wanted == Ok(text.as_str()),
+        Err(fault) => wanted == Err(fault),
+    }
 }
 
 fn is_text(found: Result<Text, RunFault>, wanted: Answer) -> bool {

@@ -6,3 +6,8 @@ pub mod Rows
 pub mod Registered
 pub mod Throughout
 pub mod Built
+pub mod Walk
+pub mod Steps
+pub mod Moving
+pub mod Giving
+mod Cutting

@@ -8,6 +8,9 @@ use Rattle.callback_store.specs.Shape.{Shape}
 use Rattle.hook_machine.specs.World.{Text, World, changed}
 use Rattle.hook_machine.specs.Trace.{Trace, turns_of}
 use Rattle.hook_machine.specs.Meaning.{Engine, invoke, filtered, acted, replaced}
+use Rattle.hook_machine.specs.declared.resuming.Job.{Job}
+use Rattle.hook_machine.specs.declared.resuming.Job.TheVariants as job
+use Rattle.hook_machine.specs.Jobs.{TurnsWithin}
 use Rattle.hook_machine.specs.Throughout.{worlds_of, names_active, KeepsOutInactive, IsWithinCalls, IsWithinDepth}
 use Rattle.hook_machine.proofs.Agree.{Agree, agree_done, agree_refused, agree_turn, agree_then, Keeps, agree_filter, agree_action, agree_shortcodes, same, Any, keeps_any}
 use Rattle.hook_machine.proofs.Registered.{keeps_names}
@@ -17,7 +20,7 @@ agree-worlds (agree_done h) = (h.1, tt)
 agree-worlds agree_refused = tt
 agree-worlds (agree_turn i r) = (i, agree-worlds r)
 
-agree-turns : {A : Type 0} {I : World → Type 0} {c : ℕ} {t u : Trace A} → Agree I c t u → length (turns_of t) ≤ c
+pub agree-turns : {A : Type 0} {I : World → Type 0} {c : ℕ} {t u : Trace A} → Agree I c t u → length (turns_of t) ≤ c
 agree-turns (agree_done h) = omega arith
 agree-turns agree_refused = omega arith
 agree-turns (agree_turn i r) = omega (arith, agree-turns r)
@@ -36,7 +39,7 @@ module _ (engine : Engine) (I : World → Type 0) (keep : Keeps engine.plugins I
   unfolding replaced
   kept-replaced w text i = agree_shortcodes engine.plugins I keep w.calls (invoke engine) (invoke engine) (same engine I keep w.calls) w.calls (omega arith) w text (omega arith, i)
 
-abbrev IsShallow : World → Type 0
+abbrev pub IsShallow : World → Type 0
 IsShallow w = w.depth ≤ 32
 
 changed-shallow : (plugins : List Shape) (w : World) (c : Change) → IsShallow w → IsShallow (changed plugins w c)
@@ -47,7 +50,7 @@ changed-shallow plugins w (AddTag tag callback) i = i
 changed-shallow plugins w (RemoveTag tag) i = i
 changed-shallow plugins w RemoveAllTags i = i
 
-keeps_shallow : (plugins : List Shape) → Keeps plugins IsShallow
+pub keeps_shallow : (plugins : List Shape) → Keeps plugins IsShallow
 keeps_shallow plugins = record {
   calls = λ w n i. i;
   deeper = λ w e i. omega (arith, ltb-true w.depth 32 e);
@@ -85,3 +88,11 @@ module _ (engine : Engine) where
 
   pub depth-replaced : (w : World) (text : Text) → w.depth ≤ 32 → IsWithinDepth (replaced engine w text)
   depth-replaced w text i = agree-worlds (kept-replaced engine IsShallow (keeps_shallow engine.plugins) w text i)
+
+  pub turns-within : (w : World) (j : Job) → TurnsWithin engine w j
+  turns-within w (job.Filters hook value args) =
+      agree-turns (agree_filter engine.plugins Any (keeps_any engine.plugins) w.calls (invoke engine) (invoke engine) (same engine Any (keeps_any engine.plugins) w.calls) w.calls (omega arith) w hook value args (omega arith, tt))
+  turns-within w (job.Action hook args) =
+      agree-turns (agree_action engine.plugins Any (keeps_any engine.plugins) w.calls (invoke engine) (invoke engine) (same engine Any (keeps_any engine.plugins) w.calls) w.calls (omega arith) w hook args (omega arith, tt))
+  turns-within w (job.Shortcodes text) =
+      agree-turns (agree_shortcodes engine.plugins Any (keeps_any engine.plugins) w.calls (invoke engine) (invoke engine) (same engine Any (keeps_any engine.plugins) w.calls) w.calls (omega arith) w text (omega arith, tt))

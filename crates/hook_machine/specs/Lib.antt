@@ -3,6 +3,11 @@ pub mod Trace
 pub mod Meaning
 pub mod Ends
 pub mod Works
+pub mod Cuts
+pub mod Rest
+pub mod Moves
+pub mod Handling
+pub mod Jobs
 pub mod Runs
 pub mod Folding
 pub mod Throughout

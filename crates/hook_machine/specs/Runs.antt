@@ -1,11 +1,15 @@
 -- What contracts see of a run.
-use Rattle.std.specs.Prelude.{ℕ, Option, None, Some, Result, Ok, Err}
+use Rattle.std.specs.Prelude.{◌≡◌, ℕ, [], Option, None, Some, Result, Ok, Err, ⊤}
 use Rattle.hook_changes.specs.declared.reply.Call.{Call}
 use Rattle.hook_changes.specs.declared.reply.Reply.{Reply}
 use Rattle.callback_store.specs.Shape.{shapes_of}
 use Rattle.hook_machine.specs.declared.fault.RunFault.{RunFault}
 use Rattle.hook_machine.specs.declared.run.Run.{Run}
-use Rattle.hook_machine.specs.World.{World}
+use Rattle.hook_machine.specs.declared.resuming.Turn.{Turn}
+use Rattle.hook_machine.specs.declared.resuming.Turn.TheVariants as turn
+use Rattle.hook_machine.specs.World.{Text, World}
+use Rattle.hook_machine.specs.Trace.{Trace}
+use Rattle.hook_machine.specs.Jobs.{left_from}
 use Rattle.hook_machine.specs.Meaning.{Engine}
 use Rattle.hook_machine.specs.Ends.{engine_with}
 
@@ -17,6 +21,28 @@ module _ {S : Type 0} where
   -- the fault that the run has answered, if it has
   abbrev pub fault_of : Run S → Option RunFault
   fault_of run = run.fault
+
+  -- no job is under way
+  abbrev pub IsIdle : Run S → Type 0
+  IsIdle run = (run.job ≡ None) × (run.stack ≡ [])
+
+  -- another job may begin: none is under way, unless the run has answered a fault
+  abbrev pub CanBegin : Run S → Type 0
+  CanBegin run = fault_of run ≡ None → IsIdle run
+
+  -- no fault was answered, and no job is under way
+  abbrev pub IsReady : Run S → Type 0
+  IsReady run = (fault_of run ≡ None) × IsIdle run
+
+  -- what the run has still to do
+  abbrev pub left_of : Engine → Run S → Trace Text
+  left_of engine run = left_from engine run.state run.job run.stack
+
+  -- where the turn is the last one, no job is under way
+  abbrev pub IsIdleAtEnd : Result Turn RunFault → Run S → Type 0
+  IsIdleAtEnd (Ok turn.More) run = ⊤
+  IsIdleAtEnd (Ok (turn.Done x)) run = IsIdle run
+  IsIdleAtEnd (Err fault) run = ⊤
 
   -- the stated replies, and the plugins of the run
   abbrev pub engine_of : (ℕ → Call → Reply) → (S → ℕ) → Run S → Engine

@@ -12,7 +12,9 @@ ghost use Rattle.hook_machine.specs.Throughout.{
   IsWithinDepth,
 };
 ghost use Rattle.hook_machine.specs.Tables.{table_changes, table_with, HasBuiltTable};
+ghost use Rattle.hook_machine.specs.declared.resuming.Job.{Job};
 ghost use Rattle.hook_machine.specs.Folding.{PlainFold};
+ghost use Rattle.hook_machine.specs.Jobs.{TurnsWithin, GivesNothing};
 
 /// A law: callbacks that neither change anything nor ask, whatever they are called with, make of a value what their
 /// answers make of it one after another, by ascending priority and then in the order of adding (Plugin Handbook,
@@ -49,6 +51,17 @@ pub fn passes_keep_to_their_calls()
         → IsWithinCalls world.calls (replaced engine world text) }
 {}
 
+/// A law: a job makes no more invocations than calls are left, so it is done after one turn more at the latest.
+pub fn turns_within_calls()
+    ensures { (engine : Engine) (world : World) (job : Job) → TurnsWithin engine world job }
+{}
+
+/// A law: an action has no other result than empty text.
+pub fn actions_give_nothing()
+    ensures { (engine : Engine) (world : World) (hook : Text) (args : List Text)
+        → GivesNothing engine world hook args }
+{}
+
 /// A law: a pass that begins at most 32 levels deep never goes deeper than 32.
 pub fn passes_keep_to_their_depth()
     ensures filtered { (engine : Engine) (world : World) (hook value : Text) (args : List Text)
@@ -59,9 +72,9 @@ pub fn passes_keep_to_their_depth()
         → world.depth ≤ 32 → IsWithinDepth (replaced engine world text) }
 {}
 
-/// A law: a request's table is what some changes leave, if nothing was registered before, once the request has loaded and
-/// after each invocation and each pass. So it is a table of which `hook_registry::one_list` speaks. Each change of a reply
-/// or a load list makes one change of the table at most.
+/// A law: a request's table is what some changes leave, if nothing was registered before, once the request has loaded
+/// and after each invocation and each pass. So it is a table of which `hook_registry::one_list` speaks. Each change of
+/// a reply or a load list makes one change of the table at most.
 pub fn tables_are_built()
     ensures changed { (plugins : List Shape) (world : World) (change : Change)
         → (changed plugins world change).table ≡ table_with world.table (table_changes plugins world change) }

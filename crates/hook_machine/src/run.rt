@@ -1,12 +1,16 @@
 // A request's run, as its page sees it.
-ghost use Rattle.std.specs.Prelude.{◌≡◌, IfOk};
+ghost use Rattle.std.specs.Prelude.{◌≡◌, [], None, IfOk, OnOk};
+ghost use Rattle.hook_machine.specs.Meaning.{filtered, action_pass, replaced, invoke};
+ghost use Rattle.hook_machine.specs.Ends.{Ends, engine_over};
 ghost use Rattle.hook_machine.specs.Runs.{fault_in};
 
 use crate::fault::RunFault;
-use crate::machine::{run_action, run_filter, run_shortcodes};
+use crate::frame::Stack;
 use crate::pass::copies;
+use crate::resuming::{Job, Turn, next_turn, run_job};
 use crate::state::State;
 use callback_store::{Plugins, Stated};
+use content_cache::PieceCache;
 use hook_changes::{Listed, Text};
 use std::alloc::{AllocError, Global};
 
@@ -17,7 +21,95 @@ use std::alloc::{AllocError, Global};
 pub struct Run<'a, S> {
     plugins: &'a Plugins<S>,
     state: State,
+    /// A job that isn't begun.
+    job: Option<Job>,
+    /// What is left of one that is.
+    stack: Stack,
     fault: Option<RunFault>,
+}
+
+/// The job of `apply_filters`.
+fn filters(alloc: Global, hook: &str, value: Text, args: &Listed<Text>) -> Result<Job, AllocError>
+    ensures { IfOk result (λ job. job ≡ Job.Filters hook.now value args.now) }
+{
+    Ok(Job::Filters {
+        hook: Text::copied(alloc, hook)?,
+        value,
+        args: Listed::new(copies(alloc, args.as_slice())?),
+    })
+}
+
+/// The job of `do_action`.
+fn action(alloc: Global, hook: &str, args: &Listed<Text>) -> Result<Job, AllocError>
+    ensures { IfOk result (λ job. job ≡ Job.Action hook.now args.now) }
+{
+    Ok(Job::Action {
+        hook: Text::copied(alloc, hook)?,
+        args: Listed::new(copies(alloc, args.as_slice())?),
+    })
+}
+
+/// The job of `do_shortcode`.
+fn shortcodes(alloc: Global, text: &str) -> Result<Job, AllocError>
+    ensures { IfOk result (λ job. job ≡ Job.Shortcodes text.now) }
+{
+    Ok(Job::Shortcodes {
+        text: Text::copied(alloc, text)?,
+    })
+}
+
+/// Runs `apply_filters` to its end.
+fn run_filters<S: Stated>(
+    plugins: &Plugins<S>,
+    state: &mut State,
+    stack: &mut Stack,
+    hook: &str,
+    value: Text,
+    args: &Listed<Text>,
+    cache: &mut PieceCache,
+) -> Result<Text, RunFault>
+    requires { stack.old ≡ [] }
+    ensures ends { Ends
+        (filtered (engine_over S.says S.number plugins.now) state.old hook.now value args.now) result state.new }
+    ensures over { OnOk result (stack.new ≡ []) }
+{
+    let job = filters(state.alloc(), hook, value, args)?;
+    run_job(plugins, state, stack, job, cache)
+}
+
+/// Runs `do_action` to its end.
+fn run_action<S: Stated>(
+    plugins: &Plugins<S>,
+    state: &mut State,
+    stack: &mut Stack,
+    hook: &str,
+    args: &Listed<Text>,
+    cache: &mut PieceCache,
+) -> Result<Text, RunFault>
+    requires { stack.old ≡ [] }
+    ensures ends { Ends
+        (action_pass (invoke (engine_over S.says S.number plugins.now)) state.old hook.now args.now) result state.new }
+    ensures over { OnOk result (stack.new ≡ []) }
+{
+    let job = action(state.alloc(), hook, args)?;
+    run_job(plugins, state, stack, job, cache)
+}
+
+/// Runs `do_shortcode` to its end.
+fn run_shortcodes<S: Stated>(
+    plugins: &Plugins<S>,
+    state: &mut State,
+    stack: &mut Stack,
+    text: &str,
+    cache: &mut PieceCache,
+) -> Result<Text, RunFault>
+    requires { stack.old ≡ [] }
+    ensures ends { Ends
+        (replaced (engine_over S.says S.number plugins.now) state.old text.now) result state.new }
+    ensures over { OnOk result (stack.new ≡ []) }
+{
+    let job = shortcodes(state.alloc(), text)?;
+    run_job(plugins, state, stack, job, cache)
 }
 
 /// Copies pairs of texts.
@@ -48,7 +140,9 @@ impl<'a, S: Stated> Run<'a, S> {
     ghost use Rattle.hook_machine.specs.World.{fresh, loaded};
     ghost use Rattle.hook_machine.specs.Meaning.{filtered, acted, replaced};
     ghost use Rattle.hook_machine.specs.Ends.{Ends, engine_with};
-    ghost use Rattle.hook_machine.specs.Runs.{world_of, fault_of, engine_of};
+    ghost use Rattle.hook_machine.specs.Moves.{Turns};
+    ghost use Rattle.hook_machine.specs.Jobs.{job_left};
+    ghost use Rattle.hook_machine.specs.Runs.{world_of, fault_of, engine_of, left_of, CanBegin, IsIdle, IsIdleAtEnd};
 
     /// A run with nothing registered and nothing printed, of a site with these active plugins and options, that may
     /// make so many invocations. Where an option has two values, the first counts.
@@ -61,7 +155,9 @@ impl<'a, S: Stated> Run<'a, S> {
     ) -> Result<Self, RunFault>
         ensures world { IfOk result (λ run. world_of run ≡ fresh calls options.now active.now) }
         ensures sound { IfOk result (λ run. fault_of run ≡ None) }
-        ensures engine { IfOk result (λ run. engine_of S.says S.number run ≡ engine_with S.says (shapes_of S.number plugins.entry.now)) }
+        ensures idle { IfOk result (λ run. IsIdle run) }
+        ensures engine { IfOk result (λ run. engine_of S.says S.number run ≡ engine_with S.says
+            (shapes_of S.number plugins.entry.now)) }
         ensures err { IfErr result (λ fault. fault ≡ RunFault.OutOfMemory) }
     {
         let active = Listed::new(copies(alloc, active)?);
@@ -69,6 +165,8 @@ impl<'a, S: Stated> Run<'a, S> {
         Ok(Run {
             plugins,
             state: State::new(alloc, active, options, calls),
+            job: None,
+            stack: Stack::none(alloc),
             fault: None,
         })
     }
@@ -76,7 +174,11 @@ impl<'a, S: Stated> Run<'a, S> {
     /// Carries out core's own registration, and then the load lists of the active plugins in the order of their names.
     /// It invokes no callback.
     pub fn load(&mut self) -> Result<(), RunFault>
-        ensures loaded { fault_of self.old ≡ None → OnOk result (world_of self.new ≡ loaded (engine_of S.says S.number self.old).plugins (world_of self.old)) }
+        requires idle { CanBegin self.old }
+        ensures idle { OnOk result (IsIdle self.new) }
+        ensures loaded { fault_of self.old ≡ None →
+            OnOk result (world_of self.new ≡ loaded (engine_of S.says S.number self.old).plugins
+            (world_of self.old)) }
         ensures memory { fault_of self.old ≡ None → IfErr result (λ fault. fault ≡ RunFault.OutOfMemory) }
         ensures sound { OnOk result (fault_of self.new ≡ None) }
         ensures fault { IfErr result (λ fault. fault_of self.new ≡ Some fault) }
@@ -102,8 +204,13 @@ impl<'a, S: Stated> Run<'a, S> {
         hook: &str,
         value: Text,
         args: &Listed<Text>,
+        cache: &mut PieceCache,
     ) -> Result<Text, RunFault>
-        ensures filtered { fault_of self.old ≡ None → Ends (filtered (engine_of S.says S.number self.old) (world_of self.old) hook.now value args.now) result (world_of self.new) }
+        requires idle { CanBegin self.old }
+        ensures idle { OnOk result (IsIdle self.new) }
+        ensures filtered { fault_of self.old ≡ None →
+            Ends (filtered (engine_of S.says S.number self.old) (world_of self.old) hook.now value args.now) result
+            (world_of self.new) }
         ensures sound { OnOk result (fault_of self.new ≡ None) }
         ensures fault { IfErr result (λ fault. fault_of self.new ≡ Some fault) }
         ensures again { IfSome (fault_of self.old) (λ fault. result ≡ Err fault) }
@@ -112,14 +219,31 @@ impl<'a, S: Stated> Run<'a, S> {
         if let Some(fault) = self.fault {
             return Err(fault);
         }
-        let result = run_filter(self.plugins, &mut self.state, hook, value, args);
+        let result = run_filters(
+            self.plugins,
+            &mut self.state,
+            &mut self.stack,
+            hook,
+            value,
+            args,
+            cache,
+        );
         self.fault = fault_in(&result);
         result
     }
 
     /// Runs the callbacks of an action (Code Reference, do_action). A text that is no hook's name does nothing.
-    pub fn do_action(&mut self, hook: &str, args: &Listed<Text>) -> Result<(), RunFault>
-        ensures acted { fault_of self.old ≡ None → Ends (acted (engine_of S.says S.number self.old) (world_of self.old) hook.now args.now) result (world_of self.new) }
+    pub fn do_action(
+        &mut self,
+        hook: &str,
+        args: &Listed<Text>,
+        cache: &mut PieceCache,
+    ) -> Result<(), RunFault>
+        requires idle { CanBegin self.old }
+        ensures idle { OnOk result (IsIdle self.new) }
+        ensures acted { fault_of self.old ≡ None →
+            Ends (acted (engine_of S.says S.number self.old) (world_of self.old) hook.now args.now) result
+            (world_of self.new) }
         ensures sound { OnOk result (fault_of self.new ≡ None) }
         ensures fault { IfErr result (λ fault. fault_of self.new ≡ Some fault) }
         ensures again { IfSome (fault_of self.old) (λ fault. result ≡ Err fault) }
@@ -128,7 +252,14 @@ impl<'a, S: Stated> Run<'a, S> {
         if let Some(fault) = self.fault {
             return Err(fault);
         }
-        match run_action(self.plugins, &mut self.state, hook, args) {
+        match run_action(
+            self.plugins,
+            &mut self.state,
+            &mut self.stack,
+            hook,
+            args,
+            cache,
+        ) {
             Ok(_nothing) => Ok(()),
             Err(fault) => {
                 self.fault = Some(fault);
@@ -138,8 +269,12 @@ impl<'a, S: Stated> Run<'a, S> {
     }
 
     /// A text with its shortcodes replaced (Code Reference, do_shortcode).
-    pub fn do_shortcode(&mut self, text: &str) -> Result<Text, RunFault>
-        ensures replaced { fault_of self.old ≡ None → Ends (replaced (engine_of S.says S.number self.old) (world_of self.old) text.now) result (world_of self.new) }
+    pub fn do_shortcode(&mut self, text: &str, cache: &mut PieceCache) -> Result<Text, RunFault>
+        requires idle { CanBegin self.old }
+        ensures idle { OnOk result (IsIdle self.new) }
+        ensures replaced { fault_of self.old ≡ None →
+            Ends (replaced (engine_of S.says S.number self.old) (world_of self.old) text.now) result
+            (world_of self.new) }
         ensures sound { OnOk result (fault_of self.new ≡ None) }
         ensures fault { IfErr result (λ fault. fault_of self.new ≡ Some fault) }
         ensures again { IfSome (fault_of self.old) (λ fault. result ≡ Err fault) }
@@ -148,14 +283,65 @@ impl<'a, S: Stated> Run<'a, S> {
         if let Some(fault) = self.fault {
             return Err(fault);
         }
-        let result = run_shortcodes(self.plugins, &mut self.state, text);
+        let result = run_shortcodes(self.plugins, &mut self.state, &mut self.stack, text, cache);
+        self.fault = fault_in(&result);
+        result
+    }
+
+    /// The fault that the run has answered, if it has.
+    pub fn fault(&self) -> Option<RunFault>
+        ensures { result ≡ fault_of self.now }
+    {
+        self.fault
+    }
+
+    /// Begins a job, of which nothing is done before the first turn. It takes no memory.
+    pub fn start(&mut self, job: Job) -> Result<(), RunFault>
+        requires idle { CanBegin self.old }
+        ensures started { OnOk result (left_of (engine_of S.says S.number self.old) self.new ≡ job_left
+            (engine_of S.says S.number self.old) (world_of self.old) job) }
+        ensures same { world_of self.new ≡ world_of self.old }
+        ensures succeeds { fault_of self.old ≡ None → IsOk result }
+        ensures sound { OnOk result (fault_of self.new ≡ None) }
+        ensures fault { IfErr result (λ fault. fault_of self.new ≡ Some fault) }
+        ensures again { IfSome (fault_of self.old) (λ fault. result ≡ Err fault) }
+        ensures engine { engine_of S.says S.number self.new ≡ engine_of S.says S.number self.old }
+    {
+        if let Some(fault) = self.fault {
+            return Err(fault);
+        }
+        self.job = Some(job);
+        Ok(())
+    }
+
+    /// Goes on with the job until one callback was invoked and its echo and changes were carried out, or until the
+    /// job's end.
+    pub fn turn(&mut self, cache: &mut PieceCache) -> Result<Turn, RunFault>
+        ensures turns { fault_of self.old ≡ None →
+            Turns (left_of (engine_of S.says S.number self.old) self.old) result (world_of self.new)
+            (left_of (engine_of S.says S.number self.old) self.new) }
+        ensures idle { IsIdleAtEnd result self.new }
+        ensures sound { OnOk result (fault_of self.new ≡ None) }
+        ensures fault { IfErr result (λ fault. fault_of self.new ≡ Some fault) }
+        ensures again { IfSome (fault_of self.old) (λ fault. result ≡ Err fault) }
+        ensures engine { engine_of S.says S.number self.new ≡ engine_of S.says S.number self.old }
+    {
+        if let Some(fault) = self.fault {
+            return Err(fault);
+        }
+        let job = self.job.take();
+        let result = next_turn(self.plugins, &mut self.state, &mut self.stack, job, cache);
         self.fault = fault_in(&result);
         result
     }
 
     /// Prints a text of the page's own, behind what was printed so far.
     pub fn print(&mut self, text: &str) -> Result<(), RunFault>
-        ensures printed { fault_of self.old ≡ None → OnOk result (world_of self.new ≡ record (world_of self.old) { output = (world_of self.old).output ++ text.now }) }
+        requires idle { CanBegin self.old }
+        ensures idle { OnOk result (IsIdle self.new) }
+        ensures printed { fault_of self.old ≡ None →
+            OnOk result (world_of self.new ≡ record (world_of self.old)
+            { output = (world_of self.old).output ++ text.now }) }
         ensures memory { fault_of self.old ≡ None → IfErr result (λ fault. fault ≡ RunFault.OutOfMemory) }
         ensures sound { OnOk result (fault_of self.new ≡ None) }
         ensures fault { IfErr result (λ fault. fault_of self.new ≡ Some fault) }
@@ -176,7 +362,11 @@ impl<'a, S: Stated> Run<'a, S> {
 
     /// Takes what was printed so far, which leaves nothing printed. It takes no memory.
     pub fn take_output(&mut self) -> Result<Text, RunFault>
-        ensures text { fault_of self.old ≡ None → IfOk result (λ text. (text ≡ (world_of self.old).output) × (world_of self.new ≡ record (world_of self.old) { output = [] })) }
+        requires idle { CanBegin self.old }
+        ensures idle { OnOk result (IsIdle self.new) }
+        ensures text { fault_of self.old ≡ None →
+            IfOk result (λ text. (text ≡ (world_of self.old).output) ×
+            (world_of self.new ≡ record (world_of self.old) { output = [] })) }
         ensures succeeds { fault_of self.old ≡ None → IsOk result }
         ensures sound { OnOk result (fault_of self.new ≡ None) }
         ensures fault { IfErr result (λ fault. fault_of self.new ≡ Some fault) }

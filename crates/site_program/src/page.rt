@@ -1,9 +1,9 @@
 //! The pages of a site.
-ghost use Rattle.std.specs.Prelude.{◌≡◌, IfOk, OnErr, IfErr, None};
+ghost use Rattle.std.specs.Prelude.{◌≡◌, IfOk, OnErr, IfErr};
 ghost use Rattle.callback_store.specs.Shape.{shapes_of};
 ghost use Rattle.hook_machine.specs.World.{fresh, loaded};
 ghost use Rattle.hook_machine.specs.Ends.{engine_with};
-ghost use Rattle.hook_machine.specs.Runs.{world_of, fault_of};
+ghost use Rattle.hook_machine.specs.Runs.{world_of, IsReady};
 ghost use Rattle.hook_machine.specs.Runs as runs;
 ghost use Rattle.site_replies.specs.Reply.{answer_of};
 ghost use Rattle.permalink_query.specs.Paths.{query_of};
@@ -14,6 +14,7 @@ ghost use Rattle.site_program.specs.Requests.{page_pass, page_of};
 use crate::settings::settings_for;
 use crate::setup::Setup;
 use callback_store::{Plugins, Stated};
+use content_cache::PieceCache;
 use hook_changes::Text;
 use hook_machine::{Run, RunFault};
 use permalink_query::{FindFault, Found, find, read};
@@ -32,7 +33,12 @@ impl<'p, S: Stated> Setup<'p, S> {
 
     /// The page of a path, over the site as it now is.
     #[tactic(auto, unfolding(crate::specs::Step::got))]
-    pub(crate) fn get(&self, tables: &mut Tables, path: &str) -> Result<SiteReply, StoreFault>
+    pub(crate) fn get(
+        &self,
+        tables: &mut Tables,
+        path: &str,
+        cache: &mut PieceCache,
+    ) -> Result<SiteReply, StoreFault>
         ensures ok { IfOk result (λ reply. (tables.new, answer_of reply)
             ≡ got (engine_of S.says S.number self.now) (calls_of self.now) tables.old path.now) }
         ensures err { OnErr result (tables.new ≡ tables.old) }
@@ -50,6 +56,7 @@ impl<'p, S: Stated> Setup<'p, S> {
             options.as_slice(),
             templates.as_slice(),
             active.as_slice(),
+            cache,
         )
     }
 
@@ -60,12 +67,13 @@ impl<'p, S: Stated> Setup<'p, S> {
         options: &[(Text, Text)],
         templates: &[(Text, Text)],
         active: &[Text],
+        cache: &mut PieceCache,
     ) -> Result<SiteReply, StoreFault>
         ensures ok { IfOk result (λ reply. answer_of reply ≡ page_of (engine_of S.says S.number self.now)
             (calls_of self.now) found options.now templates.now active.now) }
         ensures memory { IfErr result (λ fault. fault ≡ StoreFault.OutOfMemory) }
     {
-        match self.page(found, options, templates, active) {
+        match self.page(found, options, templates, active, cache) {
             Ok((status, body)) => Ok(SiteReply::Page { status, body }),
             Err(RunFault::TooManyCalls) => Ok(SiteReply::Refused(Refusal::TooManyCalls)),
             Err(RunFault::TooDeep) => Ok(SiteReply::Refused(Refusal::TooDeep)),
@@ -80,6 +88,7 @@ impl<'p, S: Stated> Setup<'p, S> {
         options: &[(Text, Text)],
         templates: &[(Text, Text)],
         active: &[Text],
+        cache: &mut PieceCache,
     ) -> Result<(u16, Vec<u8>), RunFault>
         ensures status { IfOk result (λ page. page.0 ≡ found.status) }
         ensures ok { IfOk result (λ page. IsPage (page_pass (engine_of S.says S.number self.now)
@@ -92,7 +101,7 @@ impl<'p, S: Stated> Setup<'p, S> {
             run.end();
             return Err(RunFault::OutOfMemory);
         };
-        Page::begin(self.alloc, found, settings, run).finish()
+        Page::begin(self.alloc, found, settings, run).finish(cache)
     }
 }
 
@@ -106,7 +115,7 @@ fn loaded_run<'p, S: Stated>(
 ) -> Result<Run<'p, S>, RunFault>
     ensures loaded { IfOk result (λ run. world_of run ≡ loaded (shapes_of S.number plugins.entry.now)
         (fresh calls options.now active.now)) }
-    ensures sound { IfOk result (λ run. fault_of run ≡ None) }
+    ensures ready { IfOk result (λ run. IsReady run) }
     ensures engine { IfOk result (λ run. runs.engine_of S.says S.number run
         ≡ engine_with S.says (shapes_of S.number plugins.entry.now)) }
     ensures err { IfErr result (λ fault. fault ≡ RunFault.OutOfMemory) }

@@ -4,6 +4,7 @@ ghost use Rattle.std.specs.Prelude.{◌≡◌, ◌++◌, OnOk, IfErr};
 use crate::setup::Setup;
 use crate::site::Site;
 use callback_store::Stated;
+use content_cache::PieceCache;
 use ends::{Sink, Source};
 use memchr::memchr;
 use post_tables::Tables;
@@ -58,7 +59,11 @@ impl<'p, S: Stated> Site<'p, S> {
         ensures write { W.has_failed writer.new ≡ is_write result }
         ensures setup { setup_of self.new ≡ setup_of self.old }
     {
-        let Site { setup, tables } = self;
+        let Site {
+            setup,
+            tables,
+            cache,
+        } = self;
         let mut chunk = [0u8; CHUNK];
         let mut held = Vec::new(setup.alloc);
         let mut left = MAX_LINES;
@@ -70,10 +75,10 @@ impl<'p, S: Stated> Site<'p, S> {
             if count == 0 {
                 break;
             }
-            setup.take_chunk(tables, &mut held, &mut left, &chunk[..count], writer)?;
+            setup.take_chunk(tables, &mut held, &mut left, &chunk[..count], writer, cache)?;
         }
         if !held.is_empty() {
-            setup.answer(tables, &held, writer)?;
+            setup.answer(tables, &held, writer, cache)?;
         }
         Ok(())
     }
@@ -88,7 +93,8 @@ impl<'p, S: Stated> Setup<'p, S> {
     ghost use Rattle.site_program.specs.Serving.{is_write, FailsAt};
     ghost use Rattle.site_program.specs.Stream.{Takes, Faults};
 
-    // Carries out the lines that end in the chunk, the first of which begins with what is held, and holds what follows them.
+    // Carries out the lines that end in the chunk, the first of which begins with what is held, and holds what follows
+    // them.
     fn take_chunk<W: Sink>(
         &self,
         tables: &mut Tables,
@@ -96,6 +102,7 @@ impl<'p, S: Stated> Setup<'p, S> {
         left: &mut u32,
         chunk: &[u8],
         writer: &mut W,
+        cache: &mut PieceCache,
     ) -> Result<(), ServeFault>
         requires whole { W.has_failed writer.old ≡ false }
         requires line { IsLine held.old.items }
@@ -115,7 +122,7 @@ impl<'p, S: Stated> Setup<'p, S> {
             if *left == 0 || end > MAX_LINE - held.len() {
                 return Err(ServeFault::TooMuchInput);
             }
-            self.finish_line(tables, held, &rest[..end], writer)?;
+            self.finish_line(tables, held, &rest[..end], writer, cache)?;
             *left -= 1;
             rest = &rest[end + 1..];
         }
@@ -135,6 +142,7 @@ impl<'p, S: Stated> Setup<'p, S> {
         held: &mut Vec<u8>,
         part: &[u8],
         writer: &mut W,
+        cache: &mut PieceCache,
     ) -> Result<(), ServeFault>
         requires whole { W.has_failed writer.old ≡ false }
         requires short { length (held.old.items ++ part.now) ≤ 1048576 }
@@ -152,10 +160,10 @@ impl<'p, S: Stated> Setup<'p, S> {
         ensures failed { W.has_failed writer.new ≡ is_write result }
     {
         if held.is_empty() {
-            return self.answer(tables, part, writer);
+            return self.answer(tables, part, writer, cache);
         }
         hold(held, part)?;
-        self.answer(tables, held, writer)?;
+        self.answer(tables, held, writer, cache)?;
         held.clear();
         Ok(())
     }
@@ -166,6 +174,7 @@ impl<'p, S: Stated> Setup<'p, S> {
         tables: &mut Tables,
         line: &[u8],
         writer: &mut W,
+        cache: &mut PieceCache,
     ) -> Result<(), ServeFault>
         requires { W.has_failed writer.old ≡ false }
         ensures ok { OnOk result ((reply : Answer)
@@ -176,7 +185,7 @@ impl<'p, S: Stated> Setup<'p, S> {
         ensures fault { IfErr result (λ e. e ≡ ServeFault.Write) }
         ensures failed { W.has_failed writer.new ≡ is_err result }
     {
-        let reply = self.command(tables, line);
+        let reply = self.command(tables, line, cache);
         reply.write_to(writer)
     }
 }

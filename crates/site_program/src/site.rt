@@ -6,6 +6,7 @@ ghost use Rattle.site_replies.specs.Reply.{answer_of};
 
 use crate::setup::Setup;
 use callback_store::{Plugins, Stated};
+use content_cache::PieceCache;
 use post_tables::Tables;
 use site_commands::{Command, read_command, read_line};
 use site_edits::{StoreFault, delete, edit, import, put, set_active, set_option, set_template};
@@ -19,6 +20,8 @@ use std::alloc::Global;
 pub struct Site<'p, S> {
     pub(crate) setup: Setup<'p, S>,
     pub(crate) tables: Tables,
+    /// The pieces of the texts that its pages replaced last. It shows in no contract.
+    pub(crate) cache: PieceCache,
 }
 
 impl<'p, S: Stated> Site<'p, S> {
@@ -30,27 +33,32 @@ impl<'p, S: Stated> Site<'p, S> {
     ghost use Rattle.site_program.specs.Step.{Answers, steps_of};
 
     /// An empty site: nothing is stored and no plugin is active. Each page may make up to `calls` calls of its
-    /// callbacks. The size of the cache has no effect yet.
+    /// callbacks, and the pieces of up to `cache` texts are kept for later pages.
     pub fn new(
         alloc: Global,
         plugins: &'p Plugins<S>,
         calls: u32,
-        _cache: u32,
+        cache: u32,
     ) -> Result<Self, StoreFault>
         requires calls { (1 ≤ calls) × (calls ≤ 100000) }
-        requires cache { (1 ≤ _cache) × (_cache ≤ 4096) }
+        requires cache { (1 ≤ cache) × (cache ≤ 4096) }
         ensures rows { IfOk result (λ site. rows_of site ≡ no_rows) }
         ensures engine { IfOk result (λ site. engine_of S.says S.number (setup_of site)
             ≡ record { says = S.says; plugins = shapes_of S.number plugins.entry.now }) }
         ensures calls { IfOk result (λ site. calls_of (setup_of site) ≡ calls) }
     {
+        let cache = PieceCache::new(alloc, cache as usize)?;
         let tables = Tables::open_in_memory(alloc)?;
         let setup = Setup {
             plugins,
             calls,
             alloc,
         };
-        Ok(Site { setup, tables })
+        Ok(Site {
+            setup,
+            tables,
+            cache,
+        })
     }
 
     /// Carries out one line, given without its newline. A line that is no command is refused as such, and a refused
@@ -63,7 +71,7 @@ impl<'p, S: Stated> Site<'p, S> {
             → rows_of self.new ≡ rows_of self.old }
         ensures setup { setup_of self.new ≡ setup_of self.old }
     {
-        self.setup.command(&mut self.tables, line)
+        self.setup.command(&mut self.tables, line, &mut self.cache)
     }
 }
 
@@ -76,12 +84,17 @@ impl<'p, S: Stated> Setup<'p, S> {
     ghost use Rattle.site_program.specs.Step.{Answers, steps_of, carried_out};
 
     /// Carries out one line over the tables.
-    pub(crate) fn command(&self, tables: &mut Tables, line: &[u8]) -> SiteReply
+    pub(crate) fn command(
+        &self,
+        tables: &mut Tables,
+        line: &[u8],
+        cache: &mut PieceCache,
+    ) -> SiteReply
         ensures answers { Answers (steps_of S.says S.number self.now)
             tables.old line.now (answer_of result) tables.new }
         ensures refused { (r : Refusal) → answer_of result ≡ refused r → tables.new ≡ tables.old }
     {
-        match self.try_command(tables, line) {
+        match self.try_command(tables, line, cache) {
             Ok(reply) => reply,
             Err(StoreFault::OutOfMemory) => SiteReply::Refused(Refusal::OutOfMemory),
             Err(StoreFault::Store) => SiteReply::Refused(Refusal::Store),
@@ -89,7 +102,12 @@ impl<'p, S: Stated> Setup<'p, S> {
     }
 
     #[tactic(auto, unfolding(crate::specs::Step::step))]
-    fn try_command(&self, tables: &mut Tables, line: &[u8]) -> Result<SiteReply, StoreFault>
+    fn try_command(
+        &self,
+        tables: &mut Tables,
+        line: &[u8],
+        cache: &mut PieceCache,
+    ) -> Result<SiteReply, StoreFault>
         ensures ok { IfOk result (λ reply.
             (tables.new, answer_of reply) ≡ steps_of S.says S.number self.now tables.old line.now) }
         ensures err { OnErr result (tables.new ≡ tables.old) }
@@ -100,13 +118,18 @@ impl<'p, S: Stated> Setup<'p, S> {
             return Ok(SiteReply::Refused(Refusal::BadCommand));
         };
         match read_command(&tree) {
-            Some(command) => self.carry_out(tables, command),
+            Some(command) => self.carry_out(tables, command, cache),
             None => Ok(SiteReply::Refused(Refusal::BadCommand)),
         }
     }
 
     /// Carries out a command.
-    fn carry_out(&self, tables: &mut Tables, command: Command<'_>) -> Result<SiteReply, StoreFault>
+    fn carry_out(
+        &self,
+        tables: &mut Tables,
+        command: Command<'_>,
+        cache: &mut PieceCache,
+    ) -> Result<SiteReply, StoreFault>
         ensures ok { IfOk result (λ reply. (tables.new, answer_of reply) ≡ carried_out
             (engine_of S.says S.number self.now) (calls_of self.now) tables.old
             (Some (asked_by command.entry))) }
@@ -136,7 +159,7 @@ impl<'p, S: Stated> Setup<'p, S> {
             Command::Deactivate { plugin } => set_active(self.plugins, tables, plugin, false),
             Command::Template { name, body } => set_template(self.alloc, tables, name, body),
             Command::Import { site } => import(self.alloc, self.plugins, tables, site),
-            Command::Get { path } => self.get(tables, path),
+            Command::Get { path } => self.get(tables, path, cache),
         }
     }
 }

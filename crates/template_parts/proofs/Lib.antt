@@ -1,1 +1,3 @@
-mod Works
+pub mod Building
+pub mod Keeping
+pub mod Moving

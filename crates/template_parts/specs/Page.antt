@@ -1,14 +1,60 @@
--- A page as contracts see it: what was found, the site's settings, and the run that prints it.
+-- A page as contracts see it: what was found, the site's settings, and what it has still to do.
+use Rattle.std.specs.Prelude.{◌≡◌, ℕ, List, Option, None, Some, Result, Ok, Err, ⊤}
+use Rattle.hook_machine.specs.World.{Text, World}
 use Rattle.hook_machine.specs.declared.run.Run.{Run}
+use Rattle.hook_machine.specs.declared.fault.RunFault.{RunFault}
+use Rattle.hook_machine.specs.declared.fault.RunFault.TheVariants.{TooManyCalls, TooDeep, OutOfMemory}
+use Rattle.hook_machine.specs.Trace.{Done, Refused, Turn}
+use Rattle.hook_machine.specs.Meaning.{Engine}
+use Rattle.hook_machine.specs.Runs.{world_of, fault_of, left_of, IsIdle}
 use Rattle.site_records.specs.declared.found.Found.{Found}
-use Rattle.template_parts.specs.declared.page.Page.{Page}
 use Rattle.template_parts.specs.declared.settings.Settings.{Settings}
+use Rattle.template_parts.specs.declared.page.Page.{Page}
+use Rattle.template_parts.specs.declared.page.PageTurn.{PageTurn}
+use Rattle.template_parts.specs.declared.page.PageTurn.TheVariants as turn
+use Rattle.template_parts.specs.Pages.{Work}
+use Rattle.template_parts.specs.Left.{left_at, hand_in}
 
-abbrev pub found_in : {S : Type 0} → Page S → Found
-found_in page = page.found
+module _ {S : Type 0} where
+  abbrev pub found_in : Page S → Found
+  found_in page = page.found
 
-abbrev pub settings_in : {S : Type 0} → Page S → Settings
-settings_in page = page.settings
+  abbrev pub settings_in : Page S → Settings
+  settings_in page = page.settings
 
-abbrev pub run_in : {S : Type 0} → Page S → Run S
-run_in page = page.run
+  abbrev pub run_in : Page S → Run S
+  run_in page = page.run
+
+  -- the fault that the page has answered, if it has
+  abbrev pub refusal_of : Page S → Option RunFault
+  refusal_of page = page.fault
+
+  -- what a page has still to do
+  abbrev pub page_left : Engine → Page S → Work
+  page_left engine page = left_at engine page.settings page.found.posts (world_of page.run) (left_of engine page.run) page.ahead
+
+  -- the page can go on, unless it has answered a fault: its run can, and no job is under way but one that it waits for
+  abbrev pub CanGoOn : Page S → Type 0
+  CanGoOn page = refusal_of page ≡ None → (fault_of page.run ≡ None) × (hand_in page.ahead ≡ None → IsIdle page.run)
+
+  -- what the site said of the page is as before
+  abbrev pub IsSamePage : Page S → Page S → Type 0
+  IsSamePage page other = (page.found ≡ other.found) × (page.settings ≡ other.settings)
+
+-- nothing is left, and this is the page's text
+pub record IsDone (left : Work) (text : Text) : Type 0 where
+  pub world : World
+  pub done : left ≡ Done world tt
+  pub whole : text ≡ world.output
+
+-- what was left of a page is a world, and then what is left now; or nothing; or the fault; or memory was refused
+abbrev pub Turns : Work → Result PageTurn RunFault → World → Work → Type 0
+Turns left (Ok turn.More) world now = left ≡ Turn world now
+Turns left (Ok (turn.Done status bytes)) world now = IsDone left bytes.items
+Turns left (Err TooManyCalls) world now = left ≡ Refused TooManyCalls
+Turns left (Err TooDeep) world now = left ≡ Refused TooDeep
+Turns left (Err OutOfMemory) world now = ⊤
+
+abbrev pub HasStatus : ℕ → PageTurn → Type 0
+HasStatus status turn.More = ⊤
+HasStatus status (turn.Done given bytes) = given ≡ status

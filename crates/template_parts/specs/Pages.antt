@@ -1,5 +1,5 @@
 -- What a template prints.
-use Rattle.std.specs.Prelude.{◌≡◌, ◌≢◌, List, [], ◌∷◌, ◌++◌, Option, None, Some, codes, decimal}
+use Rattle.std.specs.Prelude.{◌≡◌, ◌≢◌, List, [], ◌∷◌, ◌++◌, map, flat_map, Option, None, Some, codes, decimal}
 use Rattle.site_records.specs.declared.post.Post.{Post}
 use Rattle.site_records.specs.declared.post.PostKind.{PostKind}
 use Rattle.site_records.specs.declared.post.PostKind.TheVariants as kind
@@ -37,17 +37,14 @@ unfoldable pub each : {X : Type 0} → (World → X → Work) → World → List
 each work world [] = Done world tt
 each work world (x ∷ xs) = and_then (work world x) (λ later nothing. each work later xs)
 
-abbrev action : Text → Element
-action hook = element.Item (item.Action hook)
-
 -- what each request fires once its plugins have loaded, before its template (Plugin API, Action Reference)
-abbrev pub request_actions : List Element
+abbrev pub request_actions : List Item
 request_actions =
-    action (codes "plugins_loaded")
-    ∷ action (codes "init")
-    ∷ action (codes "wp_loaded")
-    ∷ action (codes "wp")
-    ∷ action (codes "template_redirect")
+    item.Action (codes "plugins_loaded")
+    ∷ item.Action (codes "init")
+    ∷ item.Action (codes "wp_loaded")
+    ∷ item.Action (codes "wp")
+    ∷ item.Action (codes "template_redirect")
     ∷ []
 
 -- the path of a post or page (Code Reference, the_permalink, with plain permalinks)
@@ -97,51 +94,58 @@ module _ (engine : Engine) (settings : Settings) where
   item_pass post world (item.Tag tag) = tag_pass post world tag
   item_pass post world (item.Action hook) = action_pass world hook
 
-  -- a part has items alone, so of any other node nothing is printed
-  unfoldable pub part_node_pass : Option Post → World → Node → Work
-  part_node_pass post world (node.Element (element.Item item)) = item_pass post world item
-  part_node_pass post world other = Done world tt
+  -- an item with its post
+  abbrev pub placed_pass : World → Option Post × Item → Work
+  placed_pass world placed = item_pass placed.0 world placed.1
 
-  -- the template of a part, if there is one
-  unfoldable pub stored_part_pass : Option Template → Option Post → World → Work
-  stored_part_pass None post world = Done world tt
-  stored_part_pass (Some template) post world = each (part_node_pass post) world template.nodes
+-- an item of a page, and the post that it speaks of; outside a loop there is none
+abbrev pub Placed : Type 0
+Placed = Option Post × Item
 
-  -- an action, and then a part
-  unfoldable pub announced_pass : Text → Option Template → Option Post → World → Work
-  announced_pass hook template post world = and_then (action_pass world hook) (λ later nothing. stored_part_pass template post later)
+-- items over a post
+abbrev pub over : Option Post → List Item → List Placed
+over post items = map (λ item. (post, item)) items
 
+-- a part has items alone, so of any other node nothing is printed
+abbrev pub part_node_items : Node → List Item
+part_node_items (node.Element (element.Item item)) = item ∷ []
+part_node_items other = []
+
+-- the template of a part, if there is one
+abbrev pub stored_part_items : Option Template → List Item
+stored_part_items None = []
+stored_part_items (Some template) = flat_map part_node_items template.nodes
+
+module _ (settings : Settings) where
   -- a header and a footer are announced, also where none is stored (Code Reference, get_header, get_footer)
-  unfoldable pub part_pass : Option Post → World → Part → Work
-  part_pass post world part.Header = announced_pass (codes "get_header") settings.header post world
-  part_pass post world part.Footer = announced_pass (codes "get_footer") settings.footer post world
-  part_pass post world part.Content = stored_part_pass settings.content post world
+  abbrev pub part_items : Part → List Item
+  part_items part.Header = item.Action (codes "get_header") ∷ stored_part_items settings.header
+  part_items part.Footer = item.Action (codes "get_footer") ∷ stored_part_items settings.footer
+  part_items part.Content = stored_part_items settings.content
 
-  unfoldable pub element_pass : Option Post → World → Element → Work
-  element_pass post world (element.Item item) = item_pass post world item
-  element_pass post world (element.Part part) = part_pass post world part
+  abbrev pub element_items : Element → List Item
+  element_items (element.Item item) = item ∷ []
+  element_items (element.Part part) = part_items part
 
-  -- the elements of a post
-  unfoldable pub elements_pass : List Element → Option Post → World → Work
-  elements_pass elements post world = each (element_pass post) world elements
+  abbrev pub elements_items : List Element → List Item
+  elements_items elements = flat_map element_items elements
 
   -- a loop: its body for each post that was found, or its other body where none was (Theme Handbook, The Loop)
-  unfoldable pub loop_pass : List Element → List Element → World → List Post → Work
-  loop_pass body otherwise world [] = elements_pass otherwise None world
-  loop_pass body otherwise world (post ∷ posts) = each (λ w p. elements_pass body (Some p) w) world (post ∷ posts)
+  abbrev pub loop_items : List Element → List Element → List Post → List Placed
+  loop_items body otherwise [] = over None (elements_items otherwise)
+  loop_items body otherwise (post ∷ posts) = flat_map (λ p. over (Some p) (elements_items body)) (post ∷ posts)
 
-  unfoldable pub node_pass : List Post → World → Node → Work
-  node_pass posts world (node.Element element) = element_pass None world element
-  node_pass posts world (node.Loop body otherwise) = loop_pass body otherwise world posts
+  abbrev pub node_items : List Post → Node → List Placed
+  node_items posts (node.Element element) = over None (element_items element)
+  node_items posts (node.Loop body otherwise) = loop_items body otherwise posts
 
-  -- a template over the posts that were found: its nodes, in order
-  unfoldable pub nodes_pass : List Node → List Post → World → Work
-  nodes_pass nodes posts world = each (node_pass posts) world nodes
+  -- all that a page is made of, in order: the actions of a request, and then the template (Plugin API, Action Reference)
+  abbrev pub page_items : List Post → List Placed
+  page_items posts = over None request_actions ++ flat_map (node_items posts) settings.template.nodes
 
-  -- a page: the actions of a request, and then the template (Plugin API, Action Reference)
-  unfoldable pub page_pass : List Post → World → Work
-  page_pass posts world =
-      and_then (elements_pass request_actions None world) (λ later nothing. nodes_pass settings.template.nodes posts later)
+-- a page over the posts that were found: its items, one after another
+unfoldable pub page_pass : Engine → Settings → List Post → World → Work
+page_pass engine settings posts world = each (placed_pass engine settings) world (page_items settings posts)
 
 -- the page was made, and this is its text
 pub record IsPage (work : Work) (text : Text) : Type 0 where

@@ -7,8 +7,8 @@ use hook_changes::Text;
 use site_records::FoundKind;
 
 /// The template for what was found: the first that is stored of those of its kind, and else `index` (Theme Handbook,
-/// Template Hierarchy). The front asks for `home`, a post for `single` and `singular`, a page for `page` and `singular`,
-/// a month for `date` and `archive`, and what isn't found for `404`.
+/// Template Hierarchy). The front asks for `home`, a post for `single` and `singular`, a page for `page` and
+/// `singular`, a month for `date` and `archive`, and what isn't found for `404`.
 pub fn choose(kind: FoundKind, stored: &[Text]) -> &'static str
     ensures { result.now ≡ template_choice kind stored.now }
 {

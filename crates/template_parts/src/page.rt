@@ -1,95 +1,188 @@
 //! The page of a request.
-ghost use Rattle.std.specs.Prelude.{◌≡◌, None, Err, IfOk, IfErr, OnOk, IfSome};
-ghost use Rattle.hook_machine.specs.Runs.{world_of, fault_of, engine_of};
+ghost use Rattle.std.specs.Prelude.{◌≡◌, None, Err, IfOk, IfErr, IfSome, OnOk};
+ghost use Rattle.hook_machine.specs.World.{Text, World};
+ghost use Rattle.hook_machine.specs.Trace.{Trace};
+ghost use Rattle.hook_machine.specs.Meaning.{Engine};
+ghost use Rattle.hook_machine.specs.Runs.{world_of, fault_of, engine_of, CanBegin, IsIdle};
 ghost use Rattle.template_parts.specs.Pages.{page_pass, IsPage, IsRefusedBy};
+ghost use Rattle.template_parts.specs.Left.{ahead_of, left_at, hand_in};
 
-use crate::pages::print_page;
+use crate::moves::{Ahead, Stop, next_stop};
 use crate::settings::Settings;
+use crate::steps::steps_of_page;
 use callback_store::Stated;
+use content_cache::PieceCache;
 use hook_machine::{Run, RunFault};
-use site_records::Found;
-use std::alloc::Global;
+use site_records::{Found, Post};
+use std::alloc::{AllocError, Global};
 
 /// A page that is to be printed: what its path found, what its site says of pages, and the run of its request.
 ///
-/// It borrows the plugins, as the run does.
+/// It borrows the plugins, as the run does. Once a call has answered a fault, each later call answers that same fault.
 #[derive(Drop)]
 pub struct Page<'p, S> {
-    pub(crate) alloc: Global,
-    pub(crate) found: Found,
-    pub(crate) settings: Settings,
-    pub(crate) run: Run<'p, S>,
+    alloc: Global,
+    found: Found,
+    settings: Settings,
+    run: Run<'p, S>,
+    /// What is left of it, once its first turn has begun.
+    ahead: Option<Ahead>,
+    fault: Option<RunFault>,
+}
+
+/// What a turn of a page gave.
+#[derive(Drop)]
+pub enum PageTurn {
+    /// A callback was invoked, and its echo and changes were carried out. There is more to do.
+    More,
+    /// The page is printed: its status, 200 or 404, and its bytes.
+    Done(u16, Vec<u8>),
+}
+
+/// What is left of a page, which its first turn works out.
+fn ahead_from(
+    alloc: Global,
+    settings: &Settings,
+    posts: &[Post],
+    ahead: Option<Ahead>,
+) -> Result<Ahead, AllocError>
+    ensures left { IfOk result (λ now. (engine : Engine) (world : World) (left : Trace Text) → left_at engine
+        settings.now posts.now world left ahead ≡ ahead_of engine settings.now posts.now world left now) }
+    ensures hand { IfOk result (λ now. now.hand ≡ hand_in ahead) }
+{
+    match ahead {
+        Some(ahead) => Ok(ahead),
+        None => Ok(Ahead {
+            hand: None,
+            steps: steps_of_page(alloc, settings, posts)?,
+        }),
+    }
 }
 
 impl<'p, S: Stated> Page<'p, S> {
-    ghost use Rattle.template_parts.specs.Page.{found_in, settings_in, run_in};
+    ghost use Rattle.template_parts.specs.Page.{found_in, settings_in, run_in, refusal_of, page_left};
+    ghost use Rattle.template_parts.specs.Page.{CanGoOn, IsSamePage, HasStatus, Turns};
 
     /// A page over what was found. The run has loaded its plugins and done nothing else; this runs nothing.
     pub fn begin(alloc: Global, found: Found, settings: Settings, run: Run<'p, S>) -> Self
+        requires idle { CanBegin run }
         ensures found { found_in result ≡ found }
-        ensures settings { settings_in result ≡ settings }
-        ensures run { run_in result ≡ run.entry }
+        ensures left { page_left (engine_of S.says S.number run.entry) result ≡ page_pass
+            (engine_of S.says S.number run.entry) settings found.posts (world_of run.entry) }
+        ensures engine { engine_of S.says S.number (run_in result) ≡ engine_of S.says S.number run.entry }
+        ensures refusal { refusal_of result ≡ fault_of run.entry }
+        ensures ready { CanGoOn result }
     {
+        let fault = run.fault();
         Page {
             alloc,
             found,
             settings,
             run,
+            ahead: None,
+            fault,
         }
     }
 
-    /// Prints the page: its status, 200 or 404, and its bytes. It fires the actions of a request, and then prints the
-    /// template over the posts that were found. A page that is refused shows nothing, and a page whose run has answered
-    /// a fault answers that fault.
-    pub fn finish(self) -> Result<(u16, Vec<u8>), RunFault>
-        ensures status { IfOk result (λ page. page.0 ≡ (found_in self.entry).status) }
-        ensures bytes { fault_of (run_in self.entry) ≡ None → IfOk result (λ page. IsPage (page_pass
-            (engine_of S.says S.number (run_in self.entry)) (settings_in self.entry) (found_in self.entry).posts
-            (world_of (run_in self.entry))) page.1.items) }
-        ensures err { fault_of (run_in self.entry) ≡ None → IfErr result (IsRefusedBy (page_pass
-            (engine_of S.says S.number (run_in self.entry)) (settings_in self.entry) (found_in self.entry).posts
-            (world_of (run_in self.entry)))) }
-        ensures again { IfSome (fault_of (run_in self.entry)) (λ fault. result ≡ Err fault) }
+    /// Goes on with the page until one callback was invoked and its echo and changes were carried out, or until the
+    /// page is printed. The first turn also fires the actions of a request.
+    pub fn turn(&mut self, cache: &mut PieceCache) -> Result<PageTurn, RunFault>
+        requires { CanGoOn self.old }
+        ensures turns { refusal_of self.old ≡ None →
+            Turns (page_left (engine_of S.says S.number (run_in self.old)) self.old) result (world_of (run_in self.new))
+            (page_left (engine_of S.says S.number (run_in self.old)) self.new) }
+        ensures status { IfOk result (HasStatus (found_in self.old).status) }
+        ensures ready { CanGoOn self.new }
+        ensures same { IsSamePage self.new self.old }
+        ensures sound { OnOk result (refusal_of self.new ≡ None) }
+        ensures fault { IfErr result (λ fault. refusal_of self.new ≡ Some fault) }
+        ensures again { IfSome (refusal_of self.old) (λ fault. result ≡ Err fault) }
+        ensures engine { engine_of S.says S.number (run_in self.new) ≡ engine_of S.says S.number (run_in self.old) }
     {
-        let Page {
-            alloc,
-            found,
-            settings,
-            mut run,
-        } = self;
-        let page = printed(alloc, &mut run, &settings, &found);
-        run.end();
-        page
+        if let Some(fault) = self.fault {
+            return Err(fault);
+        }
+        match self.go_on(cache) {
+            Ok(turned) => Ok(turned),
+            Err(fault) => {
+                self.fault = Some(fault);
+                Err(fault)
+            }
+        }
     }
-}
 
-/// The status and the bytes of a page. What a page owns is given up by `finish` alone.
-fn printed<S: Stated>(
-    alloc: Global,
-    run: &mut Run<'_, S>,
-    settings: &Settings,
-    found: &Found,
-) -> Result<(u16, Vec<u8>), RunFault>
-    ensures status { IfOk result (λ page. page.0 ≡ found.now.status) }
-    ensures bytes { fault_of run.old ≡ None → IfOk result (λ page. IsPage (page_pass
-        (engine_of S.says S.number run.old) settings.now found.now.posts (world_of run.old)) page.1.items) }
-    ensures err { fault_of run.old ≡ None → IfErr result (IsRefusedBy (page_pass
-        (engine_of S.says S.number run.old) settings.now found.now.posts (world_of run.old))) }
-    ensures again { IfSome (fault_of run.old) (λ fault. result ≡ Err fault) }
-{
-    kept_fault(run)?;
-    print_page(alloc, run, settings, found.posts.as_slice())?;
-    let text = run.take_output()?;
-    Ok((found.status, text.into_string().into_bytes()))
-}
+    /// Prints the page to its end, from wherever it stands: its status, 200 or 404, and its bytes. A page that is
+    /// refused shows nothing.
+    pub fn finish(self, cache: &mut PieceCache) -> Result<(u16, Vec<u8>), RunFault>
+        requires { CanGoOn self }
+        ensures status { IfOk result (λ page. page.0 ≡ (found_in self.entry).status) }
+        ensures bytes { refusal_of self.entry ≡ None → IfOk result (λ page. IsPage (page_left
+            (engine_of S.says S.number (run_in self.entry)) self.entry) page.1.items) }
+        ensures err { refusal_of self.entry ≡ None → IfErr result (IsRefusedBy (page_left
+            (engine_of S.says S.number (run_in self.entry)) self.entry)) }
+        ensures again { IfSome (refusal_of self.entry) (λ fault. result ≡ Err fault) }
+    {
+        let mut page = self;
+        let printed = page.print(cache);
+        page.end();
+        printed
+    }
 
-/// The fault that the run has answered before, if any. Each call of a run answers it, and this one does nothing else.
-fn kept_fault<S: Stated>(run: &mut Run<'_, S>) -> Result<(), RunFault>
-    ensures same { fault_of run.old ≡ None → OnOk result (world_of run.new ≡ world_of run.old) }
-    ensures memory { fault_of run.old ≡ None → IfErr result (λ fault. fault ≡ RunFault.OutOfMemory) }
-    ensures sound { OnOk result (fault_of run.new ≡ None) }
-    ensures again { IfSome (fault_of run.old) (λ fault. result ≡ Err fault) }
-    ensures engine { engine_of S.says S.number run.new ≡ engine_of S.says S.number run.old }
-{
-    run.print("")
+    /// A turn of a page that has answered no fault.
+    fn go_on(&mut self, cache: &mut PieceCache) -> Result<PageTurn, RunFault>
+        requires ready { CanGoOn self.old }
+        requires sound { refusal_of self.old ≡ None }
+        ensures turns { Turns (page_left (engine_of S.says S.number (run_in self.old)) self.old) result
+            (world_of (run_in self.new)) (page_left (engine_of S.says S.number (run_in self.old)) self.new) }
+        ensures status { IfOk result (HasStatus (found_in self.old).status) }
+        ensures ready { OnOk result (CanGoOn self.new) }
+        ensures same { IsSamePage self.new self.old }
+        ensures sound { refusal_of self.new ≡ None }
+        ensures engine { engine_of S.says S.number (run_in self.new) ≡ engine_of S.says S.number (run_in self.old) }
+    {
+        let posts = self.found.posts.as_slice();
+        let taken = self.ahead.take();
+        let mut ahead = ahead_from(self.alloc, &self.settings, posts, taken)?;
+        let stop = next_stop(
+            self.alloc,
+            &mut self.run,
+            &self.settings,
+            posts,
+            &mut ahead,
+            cache,
+        )?;
+        self.ahead = Some(ahead);
+        match stop {
+            Stop::Turned => Ok(PageTurn::More),
+            Stop::Over => {
+                let text = self.run.take_output()?;
+                Ok(PageTurn::Done(self.found.status, text.into_string().into_bytes()))
+            }
+        }
+    }
+
+    /// Turn after turn, to the page's end.
+    fn print(&mut self, cache: &mut PieceCache) -> Result<(u16, Vec<u8>), RunFault>
+        requires { CanGoOn self.old }
+        ensures status { IfOk result (λ page. page.0 ≡ (found_in self.old).status) }
+        ensures bytes { refusal_of self.old ≡ None → IfOk result (λ page. IsPage (page_left
+            (engine_of S.says S.number (run_in self.old)) self.old) page.1.items) }
+        ensures err { refusal_of self.old ≡ None → IfErr result (IsRefusedBy (page_left
+            (engine_of S.says S.number (run_in self.old)) self.old)) }
+        ensures again { IfSome (refusal_of self.old) (λ fault. result ≡ Err fault) }
+    {
+        if let Some(fault) = self.fault {
+            return Err(fault);
+        }
+        'turns: loop {
+            if let PageTurn::Done(status, bytes) = self.turn(cache)? {
+                return Ok((status, bytes));
+            }
+        }
+    }
+
+    /// Ends the page. All that a page owns is dropped here, so that what dropping does is proved once.
+    fn end(self) {
+        drop(self);
+    }
 }

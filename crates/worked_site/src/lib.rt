@@ -1,5 +1,5 @@
-//! Worked pages of a site with the bundled plugins that are theorems: each clause of `worked_pages` is computed from the
-//! definitions. [`serve_bytes`] shows that the premises of `Site::serve` can be met.
+//! Worked pages of a site with the bundled plugins that are theorems: each clause of `worked_pages` is computed from
+//! the definitions. [`serve_bytes`] shows that the premises of `Site::serve` can be met.
 #![tactic(auto)]
 
 mod serving;

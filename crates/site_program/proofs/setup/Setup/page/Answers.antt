@@ -1,8 +1,7 @@
-use Rattle.std.proofs.Common.{◌∙◌, IfOk, IfErr, ap, subst}
+use Rattle.std.proofs.Common.{◌∙◌, IfOk, IfErr, ap, refl, subst}
 use Rattle.std.proofs.lemmas.Result.{err_from_is_err_and}
-use Rattle.hook_machine.specs.Runs.{world_of, fault_of}
-use Rattle.hook_machine.specs.Runs as runs
 use Rattle.template_parts.specs.Pages.{IsPage, IsRefusedBy}
+use Rattle.template_parts.specs.Page.{page_left}
 use Rattle.site_program.specs.Site.{engine_of, calls_of}
 use Rattle.site_program.proofs.Pages.{work_is, page_forgone}
 use Rattle.site_program.proofs.setup.Setup.page.Goals as goal
@@ -19,10 +18,10 @@ returns-clause-ok g c =
     let engine = engine_of g.S.Stated.says g.S.Stated.number c.args.self.now in
     let run = c.in_ok-run.ensures in
     let begin = c.begin.ensures in
-    let same_engine = ap (runs.engine_of g.S.Stated.says g.S.Stated.number) begin.run ∙ run.engine in
     let work =
-    work_is engine (calls_of c.args.self.now) c.args.found c.args.options.now c.args.templates.now c.args.active.now _ _ _ _ same_engine (begin.settings ∙ c.in-Ok.ensures) begin.found (ap world_of begin.run ∙ run.loaded) in
-    subst (λ w. IfOk c.finish.result (λ page. IsPage w page.1.items)) work (c.finish.ensures.bytes (ap fault_of begin.run ∙ run.sound))
+    work_is engine (calls_of c.args.self.now) c.args.found c.args.options.now c.args.templates.now c.args.active.now _ _ _ _ run.engine c.in-Ok.ensures refl run.loaded in
+    let left = ap (λ e. page_left e c.begin.result) begin.engine ∙ begin.left ∙ work in
+    subst (λ w. IfOk c.finish.result (λ page. IsPage w page.1.items)) left (c.finish.ensures.bytes (begin.refusal ∙ run.ready.0))
 
 -- the page was refused as what was found
 pub returns-clause-err : goal.returns-clause-err
@@ -30,7 +29,7 @@ returns-clause-err g c =
     let engine = engine_of g.S.Stated.says g.S.Stated.number c.args.self.now in
     let run = c.in_ok-run.ensures in
     let begin = c.begin.ensures in
-    let same_engine = ap (runs.engine_of g.S.Stated.says g.S.Stated.number) begin.run ∙ run.engine in
     let work =
-    work_is engine (calls_of c.args.self.now) c.args.found c.args.options.now c.args.templates.now c.args.active.now _ _ _ _ same_engine (begin.settings ∙ c.in-Ok.ensures) begin.found (ap world_of begin.run ∙ run.loaded) in
-    subst (λ w. IfErr c.finish.result (IsRefusedBy w)) work (c.finish.ensures.err (ap fault_of begin.run ∙ run.sound))
+    work_is engine (calls_of c.args.self.now) c.args.found c.args.options.now c.args.templates.now c.args.active.now _ _ _ _ run.engine c.in-Ok.ensures refl run.loaded in
+    let left = ap (λ e. page_left e c.begin.result) begin.engine ∙ begin.left ∙ work in
+    subst (λ w. IfErr c.finish.result (IsRefusedBy w)) left (c.finish.ensures.err (begin.refusal ∙ run.ready.0))

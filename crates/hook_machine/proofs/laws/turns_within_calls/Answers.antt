@@ -1,0 +1,5 @@
+use Rattle.hook_machine.proofs.Throughout.{turns-within}
+use Rattle.hook_machine.proofs.laws.turns_within_calls.Goals as goal
+
+pub returns : goal.returns
+returns c = turns-within

@@ -1,0 +1,7 @@
+use Rattle.hook_machine.specs.Ends.{engine_over}
+use Rattle.hook_machine.proofs.Moving.{text_begin}
+use Rattle.hook_machine.proofs.replacing.begin_text.Goals as goal
+
+pub returns-clause-moves : goal.returns-clause-moves
+returns-clause-moves g c =
+    text_begin (engine_over g.S.Stated.says g.S.Stated.number c.args.plugins.now) c.args.state.now c.args.text c.as_str.result.now c.empty.result c.in_ok-pieces.pieces c.new.result c.args.stack.now c.as_str.ensures c.in_ok-pieces.ensures.pieces c.new.ensures c.empty.ensures _ _ _ c.text_turn.ensures.moves

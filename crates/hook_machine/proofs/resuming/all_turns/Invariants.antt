@@ -1,0 +1,22 @@
+use Rattle.std.proofs.Common.{◌≡◌, Ok, length}
+use Rattle.hook_machine.specs.Ends.{engine_over}
+use Rattle.hook_machine.specs.Trace.{end_of, turns_of}
+use Rattle.hook_machine.specs.Rest.{rest}
+use Rattle.hook_machine.specs.Jobs.{left_from}
+use Rattle.hook_machine.specs.Moves.{turn_gives, IsOver}
+use Rattle.hook_machine.proofs.resuming.all_turns.Given as goal
+
+-- what the last turn gave ends as all does
+abbrev pub invariant-turns : goal.invariant-turns
+invariant-turns g l =
+    let engine = engine_over g.S.Stated.says g.S.Stated.number l.plugins in
+    record {
+      ends : end_of (turn_gives l.turned l.state (rest engine l.state l.stack)) ≡ end_of (left_from engine l.fn.state l.fn.job l.fn.stack);
+      over : IsOver (Ok l.turned) l.stack;
+    }
+
+-- the turns left
+abbrev pub decreases-turns : goal.decreases-turns
+decreases-turns g l =
+    let engine = engine_over g.S.Stated.says g.S.Stated.number l.plugins in
+    length (turns_of (turn_gives l.turned l.state (rest engine l.state l.stack)))

@@ -1,0 +1,64 @@
+-- How a stopped run moves along what is left of it.
+use Rattle.std.specs.Prelude.{◌≡◌, ℕ, zero, suc, ◌+◌, ◌≤◌, List, [], length, Result, Ok, Err, ⊤}
+use Rattle.hook_machine.specs.declared.fault.RunFault.{RunFault}
+use Rattle.hook_machine.specs.declared.fault.RunFault.TheVariants.{TooManyCalls, TooDeep, OutOfMemory}
+use Rattle.hook_machine.specs.declared.frame.Frame.{Frame}
+use Rattle.hook_machine.specs.declared.frame.Move.{Move}
+use Rattle.hook_machine.specs.declared.frame.Move.TheVariants.{Turned, Handed}
+use Rattle.hook_machine.specs.declared.resuming.Turn.{Turn}
+use Rattle.hook_machine.specs.declared.resuming.Turn.TheVariants as turn
+use Rattle.hook_machine.specs.World.{Text, World}
+use Rattle.hook_machine.specs.Trace.{Trace, Done, Refused, Turn as turned_to}
+use Rattle.hook_machine.specs.Meaning.{Engine}
+use Rattle.hook_machine.specs.Rest.{rest, rest_with, then_rest}
+
+-- what a run gives from a move on: the world of the invocation, and then its frames; or its frames, once the result is handed on
+abbrev pub still_left : Engine → Move → World → List Frame → Trace Text
+still_left engine Turned world frames = turned_to world (rest engine world frames)
+still_left engine (Handed x) world frames = rest_with engine world frames x
+
+-- what was left is what is still left; or it is the fault; or memory was refused
+abbrev pub Moves : Engine → Trace Text → Result Move RunFault → World → List Frame → Type 0
+Moves engine left (Ok move) world frames = left ≡ still_left engine move world frames
+Moves engine left (Err TooManyCalls) world frames = left ≡ Refused TooManyCalls
+Moves engine left (Err TooDeep) world frames = left ≡ Refused TooDeep
+Moves engine left (Err OutOfMemory) world frames = ⊤
+
+-- the same of some work in a world, whose result the frames wait for
+abbrev pub Does : Engine → (Engine → Trace Text) → List Frame → Result Move RunFault → World → List Frame → Type 0
+Does engine work frames result world now = Moves engine (then_rest engine (work engine) frames) result world now
+
+-- where a result is handed on, no frame has come, or at most so many
+abbrev pub Shrinks : ℕ → Result Move RunFault → List Frame → List Frame → Type 0
+Shrinks more (Ok Turned) olds news = ⊤
+Shrinks more (Ok (Handed x)) olds news = length news ≤ length olds + more
+Shrinks more (Err fault) olds news = ⊤
+
+-- an invocation hands nothing on
+abbrev pub Invokes : Result Move RunFault → Type 0
+Invokes (Ok Turned) = ⊤
+Invokes (Ok (Handed x)) = ⊥
+Invokes (Err fault) = ⊤
+
+-- how many frames a result may still go through
+abbrev pub way_of : Move → List Frame → ℕ
+way_of Turned frames = zero
+way_of (Handed x) frames = suc (length frames)
+
+-- what a turn gives: the next world, and then what is left now; or the result
+abbrev pub turn_gives : Turn → World → Trace Text → Trace Text
+turn_gives turn.More world now = turned_to world now
+turn_gives (turn.Done x) world now = Done world x
+
+-- what was left is what the turn gives; or it is the fault; or memory was refused
+abbrev pub Turns : Trace Text → Result Turn RunFault → World → Trace Text → Type 0
+Turns left (Ok turn) world now = left ≡ turn_gives turn world now
+Turns left (Err TooManyCalls) world now = left ≡ Refused TooManyCalls
+Turns left (Err TooDeep) world now = left ≡ Refused TooDeep
+Turns left (Err OutOfMemory) world now = ⊤
+
+-- nothing is left of a job that is done
+abbrev pub IsOver : Result Turn RunFault → List Frame → Type 0
+IsOver (Ok turn.More) frames = ⊤
+IsOver (Ok (turn.Done x)) frames = frames ≡ []
+IsOver (Err fault) frames = ⊤

@@ -1,0 +1,278 @@
+// How an invocation goes on: by its answer, by what it asks, or by what was answered to it.
+ghost use Rattle.std.specs.Prelude.{◌≡◌, ◌∷◌, IfErr, OnOk};
+ghost use Rattle.hook_changes.specs.declared.reply.Then.TheVariants as next;
+ghost use Rattle.hook_changes.specs.declared.reply.Ask.TheVariants.{Apply, Act, Shortcodes};
+ghost use Rattle.hook_machine.specs.declared.frame.Pending.TheVariants.{Next, Core};
+ghost use Rattle.hook_machine.specs.Meaning.{invoke};
+ghost use Rattle.hook_machine.specs.Ends.{engine_over};
+ghost use Rattle.hook_machine.specs.Rest.{pending_left, pending_handed, with_answer};
+ghost use Rattle.hook_machine.specs.Moves.{Does, Shrinks, Invokes};
+
+use crate::fault::RunFault;
+use crate::frame::{Frame, Invoked, Move, Pending, Stack};
+use crate::machine::{add_answer, first_argument};
+use crate::replacing::begin_text;
+use crate::state::State;
+use crate::turning::{begin_action, begin_filter, invoke_turn};
+use callback_store::{Plugins, Stated};
+use content_cache::PieceCache;
+use hook_changes::{Answer, Ask, Call, CallbackId, Listed, Text, Then};
+
+/// Invokes a callback again, with one more answer.
+fn invoke_again<S: Stated>(
+    plugins: &Plugins<S>,
+    state: &mut State,
+    stack: &mut Stack,
+    callback: CallbackId,
+    call: Call,
+    answer: Answer,
+) -> Result<Move, RunFault>
+    ensures moves { Does (engine_over S.says S.number plugins.now)
+        (λ engine. invoke engine state.old callback (with_answer call answer)) stack.old result state.new stack.new }
+    ensures invokes { Invokes result }
+{
+    let mut call = call;
+    add_answer(&mut call, answer)?;
+    invoke_turn(plugins, state, stack, callback, call)
+}
+
+/// Puts an invocation on the stack that waits for what it asked.
+fn wait(
+    stack: &mut Stack,
+    callback: CallbackId,
+    call: Call,
+    pending: Pending,
+) -> Result<(), RunFault>
+    ensures ok { OnOk result (stack.new ≡ Frame.Invocation
+        (record { callback = callback; call = call; pending = pending }) ∷ stack.old) }
+    ensures err { IfErr result (λ fault. fault ≡ RunFault.OutOfMemory) }
+{
+    stack.put_first(Frame::Invocation(Invoked {
+        callback,
+        call,
+        pending,
+    }))?;
+    Ok(())
+}
+
+/// A callback asked for a filter pass.
+fn ask_apply<S: Stated>(
+    plugins: &Plugins<S>,
+    state: &mut State,
+    stack: &mut Stack,
+    callback: CallbackId,
+    call: Call,
+    hook: Text,
+    value: Text,
+    args: Listed<Text>,
+) -> Result<Move, RunFault>
+    ensures moves { Does (engine_over S.says S.number plugins.now)
+        (λ engine. pending_left engine state.old callback call (Next (next.Ask (Apply hook value args))))
+        stack.old result state.new stack.new }
+    ensures grows { Shrinks 1 result stack.old stack.new }
+{
+    state.deepen()?;
+    wait(stack, callback, call, Pending::ForText)?;
+    begin_filter(plugins, state, stack, hook.as_str(), value, args)
+}
+
+/// A callback asked for an action pass.
+fn ask_act<S: Stated>(
+    plugins: &Plugins<S>,
+    state: &mut State,
+    stack: &mut Stack,
+    callback: CallbackId,
+    call: Call,
+    hook: Text,
+    args: Listed<Text>,
+) -> Result<Move, RunFault>
+    ensures moves { Does (engine_over S.says S.number plugins.now)
+        (λ engine. pending_left engine state.old callback call (Next (next.Ask (Act hook args))))
+        stack.old result state.new stack.new }
+    ensures grows { Shrinks 1 result stack.old stack.new }
+{
+    state.deepen()?;
+    wait(stack, callback, call, Pending::ForNothing)?;
+    begin_action(plugins, state, stack, hook.as_str(), args)
+}
+
+/// A callback asked for a text with its shortcodes replaced.
+fn ask_shortcodes<S: Stated>(
+    plugins: &Plugins<S>,
+    state: &mut State,
+    stack: &mut Stack,
+    callback: CallbackId,
+    call: Call,
+    text: Text,
+    cache: &mut PieceCache,
+) -> Result<Move, RunFault>
+    ensures moves { Does (engine_over S.says S.number plugins.now)
+        (λ engine. pending_left engine state.old callback call (Next (next.Ask (Shortcodes text))))
+        stack.old result state.new stack.new }
+    ensures grows { Shrinks 1 result stack.old stack.new }
+{
+    state.deepen()?;
+    wait(stack, callback, call, Pending::ForText)?;
+    begin_text(plugins, state, stack, text, cache)
+}
+
+/// Core's callback replaces the shortcodes of its first argument.
+fn core_turn<S: Stated>(
+    plugins: &Plugins<S>,
+    state: &mut State,
+    stack: &mut Stack,
+    callback: CallbackId,
+    call: Call,
+    cache: &mut PieceCache,
+) -> Result<Move, RunFault>
+    ensures moves { Does (engine_over S.says S.number plugins.now)
+        (λ engine. pending_left engine state.old callback call Core) stack.old result state.new stack.new }
+    ensures grows { Shrinks 1 result stack.old stack.new }
+{
+    let text = first_argument(state.alloc(), &call)?;
+    state.deepen()?;
+    wait(stack, callback, call, Pending::ForCore)?;
+    begin_text(plugins, state, stack, text, cache)
+}
+
+/// Goes on behind an ask.
+fn ask_turn<S: Stated>(
+    plugins: &Plugins<S>,
+    state: &mut State,
+    stack: &mut Stack,
+    callback: CallbackId,
+    call: Call,
+    ask: Ask,
+    cache: &mut PieceCache,
+) -> Result<Move, RunFault>
+    ensures moves { Does (engine_over S.says S.number plugins.now)
+        (λ engine. pending_left engine state.old callback call (Next (next.Ask ask)))
+        stack.old result state.new stack.new }
+    ensures grows { Shrinks 1 result stack.old stack.new }
+{
+    match ask {
+        Ask::Apply { hook, value, args } => {
+            ask_apply(plugins, state, stack, callback, call, hook, value, args)
+        }
+        Ask::Act { hook, args } => ask_act(plugins, state, stack, callback, call, hook, args),
+        Ask::Shortcodes { text } => {
+            ask_shortcodes(plugins, state, stack, callback, call, text, cache)
+        }
+        Ask::Did { hook } => {
+            let answer = state.did(hook.as_str());
+            invoke_again(plugins, state, stack, callback, call, answer)
+        }
+        Ask::Current => {
+            let answer = state.current()?;
+            invoke_again(plugins, state, stack, callback, call, answer)
+        }
+        Ask::Doing { hook } => {
+            let answer = Answer::Flag(state.doing(hook.as_str()));
+            invoke_again(plugins, state, stack, callback, call, answer)
+        }
+        Ask::Has {
+            hook,
+            callback: other,
+        } => {
+            let answer = state.has(hook.as_str(), other);
+            invoke_again(plugins, state, stack, callback, call, answer)
+        }
+        Ask::TagExists { tag } => {
+            let answer = Answer::Flag(state.tag_exists(tag.as_str()));
+            invoke_again(plugins, state, stack, callback, call, answer)
+        }
+        Ask::GetOption { name } => {
+            let answer = state.option(name.as_str())?;
+            invoke_again(plugins, state, stack, callback, call, answer)
+        }
+    }
+}
+
+/// Goes on as a callback replied: its answer is handed on, or its ask is answered.
+fn follow_turn<S: Stated>(
+    plugins: &Plugins<S>,
+    state: &mut State,
+    stack: &mut Stack,
+    callback: CallbackId,
+    call: Call,
+    next: Then,
+    cache: &mut PieceCache,
+) -> Result<Move, RunFault>
+    ensures moves { Does (engine_over S.says S.number plugins.now)
+        (λ engine. pending_left engine state.old callback call (Next next)) stack.old result state.new stack.new }
+    ensures grows { Shrinks 1 result stack.old stack.new }
+{
+    match next {
+        Then::Answer(text) => {
+            state.keep_call(call);
+            Ok(Move::Handed(text))
+        }
+        Then::Ask(ask) => ask_turn(plugins, state, stack, callback, call, ask, cache),
+    }
+}
+
+/// Goes on with an invocation by its pending step. One that waits is handed nothing here.
+pub fn invocation_turn<S: Stated>(
+    plugins: &Plugins<S>,
+    state: &mut State,
+    stack: &mut Stack,
+    invoked: Invoked,
+    cache: &mut PieceCache,
+) -> Result<Move, RunFault>
+    ensures moves { Does (engine_over S.says S.number plugins.now)
+        (λ engine. pending_left engine state.old invoked.callback invoked.call invoked.pending)
+        stack.old result state.new stack.new }
+    ensures grows { Shrinks 1 result stack.old stack.new }
+{
+    let Invoked {
+        callback,
+        call,
+        pending,
+    } = invoked;
+    match pending {
+        Pending::Next(next) => follow_turn(plugins, state, stack, callback, call, next, cache),
+        Pending::Core => core_turn(plugins, state, stack, callback, call, cache),
+        Pending::ForText => Ok(Move::Handed(Text::empty(state.alloc()))),
+        Pending::ForNothing => Ok(Move::Handed(Text::empty(state.alloc()))),
+        Pending::ForCore => Ok(Move::Handed(Text::empty(state.alloc()))),
+    }
+}
+
+/// Hands a result to an invocation that waits for it, one level up.
+pub fn waiting_turn<S: Stated>(
+    plugins: &Plugins<S>,
+    state: &mut State,
+    stack: &mut Stack,
+    invoked: Invoked,
+    text: Text,
+) -> Result<Move, RunFault>
+    ensures moves { Does (engine_over S.says S.number plugins.now)
+        (λ engine. pending_handed engine state.old invoked.callback invoked.call invoked.pending text)
+        stack.old result state.new stack.new }
+    ensures shrinks { Shrinks 0 result stack.old stack.new }
+{
+    let Invoked {
+        callback,
+        call,
+        pending,
+    } = invoked;
+    match pending {
+        Pending::ForText => {
+            state.rise();
+            invoke_again(plugins, state, stack, callback, call, Answer::Text(text))
+        }
+        Pending::ForNothing => {
+            state.rise();
+            invoke_again(plugins, state, stack, callback, call, Answer::Nothing)
+        }
+        Pending::ForCore => {
+            state.rise();
+            Ok(Move::Handed(text))
+        }
+        Pending::Next(next) => {
+            drop(next);
+            Ok(Move::Handed(text))
+        }
+        Pending::Core => Ok(Move::Handed(text)),
+    }
+}

@@ -1,0 +1,96 @@
+// What is registered, in the registry and in the plans of passes.
+ghost use Rattle.std.specs.Prelude.{◌≡◌, ◌≤◌, IfOk, OnOk, OnErr};
+
+use crate::state::State;
+use call_plans::Position;
+use hook_changes::{CallbackId, HookName};
+use hook_registry::Entry;
+use std::alloc::AllocError;
+
+// A change is made in the plans first, which are put back only once the registry has it too. So a change that either of
+// them refuses leaves no plans, and never plans that differ from the registry.
+impl State {
+    ghost use Rattle.hook_registry.specs.Table.{add, remove, remove_all};
+    ghost use Rattle.call_plans.specs.Position.{next_entry};
+
+    /// Registers a callback.
+    pub fn register(
+        &mut self,
+        hook: &HookName,
+        priority: i32,
+        callback: CallbackId,
+        accepted: u8,
+    ) -> Result<(), AllocError>
+        requires { accepted ≤ 16 }
+        ensures ok { OnOk result (self.new ≡ record self.old {
+          table = add self.old.table hook.now
+              (record { priority = priority; callback = callback; accepted = accepted });
+        }) }
+        ensures calls { self.new.calls ≡ self.old.calls }
+        ensures active { self.new.active ≡ self.old.active }
+    {
+        let Some(mut plans) = self.plans.take() else {
+            return Err(AllocError);
+        };
+        plans.add(hook.as_str(), priority, Entry { callback, accepted })?;
+        self.registry.add(hook, priority, callback, accepted)?;
+        self.plans = Some(plans);
+        Ok(())
+    }
+
+    /// Takes the registration of a callback at a priority away.
+    pub fn deregister(
+        &mut self,
+        hook: &HookName,
+        priority: i32,
+        callback: CallbackId,
+    ) -> Result<(), AllocError>
+        ensures ok { OnOk result (self.new ≡ record self.old {
+          table = remove self.old.table hook.now priority callback;
+        }) }
+        ensures calls { self.new.calls ≡ self.old.calls }
+        ensures active { self.new.active ≡ self.old.active }
+    {
+        let Some(mut plans) = self.plans.take() else {
+            return Err(AllocError);
+        };
+        plans.remove(hook.as_str(), priority, callback)?;
+        let _was_there = self.registry.remove(hook, priority, callback);
+        self.plans = Some(plans);
+        Ok(())
+    }
+
+    /// Takes all registrations of a hook away, or those of one priority.
+    pub fn deregister_all(
+        &mut self,
+        hook: &HookName,
+        priority: Option<i32>,
+    ) -> Result<(), AllocError>
+        ensures ok { OnOk result (self.new ≡ record self.old {
+          table = remove_all self.old.table hook.now priority;
+        }) }
+        ensures calls { self.new.calls ≡ self.old.calls }
+        ensures active { self.new.active ≡ self.old.active }
+    {
+        let Some(mut plans) = self.plans.take() else {
+            return Err(AllocError);
+        };
+        plans.remove_all(hook.as_str(), priority);
+        self.registry.remove_all(hook, priority);
+        self.plans = Some(plans);
+        Ok(())
+    }
+
+    /// The next entry of a pass: the first one left, or else the first of the group of the next priority as it is now.
+    /// Without such a priority, and without memory, the position stays.
+    pub fn next(&self, position: &mut Position) -> Result<Option<Entry>, AllocError>
+        ensures entry { IfOk result (λ found. found ≡ (next_entry self.now.table position.old).0) }
+        ensures moved { OnOk result (position.new ≡ (next_entry self.now.table position.old).1) }
+        ensures err { OnErr result (position.new ≡ position.old) }
+    {
+        match &self.plans {
+            Some(plans) => plans.next(position),
+            None => Err(AllocError),
+        }
+    }
+}

@@ -1,0 +1,224 @@
+// Going on with a stopped run, frame by frame, until a callback was invoked or nothing is left.
+ghost use Rattle.std.specs.Prelude.{◌≡◌, ◌∷◌, [], OnOk};
+ghost use Rattle.hook_machine.specs.Meaning.{value_after};
+ghost use Rattle.hook_machine.specs.Ends.{Ends, engine_over};
+ghost use Rattle.hook_machine.specs.Rest.{rest, rest_with};
+ghost use Rattle.hook_machine.specs.Jobs.{job_left, left_from};
+ghost use Rattle.hook_machine.specs.Moves.{Does, Moves, Shrinks, still_left, Turns, IsOver};
+
+use crate::asking::{invocation_turn, waiting_turn};
+use crate::fault::RunFault;
+use crate::frame::{Frame, HookPass, Move, Stack};
+use crate::pass::kept;
+use crate::replacing::{begin_text, text_turn, with_text};
+use crate::state::State;
+use crate::turning::{begin_action, begin_filter, pass_turn};
+use callback_store::{Plugins, Stated};
+use content_cache::PieceCache;
+use hook_changes::{Listed, Text};
+
+/// What a turn of a run gave.
+#[derive(Drop)]
+pub enum Turn {
+    /// A callback was invoked, and its echo and changes were carried out. There is more to do.
+    More,
+    /// The job is done, with this result.
+    Done(Text),
+}
+
+/// What a run is to do.
+#[derive(Drop)]
+pub enum Job {
+    /// `apply_filters`.
+    Filters {
+        hook: Text,
+        value: Text,
+        args: Listed<Text>,
+    },
+    /// `do_action`.
+    Action {
+        hook: Text,
+        args: Listed<Text>,
+    },
+    /// `do_shortcode`.
+    Shortcodes {
+        text: Text,
+    },
+}
+
+/// A pass that is handed a callback's answer.
+fn with_result(pass: HookPass, text: Text) -> HookPass
+    ensures { result ≡ record pass { value = value_after pass.kind pass.value text } }
+{
+    let HookPass {
+        kind,
+        args,
+        value,
+        position,
+    } = pass;
+    HookPass {
+        kind,
+        args,
+        value: kept(kind, value, text),
+        position,
+    }
+}
+
+/// Goes on with a frame.
+fn frame_turn<S: Stated>(
+    plugins: &Plugins<S>,
+    state: &mut State,
+    stack: &mut Stack,
+    frame: Frame,
+    cache: &mut PieceCache,
+) -> Result<Move, RunFault>
+    ensures moves { Moves (engine_over S.says S.number plugins.now)
+        (rest (engine_over S.says S.number plugins.now) state.old (frame ∷ stack.old)) result state.new stack.new }
+    ensures grows { Shrinks 1 result stack.old stack.new }
+{
+    match frame {
+        Frame::Pass(pass) => pass_turn(plugins, state, stack, pass),
+        Frame::Invocation(invoked) => invocation_turn(plugins, state, stack, invoked, cache),
+        Frame::Shortcodes(pass) => text_turn(plugins, state, stack, pass),
+    }
+}
+
+/// Hands a result to a frame.
+fn result_turn<S: Stated>(
+    plugins: &Plugins<S>,
+    state: &mut State,
+    stack: &mut Stack,
+    frame: Frame,
+    text: Text,
+) -> Result<Move, RunFault>
+    ensures moves { Moves (engine_over S.says S.number plugins.now)
+        (rest_with (engine_over S.says S.number plugins.now) state.old (frame ∷ stack.old) text) result state.new
+        stack.new }
+    ensures shrinks { Shrinks 0 result stack.old stack.new }
+{
+    match frame {
+        Frame::Pass(pass) => {
+            let pass = with_result(pass, text);
+            pass_turn(plugins, state, stack, pass)
+        }
+        Frame::Invocation(invoked) => waiting_turn(plugins, state, stack, invoked, text),
+        Frame::Shortcodes(pass) => {
+            let pass = with_text(pass, &text)?;
+            text_turn(plugins, state, stack, pass)
+        }
+    }
+}
+
+/// Hands a result on from frame to frame, until a callback was invoked or no frame is left.
+fn hand_on<S: Stated>(
+    plugins: &Plugins<S>,
+    state: &mut State,
+    stack: &mut Stack,
+    moved: Move,
+) -> Result<Turn, RunFault>
+    ensures turns { Turns (still_left (engine_over S.says S.number plugins.now) moved state.old stack.old) result
+        state.new (rest (engine_over S.says S.number plugins.now) state.new stack.new) }
+    ensures over { IsOver result stack.new }
+{
+    let mut moved = moved;
+    'frames: loop {
+        match moved {
+            Move::Turned => return Ok(Turn::More),
+            Move::Handed(text) => match stack.take_first() {
+                None => return Ok(Turn::Done(text)),
+                Some(frame) => moved = result_turn(plugins, state, stack, frame, text)?,
+            },
+        }
+    }
+}
+
+/// Begins a job, and goes on to its first invocation or its end.
+pub fn begin<S: Stated>(
+    plugins: &Plugins<S>,
+    state: &mut State,
+    stack: &mut Stack,
+    job: Job,
+    cache: &mut PieceCache,
+) -> Result<Move, RunFault>
+    ensures moves { Does (engine_over S.says S.number plugins.now)
+        (λ engine. job_left engine state.old job) stack.old result state.new stack.new }
+{
+    match job {
+        Job::Filters { hook, value, args } => {
+            begin_filter(plugins, state, stack, hook.as_str(), value, args)
+        }
+        Job::Action { hook, args } => begin_action(plugins, state, stack, hook.as_str(), args),
+        Job::Shortcodes { text } => begin_text(plugins, state, stack, text, cache),
+    }
+}
+
+/// Goes on with a job that isn't begun, or with the innermost frame.
+fn move_on<S: Stated>(
+    plugins: &Plugins<S>,
+    state: &mut State,
+    stack: &mut Stack,
+    job: Option<Job>,
+    cache: &mut PieceCache,
+) -> Result<Move, RunFault>
+    ensures moves { Moves (engine_over S.says S.number plugins.now)
+        (left_from (engine_over S.says S.number plugins.now) state.old job stack.old) result state.new stack.new }
+{
+    if let Some(job) = job {
+        return begin(plugins, state, stack, job, cache);
+    }
+    match stack.take_first() {
+        None => Ok(Move::Handed(Text::empty(state.alloc()))),
+        Some(frame) => frame_turn(plugins, state, stack, frame, cache),
+    }
+}
+
+/// One turn: it goes on until a callback was invoked, or to the end.
+pub fn next_turn<S: Stated>(
+    plugins: &Plugins<S>,
+    state: &mut State,
+    stack: &mut Stack,
+    job: Option<Job>,
+    cache: &mut PieceCache,
+) -> Result<Turn, RunFault>
+    ensures turns { Turns (left_from (engine_over S.says S.number plugins.now) state.old job stack.old) result
+        state.new (rest (engine_over S.says S.number plugins.now) state.new stack.new) }
+    ensures over { IsOver result stack.new }
+{
+    let moved = move_on(plugins, state, stack, job, cache)?;
+    hand_on(plugins, state, stack, moved)
+}
+
+/// Turn after turn, to the end.
+pub fn all_turns<S: Stated>(
+    plugins: &Plugins<S>,
+    state: &mut State,
+    stack: &mut Stack,
+    job: Option<Job>,
+    cache: &mut PieceCache,
+) -> Result<Text, RunFault>
+    ensures ends { Ends (left_from (engine_over S.says S.number plugins.now) state.old job stack.old) result state.new }
+    ensures over { OnOk result (stack.new ≡ []) }
+{
+    let mut turned = next_turn(plugins, state, stack, job, cache)?;
+    'turns: loop {
+        match turned {
+            Turn::Done(text) => return Ok(text),
+            Turn::More => turned = next_turn(plugins, state, stack, None, cache)?,
+        }
+    }
+}
+
+/// Runs a job to its end.
+pub fn run_job<S: Stated>(
+    plugins: &Plugins<S>,
+    state: &mut State,
+    stack: &mut Stack,
+    job: Job,
+    cache: &mut PieceCache,
+) -> Result<Text, RunFault>
+    requires { stack.old ≡ [] }
+    ensures ends { Ends (job_left (engine_over S.says S.number plugins.now) state.old job) result state.new }
+    ensures over { OnOk result (stack.new ≡ []) }
+{
+    all_turns(plugins, state, stack, Some(job), cache)
+}

@@ -1,0 +1,162 @@
+// How a stopped run goes on, from one invocation to the next.
+ghost use Rattle.hook_machine.specs.Meaning.{pass, filter_pass, action_pass, invoke};
+ghost use Rattle.hook_machine.specs.Ends.{engine_over};
+ghost use Rattle.hook_machine.specs.Rest.{pass_left};
+ghost use Rattle.hook_machine.specs.Moves.{Does, Shrinks, Invokes};
+
+use crate::fault::RunFault;
+use crate::frame::{Frame, HookPass, Invoked, Move, Pending, Stack};
+use crate::machine::reply_of;
+use crate::pass::{PassKind, call_of_hook};
+use crate::state::State;
+use call_plans::Position;
+use callback_store::{Plugins, Stated};
+use hook_changes::{Call, CallbackId, HookName, Listed, NameFault, Text};
+
+/// Invokes a callback, and keeps how it goes on.
+pub fn invoke_turn<S: Stated>(
+    plugins: &Plugins<S>,
+    state: &mut State,
+    stack: &mut Stack,
+    callback: CallbackId,
+    call: Call,
+) -> Result<Move, RunFault>
+    ensures moves { Does (engine_over S.says S.number plugins.now)
+        (λ engine. invoke engine state.old callback call) stack.old result state.new stack.new }
+    ensures invokes { Invokes result }
+{
+    state.take_call()?;
+    if callback.number() == 0 {
+        stack.put_first(Frame::Invocation(Invoked {
+            callback,
+            call,
+            pending: Pending::Core,
+        }))?;
+        return Ok(Move::Turned);
+    }
+    let reply = reply_of(plugins, state.alloc(), callback, &call)?;
+    state.carry_out(plugins, &reply)?;
+    stack.put_first(Frame::Invocation(Invoked {
+        callback,
+        call,
+        pending: Pending::Next(reply.next),
+    }))?;
+    Ok(Move::Turned)
+}
+
+/// Goes on with a pass: its next entry is invoked, or it leaves its hook.
+pub fn pass_turn<S: Stated>(
+    plugins: &Plugins<S>,
+    state: &mut State,
+    stack: &mut Stack,
+    pass: HookPass,
+) -> Result<Move, RunFault>
+    ensures moves { Does (engine_over S.says S.number plugins.now)
+        (λ engine. pass_left engine state.old pass) stack.old result state.new stack.new }
+    ensures shrinks { Shrinks 0 result stack.old stack.new }
+{
+    let HookPass {
+        kind,
+        args,
+        value,
+        mut position,
+    } = pass;
+    match state.next(&mut position)? {
+        None => {
+            state.leave();
+            Ok(Move::Handed(value))
+        }
+        Some(entry) => {
+            let spare = state.spare_call();
+            let made = call_of_hook(
+                state.alloc(),
+                kind,
+                position.hook.as_str(),
+                value,
+                args.as_slice(),
+                entry.accepted,
+                spare,
+            )?;
+            let (call, value) = made;
+            stack.put_first(Frame::Pass(HookPass {
+                kind,
+                args,
+                value,
+                position,
+            }))?;
+            invoke_turn(plugins, state, stack, entry.callback, call)
+        }
+    }
+}
+
+/// Begins a pass over a hook.
+pub fn begin_pass<S: Stated>(
+    plugins: &Plugins<S>,
+    state: &mut State,
+    stack: &mut Stack,
+    kind: PassKind,
+    hook: HookName,
+    value: Text,
+    args: Listed<Text>,
+) -> Result<Move, RunFault>
+    ensures moves { Does (engine_over S.says S.number plugins.now)
+        (λ engine. pass (invoke engine) kind state.old hook value args) stack.old result state.new stack.new }
+    ensures shrinks { Shrinks 0 result stack.old stack.new }
+{
+    state.enter(&hook)?;
+    let position = Position::start(hook);
+    pass_turn(
+        plugins,
+        state,
+        stack,
+        HookPass {
+            kind,
+            args,
+            value,
+            position,
+        },
+    )
+}
+
+/// Begins a filter pass.
+pub fn begin_filter<S: Stated>(
+    plugins: &Plugins<S>,
+    state: &mut State,
+    stack: &mut Stack,
+    hook: &str,
+    value: Text,
+    args: Listed<Text>,
+) -> Result<Move, RunFault>
+    ensures moves { Does (engine_over S.says S.number plugins.now)
+        (λ engine. filter_pass (invoke engine) state.old hook.now value args) stack.old result state.new stack.new }
+    ensures shrinks { Shrinks 0 result stack.old stack.new }
+{
+    match HookName::read(state.alloc(), hook) {
+        Ok(hook) => begin_pass(plugins, state, stack, PassKind::Filter, hook, value, args),
+        Err(NameFault::BadName) => Ok(Move::Handed(value)),
+        Err(NameFault::OutOfMemory) => Err(RunFault::OutOfMemory),
+    }
+}
+
+/// Begins an action pass.
+pub fn begin_action<S: Stated>(
+    plugins: &Plugins<S>,
+    state: &mut State,
+    stack: &mut Stack,
+    hook: &str,
+    args: Listed<Text>,
+) -> Result<Move, RunFault>
+    ensures moves { Does (engine_over S.says S.number plugins.now)
+        (λ engine. action_pass (invoke engine) state.old hook.now args) stack.old result state.new stack.new }
+    ensures shrinks { Shrinks 0 result stack.old stack.new }
+{
+    match HookName::read(state.alloc(), hook) {
+        Ok(hook) => {
+            state.fire(&hook)?;
+            let nothing = Text::empty(state.alloc());
+            begin_pass(plugins, state, stack, PassKind::Action, hook, nothing, args)
+        }
+        Err(NameFault::BadName) => Ok(Move::Handed(Text::empty(state.alloc()))),
+        Err(NameFault::OutOfMemory) => Err(RunFault::OutOfMemory),
+    }
+}

@@ -1,0 +1,127 @@
+-- What a page has still to do.
+use Rattle.std.specs.Prelude.{◌≡◌, ℕ, zero, suc, ◌+◌, ◌*◌, ◌<◌, List, length, Option, None, Some, Result, Ok, Err, ⊤}
+use Rattle.site_records.specs.declared.post.Post.{Post}
+use Rattle.template_trees.specs.declared.tree.Item.{Item}
+use Rattle.hook_machine.specs.World.{Text, World}
+use Rattle.hook_machine.specs.declared.fault.RunFault.{RunFault}
+use Rattle.hook_machine.specs.declared.fault.RunFault.TheVariants.{TooManyCalls, TooDeep, OutOfMemory}
+use Rattle.hook_machine.specs.declared.run.Run.{Run}
+use Rattle.hook_machine.specs.Trace.{Trace, Done, Refused, Turn, and_then}
+use Rattle.hook_machine.specs.Meaning.{Engine}
+use Rattle.hook_machine.specs.Runs.{world_of, fault_of, left_of, IsIdle}
+use Rattle.page_escapes.specs.Escapes.{ends_escaped, html_escaped}
+use Rattle.template_parts.specs.declared.settings.Settings.{Settings}
+use Rattle.template_parts.specs.declared.item.Shown.{Shown}
+use Rattle.template_parts.specs.declared.item.Shown.TheVariants as shown
+use Rattle.template_parts.specs.declared.item.Hand.{Hand}
+use Rattle.template_parts.specs.declared.item.Hand.TheVariants.{Printed, Dropped}
+use Rattle.template_parts.specs.declared.steps.Step.{Step}
+use Rattle.template_parts.specs.declared.moves.Ahead.{Ahead}
+use Rattle.template_parts.specs.declared.moves.Moved.{Moved}
+use Rattle.template_parts.specs.declared.moves.Moved.TheVariants as moved
+use Rattle.template_parts.specs.declared.moves.Stop.{Stop}
+use Rattle.template_parts.specs.declared.moves.Stop.TheVariants as stop
+use Rattle.template_parts.specs.Pages.{Work, Placed, printed, each, item_pass, placed_pass, page_pass}
+use Rattle.template_parts.specs.Places.{item_at, post_at, items_left}
+
+abbrev pub shown_as : Shown → Text → Text
+shown_as shown.Plain text = text
+shown_as shown.HtmlEscaped text = html_escaped text
+shown_as shown.EndsEscaped text = ends_escaped text
+
+-- what becomes of a job's result
+abbrev pub handed_on : Hand → World → Text → Work
+handed_on (Printed shown) world text = printed world (shown_as shown text)
+handed_on Dropped world text = Done world tt
+
+-- the job that an item began, whose result is handed on; or nothing, where it began none
+abbrev pub begun : World → Trace Text → Option Hand → Work
+begun world left None = Done world tt
+begun world left (Some hand) = and_then left (λ later x. handed_on hand later x)
+
+-- an item, if there is one
+abbrev pub item_or_nothing : Engine → Settings → World → Option Post → Option Item → Work
+item_or_nothing engine settings world post None = Done world tt
+item_or_nothing engine settings world post (Some item) = item_pass engine settings post world item
+
+-- the item of a step
+abbrev pub step_pass : Engine → Settings → List Post → World → Step → Work
+step_pass engine settings posts world step = item_or_nothing engine settings world (post_at posts step.post) (item_at settings step.place)
+
+-- some work, and then the items left
+abbrev pub then_items : Engine → Settings → Work → List Placed → Work
+then_items engine settings first items = and_then first (λ later nothing. each (placed_pass engine settings) later items)
+
+-- the job under way, and then the steps
+abbrev pub ahead_of : Engine → Settings → List Post → World → Trace Text → Ahead → Work
+ahead_of engine settings posts world left ahead = then_items engine settings (begun world left ahead.hand) (items_left settings posts ahead.steps)
+
+-- what a page has still to do: all of it, before its first turn
+abbrev pub left_at : Engine → Settings → List Post → World → Trace Text → Option Ahead → Work
+left_at engine settings posts world left None = page_pass engine settings posts world
+left_at engine settings posts world left (Some ahead) = ahead_of engine settings posts world left ahead
+
+abbrev pub hand_in : Option Ahead → Option Hand
+hand_in None = None
+hand_in (Some ahead) = ahead.hand
+
+module _ {S : Type 0} where
+  -- a job was begun that stands for the work, or the work is done
+  abbrev pub IsBegun : Engine → Work → Run S → Option Hand → Type 0
+  IsBegun engine work run hand = (work ≡ begun (world_of run) (left_of engine run) hand) × (fault_of run ≡ None) × (hand ≡ None → IsIdle run)
+
+  -- the same of a run
+  abbrev pub run_left : Engine → Settings → List Post → Run S → Ahead → Work
+  run_left engine settings posts run ahead = ahead_of engine settings posts (world_of run) (left_of engine run) ahead
+
+  -- where nothing is left, no job is under way
+  abbrev pub IsIdleIfOver : Result Moved RunFault → Run S → Type 0
+  IsIdleIfOver (Ok moved.Over) run = IsIdle run
+  IsIdleIfOver (Ok moved.On) run = ⊤
+  IsIdleIfOver (Ok moved.Turned) run = ⊤
+  IsIdleIfOver (Err fault) run = ⊤
+
+  abbrev pub IsIdleAtEnd : Result Stop RunFault → Run S → Type 0
+  IsIdleAtEnd (Ok stop.Over) run = IsIdle run
+  IsIdleAtEnd (Ok stop.Turned) run = ⊤
+  IsIdleAtEnd (Err fault) run = ⊤
+
+abbrev pub move_gives : Moved → World → Work → Work
+move_gives moved.Turned world now = Turn world now
+move_gives moved.On world now = now
+move_gives moved.Over world now = Done world tt
+
+abbrev pub Moves : Work → Result Moved RunFault → World → Work → Type 0
+Moves left (Ok move) world now = left ≡ move_gives move world now
+Moves left (Err TooManyCalls) world now = left ≡ Refused TooManyCalls
+Moves left (Err TooDeep) world now = left ≡ Refused TooDeep
+Moves left (Err OutOfMemory) world now = ⊤
+
+abbrev pub stop_gives : Stop → World → Work → Work
+stop_gives stop.Turned world now = Turn world now
+stop_gives stop.Over world now = Done world tt
+
+abbrev pub Stops : Work → Result Stop RunFault → World → Work → Type 0
+Stops left (Ok stop) world now = left ≡ stop_gives stop world now
+Stops left (Err TooManyCalls) world now = left ≡ Refused TooManyCalls
+Stops left (Err TooDeep) world now = left ≡ Refused TooDeep
+Stops left (Err OutOfMemory) world now = ⊤
+
+-- how many moves may be left without an invocation: each step is begun and ended
+abbrev pub moves_left : Ahead → ℕ
+moves_left ahead = under_way ahead.hand + 2 * length ahead.steps
+  where
+    under_way : Option Hand → ℕ
+    under_way None = 0
+    under_way (Some hand) = 1
+
+abbrev pub Shortens : Result Moved RunFault → Ahead → Ahead → Type 0
+Shortens (Ok moved.On) before later = moves_left later < moves_left before
+Shortens (Ok moved.Turned) before later = ⊤
+Shortens (Ok moved.Over) before later = ⊤
+Shortens (Err fault) before later = ⊤
+
+abbrev pub moves_after : Moved → Ahead → ℕ
+moves_after moved.On ahead = suc (moves_left ahead)
+moves_after moved.Turned ahead = zero
+moves_after moved.Over ahead = zero

@@ -1,0 +1,306 @@
+//! Beginning an item of a page, and handing on what its job gives.
+ghost use Rattle.std.specs.Prelude.{◌≡◌, [], ◌∷◌, IfOk, IfErr, OnOk, option_map, codes, decimal};
+ghost use Rattle.hook_machine.specs.Runs.{world_of, fault_of, engine_of, IsReady};
+ghost use Rattle.hook_machine.specs.Trace.{Done};
+ghost use Rattle.template_parts.specs.Pages.{printed, permalink, shown_pass, action_pass};
+ghost use Rattle.template_parts.specs.Pages.{post_tag_pass, tag_pass, item_pass};
+ghost use Rattle.template_parts.specs.Left.{shown_as, handed_on, IsBegun};
+
+use crate::settings::Settings;
+use callback_store::Stated;
+use hook_changes::{Listed, Text};
+use hook_machine::{Job, Run, RunFault};
+use itoa::Buffer;
+use page_escapes::{escape_ends, escape_html};
+use site_records::{Post, PostKind};
+use std::alloc::{AllocError, Global};
+use template_trees::{Item, PostTag, Tag};
+
+/// How a text is shown.
+#[derive(Clone, Copy, Debug)]
+pub enum Shown {
+    Plain,
+    /// With the characters that HTML reads as its own escaped.
+    HtmlEscaped,
+    /// With each `]]>` escaped.
+    EndsEscaped,
+}
+
+/// What becomes of the result of the job under way.
+#[derive(Clone, Copy, Debug)]
+pub enum Hand {
+    Printed(Shown),
+    Dropped,
+}
+
+/// Prints a text as it is.
+fn print<S: Stated>(run: &mut Run<'_, S>, text: &str) -> Result<Option<Hand>, RunFault>
+    requires { IsReady run.old }
+    ensures begun { IfOk result (IsBegun (engine_of S.says S.number run.old) (printed (world_of run.old) text.now)
+        run.new) }
+    ensures memory { IfErr result (λ fault. fault ≡ RunFault.OutOfMemory) }
+    ensures engine { engine_of S.says S.number run.new ≡ engine_of S.says S.number run.old }
+{
+    run.print(text)?;
+    Ok(None)
+}
+
+/// Prints a text with the characters that HTML reads as its own escaped.
+fn print_escaped<S: Stated>(
+    alloc: Global,
+    run: &mut Run<'_, S>,
+    text: &str,
+) -> Result<Option<Hand>, RunFault>
+    requires { IsReady run.old }
+    ensures begun { IfOk result (IsBegun (engine_of S.says S.number run.old) (printed (world_of run.old)
+        (shown_as Shown.HtmlEscaped text.now)) run.new) }
+    ensures memory { IfErr result (λ fault. fault ≡ RunFault.OutOfMemory) }
+    ensures engine { engine_of S.says S.number run.new ≡ engine_of S.says S.number run.old }
+{
+    let escaped = escape_html(alloc, text)?;
+    print(run, escaped.as_str())
+}
+
+/// Prints the path of a post or page.
+fn print_permalink<S: Stated>(
+    alloc: Global,
+    run: &mut Run<'_, S>,
+    post: &Post,
+) -> Result<Option<Hand>, RunFault>
+    requires { IsReady run.old }
+    ensures begun { IfOk result (IsBegun (engine_of S.says S.number run.old) (printed (world_of run.old)
+        (permalink post.now)) run.new) }
+    ensures memory { IfErr result (λ fault. fault ≡ RunFault.OutOfMemory) }
+    ensures engine { engine_of S.says S.number run.new ≡ engine_of S.says S.number run.old }
+{
+    let path = permalink(alloc, post)?;
+    print(run, path.as_str())
+}
+
+/// Starts an action with no arguments.
+pub(crate) fn start_action<S: Stated>(
+    alloc: Global,
+    run: &mut Run<'_, S>,
+    settings: &Settings,
+    hook: &str,
+) -> Result<Option<Hand>, RunFault>
+    requires { IsReady run.old }
+    ensures begun { IfOk result (IsBegun (engine_of S.says S.number run.old) (action_pass
+        (engine_of S.says S.number run.old) settings.now (world_of run.old) hook.now) run.new) }
+    ensures memory { IfErr result (λ fault. fault ≡ RunFault.OutOfMemory) }
+    ensures engine { engine_of S.says S.number run.new ≡ engine_of S.says S.number run.old }
+{
+    let hook = Text::copied(alloc, hook)?;
+    let args = Listed::empty(alloc);
+    run.start(Job::Action { hook, args })?;
+    Ok(Some(Hand::Dropped))
+}
+
+/// Starts a filter, whose value is to be printed.
+fn start_filter<S: Stated>(
+    alloc: Global,
+    run: &mut Run<'_, S>,
+    settings: &Settings,
+    hook: &str,
+    value: Text,
+    args: Listed<Text>,
+    shown: Shown,
+) -> Result<Option<Hand>, RunFault>
+    requires { IsReady run.old }
+    ensures begun { IfOk result (IsBegun (engine_of S.says S.number run.old) (shown_pass
+        (engine_of S.says S.number run.old) settings.now (shown_as shown) (world_of run.old) hook.now value args)
+        run.new) }
+    ensures memory { IfErr result (λ fault. fault ≡ RunFault.OutOfMemory) }
+    ensures engine { engine_of S.says S.number run.new ≡ engine_of S.says S.number run.old }
+{
+    let hook = Text::copied(alloc, hook)?;
+    run.start(Job::Filters { hook, value, args })?;
+    Ok(Some(Hand::Printed(shown)))
+}
+
+/// Starts the filter of a title, which also gets the post's number.
+fn start_title<S: Stated>(
+    alloc: Global,
+    run: &mut Run<'_, S>,
+    settings: &Settings,
+    post: &Post,
+    shown: Shown,
+) -> Result<Option<Hand>, RunFault>
+    requires { IsReady run.old }
+    ensures begun { IfOk result (IsBegun (engine_of S.says S.number run.old) (shown_pass
+        (engine_of S.says S.number run.old) settings.now (shown_as shown) (world_of run.old) (codes "the_title")
+        post.now.title (decimal post.now.id ∷ [])) run.new) }
+    ensures memory { IfErr result (λ fault. fault ≡ RunFault.OutOfMemory) }
+    ensures engine { engine_of S.says S.number run.new ≡ engine_of S.says S.number run.old }
+{
+    let title = post.title.clone()?;
+    let args = number_argument(alloc, post.id)?;
+    start_filter(alloc, run, settings, "the_title", title, args, shown)
+}
+
+/// Starts the filter of a content.
+fn start_content<S: Stated>(
+    alloc: Global,
+    run: &mut Run<'_, S>,
+    settings: &Settings,
+    post: &Post,
+) -> Result<Option<Hand>, RunFault>
+    requires { IsReady run.old }
+    ensures begun { IfOk result (IsBegun (engine_of S.says S.number run.old) (shown_pass
+        (engine_of S.says S.number run.old) settings.now (shown_as Shown.EndsEscaped) (world_of run.old)
+        (codes "the_content") post.now.content []) run.new) }
+    ensures memory { IfErr result (λ fault. fault ≡ RunFault.OutOfMemory) }
+    ensures engine { engine_of S.says S.number run.new ≡ engine_of S.says S.number run.old }
+{
+    let content = post.content.clone()?;
+    let args = Listed::empty(alloc);
+    start_filter(
+        alloc,
+        run,
+        settings,
+        "the_content",
+        content,
+        args,
+        Shown::EndsEscaped,
+    )
+}
+
+#[tactic(auto, unfolding(crate::specs::Pages::post_tag_pass, crate::specs::Pages::shown_pass))]
+fn begin_post_tag<S: Stated>(
+    alloc: Global,
+    run: &mut Run<'_, S>,
+    settings: &Settings,
+    post: &Post,
+    tag: PostTag,
+) -> Result<Option<Hand>, RunFault>
+    requires { IsReady run.old }
+    ensures begun { IfOk result (IsBegun (engine_of S.says S.number run.old) (post_tag_pass
+        (engine_of S.says S.number run.old) settings.now post.now (world_of run.old) tag) run.new) }
+    ensures memory { IfErr result (λ fault. fault ≡ RunFault.OutOfMemory) }
+    ensures engine { engine_of S.says S.number run.new ≡ engine_of S.says S.number run.old }
+{
+    match tag {
+        PostTag::TheTitle => start_title(alloc, run, settings, post, Shown::Plain),
+        PostTag::TitleEscaped => start_title(alloc, run, settings, post, Shown::HtmlEscaped),
+        PostTag::TheContent => start_content(alloc, run, settings, post),
+        PostTag::TheId => print(run, Buffer::new().format(post.id)),
+        PostTag::ThePermalink => print_permalink(alloc, run, post),
+        PostTag::PostDate => print(run, post.date.as_str()),
+    }
+}
+
+/// Begins a tag; outside a loop there is no post, and the tags of a post print nothing.
+#[tactic(auto, unfolding(crate::specs::Pages::tag_pass))]
+fn begin_tag<S: Stated>(
+    alloc: Global,
+    run: &mut Run<'_, S>,
+    settings: &Settings,
+    post: Option<&Post>,
+    tag: Tag,
+) -> Result<Option<Hand>, RunFault>
+    requires { IsReady run.old }
+    ensures begun { IfOk result (IsBegun (engine_of S.says S.number run.old) (tag_pass
+        (engine_of S.says S.number run.old) settings.now (option_map (λ p. p.now) post.entry) (world_of run.old) tag)
+        run.new) }
+    ensures memory { IfErr result (λ fault. fault ≡ RunFault.OutOfMemory) }
+    ensures engine { engine_of S.says S.number run.new ≡ engine_of S.says S.number run.old }
+{
+    match tag {
+        Tag::OfPost(tag) => match post {
+            Some(post) => begin_post_tag(alloc, run, settings, post, tag),
+            None => Ok(None),
+        },
+        Tag::SiteName => print_escaped(alloc, run, settings.site_name.as_str()),
+        Tag::WpHead => start_action(alloc, run, settings, "wp_head"),
+        Tag::WpFooter => start_action(alloc, run, settings, "wp_footer"),
+    }
+}
+
+/// Begins an item: a text is printed, and an action or a filter is started.
+#[tactic(auto, unfolding(crate::specs::Pages::item_pass))]
+pub(crate) fn begin_item<S: Stated>(
+    alloc: Global,
+    run: &mut Run<'_, S>,
+    settings: &Settings,
+    post: Option<&Post>,
+    item: &Item,
+) -> Result<Option<Hand>, RunFault>
+    requires { IsReady run.old }
+    ensures begun { IfOk result (IsBegun (engine_of S.says S.number run.old) (item_pass
+        (engine_of S.says S.number run.old) settings.now (option_map (λ p. p.now) post.entry) (world_of run.old)
+        item.now) run.new) }
+    ensures memory { IfErr result (λ fault. fault ≡ RunFault.OutOfMemory) }
+    ensures engine { engine_of S.says S.number run.new ≡ engine_of S.says S.number run.old }
+{
+    match item {
+        Item::Text(text) => print(run, text.as_str()),
+        Item::Tag(tag) => begin_tag(alloc, run, settings, post, *tag),
+        Item::Action(hook) => start_action(alloc, run, settings, hook.as_str()),
+    }
+}
+
+/// Hands on the result of a job: it is printed or dropped.
+pub(crate) fn hand_on<S: Stated>(
+    alloc: Global,
+    run: &mut Run<'_, S>,
+    hand: Hand,
+    text: Text,
+) -> Result<(), RunFault>
+    requires { IsReady run.old }
+    ensures handed { OnOk result (handed_on hand (world_of run.old) text ≡ Done (world_of run.new) tt) }
+    ensures ready { OnOk result (IsReady run.new) }
+    ensures memory { IfErr result (λ fault. fault ≡ RunFault.OutOfMemory) }
+    ensures engine { engine_of S.says S.number run.new ≡ engine_of S.says S.number run.old }
+{
+    match hand {
+        Hand::Printed(shown) => print_shown(alloc, run, shown, text),
+        Hand::Dropped => Ok(()),
+    }
+}
+
+fn print_shown<S: Stated>(
+    alloc: Global,
+    run: &mut Run<'_, S>,
+    shown: Shown,
+    text: Text,
+) -> Result<(), RunFault>
+    requires { IsReady run.old }
+    ensures shown { OnOk result (printed (world_of run.old) (shown_as shown text) ≡ Done (world_of run.new) tt) }
+    ensures ready { OnOk result (IsReady run.new) }
+    ensures memory { IfErr result (λ fault. fault ≡ RunFault.OutOfMemory) }
+    ensures engine { engine_of S.says S.number run.new ≡ engine_of S.says S.number run.old }
+{
+    match shown {
+        Shown::Plain => run.print(text.as_str()),
+        Shown::HtmlEscaped => {
+            let escaped = escape_html(alloc, text.as_str())?;
+            run.print(escaped.as_str())
+        }
+        Shown::EndsEscaped => {
+            let escaped = escape_ends(alloc, text.as_str())?;
+            run.print(escaped.as_str())
+        }
+    }
+}
+
+/// The path of a post or page.
+fn permalink(alloc: Global, post: &Post) -> Result<Text, AllocError>
+    ensures { IfOk result (λ path. path ≡ permalink post.now) }
+{
+    let before = match post.kind {
+        PostKind::Post => "/?p=",
+        PostKind::Page => "/?page_id=",
+    };
+    let mut path = Text::copied(alloc, before)?;
+    path.push_str(Buffer::new().format(post.id))?;
+    Ok(path)
+}
+
+fn number_argument(alloc: Global, id: u32) -> Result<Listed<Text>, AllocError>
+    ensures { IfOk result (λ args. args ≡ decimal id ∷ []) }
+{
+    let id = Text::copied(alloc, Buffer::new().format(id))?;
+    let mut args = Listed::empty(alloc);
+    args.push(id)?;
+    Ok(args)
+}

@@ -1,0 +1,144 @@
+//! Going on with a page, item by item, until a callback was invoked or nothing is left.
+ghost use Rattle.std.specs.Prelude.{◌≡◌, None, IfOk, IfErr, OnOk, option_map};
+ghost use Rattle.hook_machine.specs.Runs.{world_of, fault_of, engine_of, IsIdle, IsReady};
+ghost use Rattle.template_parts.specs.Places.{post_at};
+ghost use Rattle.template_parts.specs.Left.{step_pass, IsBegun, run_left, IsIdleIfOver};
+ghost use Rattle.template_parts.specs.Left.{IsIdleAtEnd, Moves, Stops, Shortens};
+
+use crate::item::{Hand, begin_item, hand_on, start_action};
+use crate::place::{Place, stored_item};
+use crate::settings::Settings;
+use crate::steps::Step;
+use callback_store::Stated;
+use content_cache::PieceCache;
+use hook_machine::{Left, Run, RunFault, Turn};
+use site_records::Post;
+use std::alloc::Global;
+
+/// What a page has still to do, beside its run.
+#[derive(Drop)]
+pub struct Ahead {
+    /// What becomes of the result of the job under way, if one is.
+    pub hand: Option<Hand>,
+    pub steps: Left<Step>,
+}
+
+/// What a move came to.
+#[derive(Clone, Copy, Debug)]
+pub enum Moved {
+    /// A callback was invoked.
+    Turned,
+    /// An item was begun or ended.
+    On,
+    /// Nothing is left.
+    Over,
+}
+
+/// Where a page stops.
+#[derive(Clone, Copy, Debug)]
+pub enum Stop {
+    /// A callback was invoked.
+    Turned,
+    /// Nothing is left.
+    Over,
+}
+
+/// The post at a place, where there is one.
+fn post_at(posts: &[Post], place: Option<usize>) -> Option<&Post>
+    ensures { option_map (λ p. p.now) result ≡ post_at posts.entry.now place }
+{
+    match place {
+        Some(at) => posts.get(at),
+        None => None,
+    }
+}
+
+/// Begins the item of a step, if there is one.
+fn begin_step<S: Stated>(
+    alloc: Global,
+    run: &mut Run<'_, S>,
+    settings: &Settings,
+    posts: &[Post],
+    step: Step,
+) -> Result<Option<Hand>, RunFault>
+    requires { IsReady run.old }
+    ensures begun { IfOk result (IsBegun (engine_of S.says S.number run.old) (step_pass
+        (engine_of S.says S.number run.old) settings.now posts.now (world_of run.old) step) run.new) }
+    ensures memory { IfErr result (λ fault. fault ≡ RunFault.OutOfMemory) }
+    ensures engine { engine_of S.says S.number run.new ≡ engine_of S.says S.number run.old }
+{
+    let post = post_at(posts, step.post);
+    match step.place {
+        Place::Hook(hook) => start_action(alloc, run, settings, hook.name()),
+        Place::Stored(place) => match stored_item(settings, place) {
+            Some(item) => begin_item(alloc, run, settings, post, item),
+            None => Ok(None),
+        },
+    }
+}
+
+/// One move: a turn of the job under way, or the begin of the next step.
+fn one_move<S: Stated>(
+    alloc: Global,
+    run: &mut Run<'_, S>,
+    settings: &Settings,
+    posts: &[Post],
+    ahead: &mut Ahead,
+    cache: &mut PieceCache,
+) -> Result<Moved, RunFault>
+    requires sound { fault_of run.old ≡ None }
+    requires idle { ahead.old.hand ≡ None → IsIdle run.old }
+    ensures moves { Moves (run_left (engine_of S.says S.number run.old) settings.now posts.now run.old ahead.old) result
+        (world_of run.new) (run_left (engine_of S.says S.number run.old) settings.now posts.now run.new ahead.new) }
+    ensures idle { OnOk result (ahead.new.hand ≡ None → IsIdle run.new) }
+    ensures over { IsIdleIfOver result run.new }
+    ensures shorter { Shortens result ahead.old ahead.new }
+    ensures sound { OnOk result (fault_of run.new ≡ None) }
+    ensures engine { engine_of S.says S.number run.new ≡ engine_of S.says S.number run.old }
+{
+    match ahead.hand {
+        Some(hand) => match run.turn(cache)? {
+            Turn::More => Ok(Moved::Turned),
+            Turn::Done(text) => {
+                ahead.hand = None;
+                hand_on(alloc, run, hand, text)?;
+                Ok(Moved::On)
+            }
+        },
+        None => match ahead.steps.take_first() {
+            None => Ok(Moved::Over),
+            Some(step) => {
+                ahead.hand = begin_step(alloc, run, settings, posts, step)?;
+                Ok(Moved::On)
+            }
+        },
+    }
+}
+
+/// Move after move, until a callback was invoked or nothing is left.
+pub(crate) fn next_stop<S: Stated>(
+    alloc: Global,
+    run: &mut Run<'_, S>,
+    settings: &Settings,
+    posts: &[Post],
+    ahead: &mut Ahead,
+    cache: &mut PieceCache,
+) -> Result<Stop, RunFault>
+    requires sound { fault_of run.old ≡ None }
+    requires idle { ahead.old.hand ≡ None → IsIdle run.old }
+    ensures stops { Stops (run_left (engine_of S.says S.number run.old) settings.now posts.now run.old ahead.old) result
+        (world_of run.new) (run_left (engine_of S.says S.number run.old) settings.now posts.now run.new ahead.new) }
+    ensures idle { OnOk result (ahead.new.hand ≡ None → IsIdle run.new) }
+    ensures over { IsIdleAtEnd result run.new }
+    ensures sound { OnOk result (fault_of run.new ≡ None) }
+    ensures engine { engine_of S.says S.number run.new ≡ engine_of S.says S.number run.old }
+{
+    let mut moved = one_move(alloc, run, settings, posts, ahead, cache)?;
+    'moves: loop {
+        match moved {
+            Moved::Turned => return Ok(Stop::Turned),
+            Moved::Over => return Ok(Stop::Over),
+            Moved::On => moved = one_move(alloc, run, settings, posts, ahead, cache)?,
+        }
+    }
+}

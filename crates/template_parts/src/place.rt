@@ -1,0 +1,125 @@
+//! The places in a site's templates where the items of a page stand.
+ghost use Rattle.std.specs.Prelude.{◌≡◌, option_map};
+ghost use Rattle.template_parts.specs.Places.{hook_name, node_item, element_item};
+ghost use Rattle.template_parts.specs.Places.{elements_in, template_of, stored_item};
+
+use crate::settings::Settings;
+use hook_changes::Listed;
+use template_trees::{Element, Item, Node, Part, Template};
+
+/// An action that is fired though no template names it.
+#[derive(Clone, Copy, Debug)]
+pub enum Hook {
+    PluginsLoaded,
+    Init,
+    WpLoaded,
+    Wp,
+    TemplateRedirect,
+    GetHeader,
+    GetFooter,
+}
+
+/// Which of a loop's two bodies.
+#[derive(Clone, Copy, Debug)]
+pub enum Side {
+    /// The one for each post.
+    Body,
+    /// The one for no post.
+    Otherwise,
+}
+
+/// A place in a stored template, counted from 0.
+#[derive(Clone, Copy)]
+pub enum Stored {
+    /// A node of the page's template.
+    Node(usize),
+    /// An element in one of the bodies of a node that is a loop.
+    Element { node: usize, side: Side, at: usize },
+    /// A node of a part.
+    Part { part: Part, at: usize },
+}
+
+/// Where an item stands.
+#[derive(Clone, Copy)]
+pub enum Place {
+    /// In no template.
+    Hook(Hook),
+    Stored(Stored),
+}
+
+impl Hook {
+    ghost use Rattle.template_parts.specs.Places.{hook_name};
+
+    pub(crate) fn name(self) -> &'static str
+        ensures { result.now ≡ hook_name self }
+    {
+        match self {
+            Hook::PluginsLoaded => "plugins_loaded",
+            Hook::Init => "init",
+            Hook::WpLoaded => "wp_loaded",
+            Hook::Wp => "wp",
+            Hook::TemplateRedirect => "template_redirect",
+            Hook::GetHeader => "get_header",
+            Hook::GetFooter => "get_footer",
+        }
+    }
+}
+
+fn element_item(element: &Element) -> Option<&Item>
+    ensures { option_map (λ i. i.now) result ≡ element_item element.entry.now }
+{
+    match element {
+        Element::Item(item) => Some(item),
+        Element::Part(_) => None,
+    }
+}
+
+fn node_item(node: &Node) -> Option<&Item>
+    ensures { option_map (λ i. i.now) result ≡ node_item node.entry.now }
+{
+    match node {
+        Node::Element(element) => element_item(element),
+        Node::Loop { .. } => None,
+    }
+}
+
+fn elements_in(side: Side, node: &Node) -> Option<&Listed<Element>>
+    ensures { option_map (λ l. l.now) result ≡ elements_in side node.entry.now }
+{
+    match node {
+        Node::Element(_) => None,
+        Node::Loop { body, otherwise } => match side {
+            Side::Body => Some(body),
+            Side::Otherwise => Some(otherwise),
+        },
+    }
+}
+
+/// The template that a site stores for a part, if it does.
+pub(crate) fn template_of(settings: &Settings, part: Part) -> Option<&Template>
+    ensures { option_map (λ t. t.now) result ≡ template_of settings.entry.now part }
+{
+    match part {
+        Part::Header => settings.header.as_ref(),
+        Part::Footer => settings.footer.as_ref(),
+        Part::Content => settings.content.as_ref(),
+    }
+}
+
+/// The item at a place, where there is one.
+pub(crate) fn stored_item(settings: &Settings, place: Stored) -> Option<&Item>
+    ensures { option_map (λ i. i.now) result ≡ stored_item settings.entry.now place }
+{
+    let nodes = settings.template.nodes.as_slice();
+    match place {
+        Stored::Node(at) => node_item(nodes.get(at)?),
+        Stored::Element { node, side, at } => {
+            let elements = elements_in(side, nodes.get(node)?)?;
+            element_item(elements.as_slice().get(at)?)
+        }
+        Stored::Part { part, at } => {
+            let template = template_of(settings, part)?;
+            node_item(template.nodes.as_slice().get(at)?)
+        }
+    }
+}
