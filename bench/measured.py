@@ -35,13 +35,13 @@ def peak_of(pid, program):
         return 0
 
 
-def run(program, given, expected):
-    """Seconds and peak memory in kilobytes of one run, whose output must be as expected."""
+def run(program, given, expected, words=()):
+    """Seconds and peak memory in kilobytes of one run with some arguments, whose output must be as expected."""
     with tempfile.TemporaryFile() as source, tempfile.TemporaryFile() as written:
         source.write(given)
         source.seek(0)
         begin = time.perf_counter()
-        child = subprocess.Popen([program], stdin=source, stdout=written)
+        child = subprocess.Popen([program, *words], stdin=source, stdout=written)
         peak = 0
         while child.poll() is None:
             peak = max(peak, peak_of(child.pid, program))
@@ -55,7 +55,7 @@ def run(program, given, expected):
         return seconds, peak
 
 
-def best(program, given, expected):
+def best(program, given, expected, words=()):
     """The fastest of some runs, and the greatest peak."""
-    runs = [run(program, given, expected) for _ in range(RUNS)]
+    runs = [run(program, given, expected, words) for _ in range(RUNS)]
     return min(seconds for seconds, _ in runs), max(memory for _, memory in runs)

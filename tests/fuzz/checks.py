@@ -1,0 +1,177 @@
+"""What must hold of the replies to any list of lines, and of those to lists that are made from it."""
+
+import subprocess
+import sys
+from pathlib import Path
+
+from lines import PLUGINS
+from sites import Stored, bared, line_of
+from values import Unreadable, command_of, read, rewritten
+
+sys.path.insert(0, str(Path(__file__).resolve().parent.parent))
+from replies import Wrong, read_replies, refusal_of, shown
+
+SECONDS = 60
+CALLS = 1_000
+# How each command can be answered: what its reply begins with if it is done, and its refusals.
+ANSWERS = {
+    "import": (b"ok\n", {1, 2, 4, 5, 6, 7, 8}),
+    "put": (b"ok ", {1, 5, 8, 13}),
+    "edit": (b"ok\n", {1, 3, 5, 8}),
+    "delete": (b"ok\n", {1, 3}),
+    "option": (b"ok\n", {1, 8}),
+    "activate": (b"ok\n", {1, 6}),
+    "deactivate": (b"ok\n", {1, 6}),
+    "template": (b"ok\n", {1, 7, 8}),
+    "get": (b"page ", {1, 8, 9, 10}),
+}
+# Served by some versions of the program, and in no list made here.
+LATER = ("begin", "turns")
+
+
+def check_answer(line, reply):
+    """A line is answered as its command can be, and as no command if no reader of JSON reads it."""
+    try:
+        read(line)
+    except Unreadable:
+        if refusal_of(reply) != 1:
+            raise Wrong(f"{shown(line)} is no JSON, and is answered {shown(reply)}") from None
+    kind = command_of(line).get("cmd")
+    done, refusals = ANSWERS.get(kind, (None, {1})) if isinstance(kind, str) else (None, {1})
+    number = refusal_of(reply)
+    if kind not in LATER and not (number in refusals if number else done and reply.startswith(done)):
+        raise Wrong(f"{shown(line)} is answered {shown(reply)}")
+
+
+class Program:
+    """Runs of a program, whose replies are looked at line by line."""
+
+    def __init__(self, path):
+        self.path = path
+
+    def replies(self, lines, calls=CALLS, cache=None):
+        """The replies to some lines, one for each."""
+        words = [self.path, "--calls", str(calls), *(["--cache", str(cache)] if cache else [])]
+        given = b"".join(line + b"\n" for line in lines)
+        try:
+            run = subprocess.run(words, input=given, capture_output=True, timeout=SECONDS)
+        except subprocess.TimeoutExpired:
+            raise Wrong(f"it had not ended after {SECONDS} seconds") from None
+        if run.returncode or run.stderr:
+            raise Wrong(f"it ended with status {run.returncode} and says {shown(run.stderr)}")
+        replies, rest = read_replies(run.stdout)
+        if rest or len(replies) != len(lines):
+            raise Wrong(f"{len(lines)} lines have {len(replies)} replies, and {len(rest)} bytes after them")
+        return replies
+
+
+def same(lines, replies, others, what):
+    """The replies to some lines are these others."""
+    for line, reply, other in zip(lines, replies, others, strict=True):
+        if reply != other:
+            raise Wrong(f"{shown(line)} is answered {shown(reply)}, but {what} {shown(other)}")
+
+
+def left_out(program, lines, replies, is_left_out, what):
+    """Without some of the lines, the replies to the others are the same."""
+    kept = [pair for pair in zip(lines, replies) if not is_left_out(*pair)]
+    if len(kept) < len(lines):
+        rest = [line for line, _ in kept]
+        same(rest, [reply for _, reply in kept], program.replies(rest), what)
+
+
+def answers(program, lines, replies):
+    """Each reply is one that its command can have, IDs are those that are told, and a page's bytes are UTF-8."""
+    Stored().after(lines, replies)
+    for line, reply in zip(lines, replies):
+        check_answer(line, reply)
+        try:
+            reply.decode()
+        except UnicodeDecodeError:
+            raise Wrong(f"{shown(line)} gives a page that is no UTF-8: {shown(reply)}") from None
+
+
+def halves(program, lines, replies):
+    """The first half alone has the same replies, and so has the second after an import of what the first leaves."""
+    half = len(lines) // 2
+    same(lines[:half], replies[:half], program.replies(lines[:half]), "without what follows")
+    begun = Stored().after(lines[:half], replies[:half]).lines()
+    again = program.replies(begun + lines[half:])
+    same(begun, again[: len(begun)], [b"ok\n"] * len(begun), "it imports what was stored, so wanted is")
+    same(lines[half:], replies[half:], again[len(begun) :], "after an import of the site")
+
+
+def refused(program, lines, replies):
+    """A refused line has no effect. A refused `turns` closes its page."""
+    def is_left_out(line, reply):
+        return refusal_of(reply) and command_of(line).get("cmd") != "turns"
+    left_out(program, lines, replies, is_left_out, "without the refused lines")
+
+
+def pages(program, lines, replies):
+    """Pages change nothing: the last one is the same without all others, and so are the other replies."""
+    gets = [at for at, line in enumerate(lines) if command_of(line).get("cmd") == "get"]
+    places = iter(range(len(lines)))
+    left_out(program, lines, replies, lambda *_: next(places) in gets[:-1], "without the pages before")
+
+
+def caches(program, lines, replies):
+    """How many scanned texts are kept changes no reply."""
+    for cache in (1, 4_096):
+        same(lines, replies, program.replies(lines, cache=cache), f"with --cache {cache}")
+
+
+def calls(program, lines, replies):
+    """With fewer calls a page is the same or has too few of them."""
+    for fewer in (CALLS // 50, 1):
+        less = program.replies(lines, calls=fewer)
+        kept = [other if refusal_of(other) == 9 else reply for reply, other in zip(replies, less)]
+        same(lines, kept, less, f"with --calls {fewer}")
+    for line, reply, other in zip(lines, replies, program.replies(lines, calls=3 * CALLS)):
+        if refusal_of(reply) != 9 and reply != other:
+            raise Wrong(f"{shown(line)} is answered {shown(reply)}, but with more calls {shown(other)}")
+
+
+def values(program, lines, replies):
+    """Another writing of the same JSON has the same replies."""
+    same(lines, replies, program.replies([rewritten(line) for line in lines]), "written otherwise")
+
+
+def toggles(program, lines, replies):
+    """A page is the same when asked for again, also if a plugin was turned off and on, or on and off, meanwhile."""
+    stored = Stored().after(lines, replies)
+    asked = [line for line in lines if command_of(line).get("cmd") == "get"][-2:]
+    asked += [line_of(cmd="get", path=path) for path in ("/", "/?p=1", "/?page_id=2")]
+    rounds = [asked]
+    for plugin in PLUGINS:
+        there, back = stored.toggled(plugin)
+        rounds.append([there, *asked, back, *asked])
+    got = program.replies(lines + asked + [line for it in rounds for line in it])[len(lines) :]
+    first, got = got[: len(asked)], got[len(asked) :]
+    for it in rounds:
+        again, got = got[: len(it)], got[len(it) :]
+        same(asked, first, again[-len(asked) :], f"once more, after {shown(it[0])},")
+
+
+def bare_page(post):
+    """The reply with a post's page, or that none was found, without plugins and templates."""
+    status, body = 404, "<p>Nothing found.</p>"
+    if post:
+        status, body = 200, f"<h2>{post['title']}</h2>{post['content'].replace(']]>', ']]&gt;')}"
+    return f"page {status} {len(body.encode())}\n{body}\n".encode()
+
+
+def posts(program, lines, replies):
+    """Without plugins and templates each page shows the post that the replies tell of, and there is no other post."""
+    stored = Stored().after(lines, replies)
+    ids = sorted({*stored.posts, *range(1, min(stored.largest + 3, 30))})
+    begun = lines + bared(ids)
+    paths = ["/?" + ("page_id" if stored.posts.get(it, {}).get("kind") == "page" else "p") + f"={it}" for it in ids]
+    gets = [line_of(cmd="get", path=path) for path in paths]
+    got = program.replies(begun + gets)
+    edits = [b"ok\n" if it in stored.posts else b"refused 3 NoSuchPost\n" for it in ids]
+    same(begun[-len(ids) :], got[len(begun) - len(ids) : len(begun)], edits, "the replies before tell")
+    same(gets, got[len(begun) :], [bare_page(stored.posts.get(it)) for it in ids], "the replies before tell")
+
+
+CHECKS = (answers, halves, refused, pages, caches, calls, values, toggles, posts)

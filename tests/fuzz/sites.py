@@ -1,0 +1,104 @@
+"""What is stored after some lines, told by their replies alone: the commands that were done, one after another."""
+
+import json
+import sys
+from pathlib import Path
+
+from lines import PLUGINS, TEMPLATES
+from values import command_of
+
+sys.path.insert(0, str(Path(__file__).resolve().parent.parent))
+from replies import Wrong, shown
+
+DATE = "2024-05-01 10:00:00"
+
+
+def line_of(**keys):
+    return json.dumps(keys, ensure_ascii=False).encode()
+
+
+class Stored:
+    """Posts by ID, options, templates, active plugins, and the largest ID ever given."""
+
+    def __init__(self):
+        self.posts, self.options, self.templates, self.active, self.largest = {}, {}, {}, set(), 0
+
+    def after(self, lines, replies):
+        for line, reply in zip(lines, replies):
+            command = command_of(line)
+            if command.get("cmd") in ("edit", "delete") and reply in (b"ok\n", b"refused 3 NoSuchPost\n"):
+                if (command["id"] in self.posts) != (reply == b"ok\n"):
+                    raise Wrong(f"{shown(line)} is answered {shown(reply)}, and the replies before tell otherwise")
+            try:
+                if reply.startswith(b"ok"):
+                    self.carry_out(command, reply)
+            except (IndexError, KeyError, TypeError):
+                raise Wrong(f"{shown(line)} is answered {shown(reply)}, which can't be") from None
+        return self
+
+    def carry_out(self, command, reply):
+        """A command that was answered `ok`, or `ok` and a number."""
+        match command["cmd"]:
+            case "put":
+                every = {"kind": "post", "status": "publish", "title": "", "content": ""}
+                if int(reply.split()[1]) != self.largest + 1:
+                    raise Wrong(f"a put is answered {shown(reply)}, and {self.largest} was the largest ID")
+                self.add({**every, **command, "id": self.largest + 1})
+            case "edit":
+                given = {key: it for key, it in command.items() if key in ("status", "title", "content", "date")}
+                self.posts[command["id"]].update(given)
+            case "delete":
+                del self.posts[command["id"]]
+            case "option":
+                self.options[command["name"]] = command["value"]
+            case "activate":
+                self.active.add(command["plugin"])
+            case "deactivate":
+                self.active.discard(command["plugin"])
+            case "template":
+                self.set_template(command["name"], command["body"])
+            case "import":
+                self.carry_in(command["site"])
+
+    def add(self, post):
+        self.posts[post["id"]] = {key: post[key] for key in ("id", "kind", "status", "title", "content", "date")}
+        self.largest = max(self.largest, post["id"])
+
+    def set_template(self, name, body):
+        self.templates[name] = body
+        if body is None:
+            del self.templates[name]
+
+    def carry_in(self, site):
+        for post in site.get("posts", []):
+            self.add(post)
+        self.options.update(site.get("options", {}))
+        if site["version"] == 2 and "front" in site:
+            self.options["show_on_front"] = site["front"]["show"]
+            if site["front"]["show"] == "page":
+                self.options["page_on_front"] = str(site["front"]["page"])
+        self.templates.update(site.get("templates", {}))
+        self.active.update(site.get("active", []))
+
+    def lines(self):
+        """Lines that make an empty site this one, each of which is answered `ok`."""
+        gone = [] if self.largest in self.posts or not self.largest else [self.largest]
+        holder = {"kind": "post", "status": "draft", "title": "", "content": "", "date": DATE}
+        sites = [{"posts": [post]} for post in [*self.posts.values(), *({"id": it, **holder} for it in gone)]]
+        sites += [{"options": {name: value}} for name, value in self.options.items()]
+        sites += [{"templates": {name: body}} for name, body in self.templates.items()]
+        sites.append({"active": sorted(self.active)})
+        imports = [line_of(cmd="import", site={"version": 1, **site}) for site in sites]
+        return imports + [line_of(cmd="delete", id=it) for it in gone]
+
+    def toggled(self, plugin):
+        """Two lines that leave the active plugins as they are, with the plugin turned round between them."""
+        words = ("deactivate", "activate") if plugin in self.active else ("activate", "deactivate")
+        return [line_of(cmd=word, plugin=plugin) for word in words]
+
+
+def bared(ids):
+    """Lines after which no plugin is active, no template is stored, and the posts of these IDs are published."""
+    lines = [line_of(cmd="deactivate", plugin=plugin) for plugin in PLUGINS]
+    lines += [line_of(cmd="template", name=name, body=None) for name in TEMPLATES]
+    return lines + [line_of(cmd="edit", id=it, status="publish") for it in ids]

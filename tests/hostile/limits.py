@@ -1,0 +1,195 @@
+"""Runs under limits on the address space and on the stack, over lines that need much of either."""
+
+import json
+import subprocess
+import sys
+from pathlib import Path
+
+sys.path.insert(0, str(Path(__file__).resolve().parent.parent))
+from replies import Wrong, read_replies, shown
+
+SECONDS = 60
+CALLS = 100_000
+DATE = "2024-05-01 10:00:00"
+REFUSED = b"refused 11 OutOfMemory\n"
+OUT_OF_MEMORY = (1, b"site: out of memory\n")
+DONE = (0, b"")
+# How many limits on memory are tried, and the size of a page, in kilobytes.
+STEPS = 64
+PAGE = 4
+# The kernel places a stack at random, so what a program needs to start differs from run to run by some pages: a limit
+# lets it start if it does so this many times. The pages that its stack grows by count too, and if there is none the
+# system itself ends the program; so the first limit tried is larger by this many kilobytes.
+STARTS = 8
+SLACK = 64
+# Limits on the stack, in kilobytes: the usual one, and smaller ones.
+STACKS = (8_192, 1_024, 256)
+# No limit is needed beyond this one, in kilobytes.
+AMPLE = 4 * 1_048_576
+
+
+def post(number, title="", content=""):
+    return {"id": number, "kind": "post", "status": "publish", "title": title, "content": content, "date": DATE}
+
+
+def hungry():
+    """Commands that need much memory, of every kind."""
+    texts = ["t" * 64] * 4_000
+    loop = [{"loop": [{"tag": "the_title"}, {"tag": "the_content"}, *texts]}]
+    yield {"cmd": "get", "path": "/"}
+    yield from ({"cmd": "activate", "plugin": plugin} for plugin in ("bold", "deep", "atts", "note"))
+    yield {"cmd": "put", "title": "d" * 32, "content": "[i]a[b]c[/b][/i]", "date": DATE}
+    yield {"cmd": "put", "title": "t" * 65_536, "content": "[b]x[/b]" * 65_536, "date": DATE}
+    yield {"cmd": "get", "path": "/?p=2"}
+    yield {"cmd": "edit", "id": 2, "content": "[show a='1' b]" * 20_000}
+    yield {"cmd": "get", "path": "/?p=2"}
+    yield {"cmd": "edit", "id": 2, "content": "[" * 524_288}
+    yield {"cmd": "import", "site": {"version": 1, "posts": [post(it, "d" * 8, "[b]") for it in range(10, 3_000)]}}
+    yield {"cmd": "import", "site": {"version": 1, "options": {"posts_per_page": "100"}, "templates": {"home": loop}}}
+    yield {"cmd": "get", "path": "/"}
+    yield {"cmd": "option", "name": "blogname", "value": "&" * 65_536}
+    yield {"cmd": "template", "name": "single", "body": [{"tag": "site_name"}] * 100}
+    yield {"cmd": "get", "path": "/?p=10"}
+    yield {"cmd": "delete", "id": 2}
+    yield {"cmd": "deactivate", "plugin": "deep"}
+    yield {"cmd": "get", "path": "/?paged=2"}
+
+
+def deep():
+    """Lines that nest, and pages that go, as deep as they may, and lines of the greatest length."""
+    arrays, objects = "[" * 126 + "]" * 126, '{"a":' * 125 + "{}" + "}" * 125
+    for nested in (arrays, objects):
+        yield f'{{"cmd":"get","path":"/","more":{nested}}}'
+        yield f'{{"cmd":"import","site":{nested}}}'
+        yield f'{{"cmd":"import","site":{{"version":1,"options":{nested[1:-1]}}}}}' if nested is arrays else "{}"
+        yield f'{{"cmd":"template","name":"home","body":{nested}}}'
+        yield f'{{"cmd":"get","path":{nested}'
+    yield "[" * 1_048_576
+    yield '{"a":' * 200_000
+    yield '{"cmd":"put","title":"' + "\\u0041" * 65_536 + '","content":"' + "\\\\" * 300_000 + f'","date":"{DATE}"}}'
+    for plugin in ("args", "atts", "bold", "deep", "grow", "marks", "nest", "note", "once", "tagmark"):
+        yield json.dumps({"cmd": "activate", "plugin": plugin})
+    yield json.dumps({"cmd": "put", "title": "d" * 32, "content": "[i][ask][ping][note]" * 500, "date": DATE})
+    yield json.dumps({"cmd": "put", "title": "x", "content": "[[[b" * 100_000, "date": DATE})
+    yield json.dumps({"cmd": "put", "title": "spin", "content": "[show " + "a='1' \"" * 70_000 + "]", "date": DATE})
+    yield from (json.dumps({"cmd": "get", "path": f"/?p={number}"}) for number in range(1, 5))
+    for plugin in ("args", "grow", "marks", "nest", "once"):
+        yield json.dumps({"cmd": "deactivate", "plugin": plugin})
+    yield from (json.dumps({"cmd": "get", "path": f"/?p={number}"}) for number in range(1, 5))
+    yield json.dumps({"cmd": "get", "path": "/?" + "p&" * 4_095})
+    yield json.dumps({"cmd": "import", "site": {"version": 1, "posts": [post(it) for it in range(10, 8_000)]}})
+    yield json.dumps({"cmd": "template", "name": "home", "body": [{"loop": [{"part": "header"}] * 4_090}]})
+    yield json.dumps({"cmd": "get", "path": "/?paged=800"})
+
+
+def run(program, lines, limit=""):
+    """A run over some lines, by a shell that sets a limit first; nothing of the environment counts."""
+    words = ["sh", "-c", f'{limit} exec "$@"', "sh", program, "--calls", str(CALLS)]
+    given = b"".join(line + b"\n" for line in lines)
+    ran = subprocess.run(words, input=given, capture_output=True, env={}, timeout=SECONDS)
+    return (ran.returncode, ran.stderr), ran.stdout
+
+
+def whole(program, lines, limit=""):
+    """The replies to all lines."""
+    end, output = run(program, lines, limit)
+    replies, rest = read_replies(output)
+    if end != DONE or rest or len(replies) != len(lines):
+        raise Wrong(f"it ended with status {end[0]} and {shown(end[1])} after {len(replies)} of {len(lines)} replies")
+    return replies
+
+
+def smallest(works, low, high, step):
+    """The smallest limit that works, to a step, between one that doesn't and one that does."""
+    while high - low > step:
+        middle = (low + high) // 2 // step * step
+        low, high = (low, middle) if works(middle) else (middle, high)
+    return high
+
+
+class Memory:
+    """Runs under limits on the address space."""
+
+    def __init__(self, program):
+        self.program = program
+        self.lines = [json.dumps(command).encode() for command in hungry()]
+        self.without = {}
+        self.begins = self.ends = None
+
+    def measure(self):
+        """The smallest limits with which the program serves no line, and all of them."""
+        self.without[frozenset()] = whole(self.program, self.lines)
+
+        def begins(kilobytes):
+            limit = f"ulimit -v {kilobytes};"
+            return all(run(self.program, [], limit) == (DONE, b"") for _ in range(STARTS))
+
+        def ends(kilobytes):
+            end, output = run(self.program, self.lines, f"ulimit -v {kilobytes};")
+            return end == DONE and output == b"".join(self.without[frozenset()])
+
+        self.begins = smallest(begins, 0, AMPLE, PAGE)
+        self.ends = smallest(ends, self.begins - PAGE, AMPLE, PAGE)
+        print(f"memory: {self.begins} KB for no line, {self.ends} KB for the whole list of {len(self.lines)}")
+
+    def replies_without(self, places):
+        """The replies to the lines that aren't at these places."""
+        if places not in self.without:
+            kept = [line for at, line in enumerate(self.lines) if at not in places]
+            self.without[places] = whole(self.program, kept)
+        return self.without[places]
+
+    def judge(self, step):
+        """A run under a limit between those two: what it answers, and how it ends."""
+        if self.ends is None:
+            raise Wrong("the limits couldn't be measured")
+        kilobytes = self.begins + SLACK + (self.ends - self.begins) * step // STEPS
+        end, output = run(self.program, self.lines, f"ulimit -v {kilobytes};")
+        replies, rest = read_replies(output)
+        where = f"at {kilobytes} KB, after {len(replies)} replies,"
+        if rest:
+            raise Wrong(f"{where} there is no whole reply: {shown(rest)}")
+        if end not in (DONE, OUT_OF_MEMORY) or (end == DONE) != (len(replies) == len(self.lines)):
+            raise Wrong(f"{where} it ended with status {end[0]} and {shown(end[1])}")
+        places = frozenset(at for at, reply in enumerate(replies) if reply == REFUSED)
+        kept = [reply for reply in replies if reply != REFUSED]
+        for reply, wanted in zip(kept, self.replies_without(places)):
+            if reply != wanted:
+                raise Wrong(f"{where} one is {shown(reply)}, wanted {shown(wanted)}")
+
+
+class Stack:
+    """Runs under limits on the stack."""
+
+    def __init__(self, program):
+        self.program = program
+        self.lines = [line.encode() for line in deep()]
+        self.replies = None
+
+    def measure(self):
+        """The smallest limit with which all replies are those without a limit."""
+        self.replies = whole(self.program, self.lines, "ulimit -s unlimited;")
+
+        def works(kilobytes):
+            end, output = run(self.program, self.lines, f"ulimit -s {kilobytes};")
+            return end == DONE and output == b"".join(self.replies)
+
+        least = smallest(works, 0, STACKS[0], PAGE)
+        print(f"stack: {least} KB for a list of {len(self.lines)} lines as deep as they may be")
+
+    def judge(self, kilobytes):
+        replies = whole(self.program, self.lines, f"ulimit -s {kilobytes};")
+        if replies != self.replies:
+            raise Wrong("the replies are others than without a limit")
+
+
+def cases(program):
+    """Each run by its name, with what judges it."""
+    stack = Stack(program)
+    yield "the smallest stack", stack.measure
+    for kilobytes in STACKS:
+        yield f"a stack of {kilobytes} KB", lambda kilobytes=kilobytes: stack.judge(kilobytes)
+    memory = Memory(program)
+    yield "the smallest memory", memory.measure
+    for step in range(STEPS):
+        yield f"memory, step {step} of {STEPS}", lambda step=step: memory.judge(step)
