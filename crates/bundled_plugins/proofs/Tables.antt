@@ -6,7 +6,7 @@ use Rattle.std.proofs.lemmas.Bool.{eqb-true}
 use Rattle.hook_changes.specs.declared.reply.Call.{Call}
 use Rattle.hook_changes.specs.declared.reply.Reply.{Reply}
 use Rattle.bundled_plugins.specs.declared.rows.ReplyRow.{ReplyRow}
-use Rattle.bundled_plugins.specs.Calls.{answers_text}
+use Rattle.hook_changes.specs.Replies.{answers_text}
 use Rattle.bundled_plugins.specs.Replies.{reply_in, stated}
 use Rattle.bundled_plugins.specs.Rows.{replies_of, has, is_no_row, AreStated}
 

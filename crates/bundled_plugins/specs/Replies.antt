@@ -8,7 +8,8 @@ use Rattle.hook_changes.specs.declared.reply.Answer.{Answer}
 use Rattle.hook_changes.specs.declared.reply.Ask.{Ask}
 use Rattle.hook_changes.specs.declared.reply.Ask.TheVariants.{Apply, Act, Shortcodes, Did, Current, Doing, Has, TagExists, GetOption}
 use Rattle.hook_changes.specs.declared.reply.Change.TheVariants.{Add, Remove, RemoveAll, RemoveTag, RemoveAllTags}
-use Rattle.bundled_plugins.specs.Calls.{Text, first_argument, second_argument, text_in, shown, listed, answers_text, changes_and_answers, prints_and_answers, changes_and_asks, asks}
+use Rattle.hook_changes.specs.Replies.{answers_text, changes_and_answers, prints_and_answers, changes_and_asks, asks}
+use Rattle.bundled_plugins.specs.Calls.{Text, first_argument, second_argument, text_in, shown, listed}
 
 abbrev pub the_title : Text
 the_title = codes "the_title"

@@ -1,9 +1,9 @@
-//! What a callback reads of its call, and the forms of its reply.
+//! What a callback reads of its call, and a reply that answers texts.
 ghost use Rattle.std.specs.Prelude.{◌≡◌, ◌++◌, IfOk, OnOk, codes, flat_map};
 ghost use Rattle.bundled_plugins.specs.Calls.{first_argument, second_argument, text_in, shown, listed};
-ghost use Rattle.bundled_plugins.specs.Calls.{answers_text, changes_and_answers, changes_and_asks, asks};
+ghost use Rattle.hook_changes.specs.Replies.{answers_text};
 
-use hook_changes::{Answer, Ask, Call, Change, Listed, Reply, Text, Then};
+use hook_changes::{Answer, Call, Reply, Text};
 use itoa::Buffer;
 use std::alloc::{AllocError, Global};
 
@@ -96,41 +96,5 @@ fn show_more(text: &mut Text, answers: &[Answer]) -> Result<(), AllocError>
 pub fn answer(alloc: Global, parts: &[&str]) -> Result<Reply, AllocError>
     ensures { IfOk result (λ reply. reply ≡ answers_text (flat_map (λ part. part.now) parts.now)) }
 {
-    Ok(answer_text(alloc, joined(alloc, parts)?))
-}
-
-/// The reply that answers a text and does nothing else. It does not allocate.
-pub fn answer_text(alloc: Global, text: Text) -> Reply
-    ensures { result ≡ answers_text text }
-{
-    change_and_answer(alloc, Listed::empty(alloc), text)
-}
-
-/// The reply that carries out changes and answers a text. It does not allocate.
-pub fn change_and_answer(alloc: Global, changes: Listed<Change>, text: Text) -> Reply
-    ensures { result ≡ changes_and_answers changes text }
-{
-    Reply {
-        changes,
-        echo: Text::empty(alloc),
-        next: Then::Answer(text),
-    }
-}
-
-/// The reply that carries out changes and asks. It does not allocate.
-pub fn change_and_ask(alloc: Global, changes: Listed<Change>, ask: Ask) -> Reply
-    ensures { result ≡ changes_and_asks changes ask }
-{
-    Reply {
-        changes,
-        echo: Text::empty(alloc),
-        next: Then::Ask(ask),
-    }
-}
-
-/// The reply that asks. It does not allocate.
-pub fn ask(alloc: Global, ask: Ask) -> Reply
-    ensures { result ≡ asks ask }
-{
-    change_and_ask(alloc, Listed::empty(alloc), ask)
+    Ok(Reply::answer(alloc, joined(alloc, parts)?))
 }

@@ -3,15 +3,13 @@ ghost use Rattle.std.specs.Prelude.{◌≡◌, ◌++◌, ◌∷◌, [], IfOk, On
 ghost use Rattle.std.specs.List.{list_all};
 ghost use Rattle.hook_changes.specs.declared.reply.Change.{Change};
 ghost use Rattle.hook_changes.specs.declared.reply.Ask.{Ask};
-ghost use Rattle.bundled_plugins.specs.Calls.{shown, answers_text, changes_and_asks};
+ghost use Rattle.hook_changes.specs.Replies.{answers_text, changes_and_asks};
+ghost use Rattle.bundled_plugins.specs.Calls.{shown};
 ghost use Rattle.bundled_plugins.specs.Replies.{says, reply_in, the_title, asks_its_own_hook, replaces_content, attributes_listed, named_listed};
 ghost use Rattle.bundled_plugins.specs.Replies.{positional_listed, link, asks_in_turn, is_run_of_d, in_parentheses, goes_deeper, counts_pings};
 ghost use Rattle.bundled_plugins.specs.Rows.{replies_of, AreStated};
 
-use crate::calls::{
-    answer, answer_text, ask, change_and_answer, change_and_ask, first_argument, joined, listed,
-    push_all, show, text_in,
-};
+use crate::calls::{answer, first_argument, joined, listed, push_all, show, text_in};
 use crate::rows::{ChangeRow, Part, ReplyRow, changes_of, reply_of};
 use hook_changes::{Answer, Ask, Atts, Call, CallbackId, Listed, Reply, Text};
 use std::alloc::{AllocError, Global};
@@ -249,7 +247,7 @@ fn ask_its_own_hook(alloc: Global, value: &str, answers: &[Answer]) -> Result<Re
         [first, ..] => {
             let text = joined(alloc, &[value, "-", text_in(first), "-2"])?;
             let changes = changes_of(alloc, &[ChangeRow::Add("the_title", 11, 7, 1)])?;
-            Ok(change_and_answer(alloc, changes, text))
+            Ok(Reply::answer(alloc, text).with_changes(changes))
         }
     }
 }
@@ -260,7 +258,7 @@ fn ask_without_itself(alloc: Global) -> Result<Reply, AllocError>
         (Change.Remove the_title (pos 11) 7 ∷ []) (Ask.Apply the_title [] [])) }
 {
     let changes = changes_of(alloc, &[ChangeRow::Remove("the_title", 11, 7)])?;
-    Ok(change_and_ask(alloc, changes, title_pass(alloc, "")?))
+    Ok(Reply::ask(alloc, title_pass(alloc, "")?).with_changes(changes))
 }
 
 /// `apply_filters` of `the_title` on a value, with no further arguments.
@@ -281,7 +279,7 @@ fn replace_content(alloc: Global, content: &Text, answers: &[Answer]) -> Result<
     match answers {
         [] => {
             let text = content.clone()?;
-            Ok(ask(alloc, Ask::Shortcodes { text }))
+            Ok(Reply::ask(alloc, Ask::Shortcodes { text }))
         }
         [first, ..] => answer(alloc, &["<i>", text_in(first), "</i>"]),
     }
@@ -294,7 +292,7 @@ fn list_attributes(alloc: Global, atts: &Atts) -> Result<Reply, AllocError>
     let mut text = Text::empty(alloc);
     push_named(&mut text, atts)?;
     push_positional(&mut text, atts.positional())?;
-    Ok(answer_text(alloc, text))
+    Ok(Reply::answer(alloc, text))
 }
 
 /// Puts the attributes with a name behind a text.
@@ -352,9 +350,9 @@ fn ask_in_turn(alloc: Global, answers: &[Answer]) -> Result<Reply, AllocError>
         5 => Ask::GetOption {
             name: Text::copied(alloc, "blogname")?,
         },
-        _ => return Ok(answer_text(alloc, listed(alloc, &answers[..6])?)),
+        _ => return Ok(Reply::answer(alloc, listed(alloc, &answers[..6])?)),
     };
-    Ok(ask(alloc, question))
+    Ok(Reply::ask(alloc, question))
 }
 
 /// Number 26 asks what its own hook makes of one `d` fewer, and of `spin` asks without end.
@@ -363,7 +361,7 @@ fn go_deeper(alloc: Global, value: &str, answers: &[Answer]) -> Result<Reply, Al
 {
     if value == "spin" {
         let hook = Text::copied(alloc, "init")?;
-        return Ok(ask(alloc, Ask::Did { hook }));
+        return Ok(Reply::ask(alloc, Ask::Did { hook }));
     }
     if !is_run_of_d(value) {
         return answer(alloc, &[value]);
@@ -390,7 +388,7 @@ fn in_parentheses(alloc: Global, shorter: &str, answers: &[Answer]) -> Result<Re
     ensures { IfOk result (λ reply. reply ≡ in_parentheses shorter.now answers.now) }
 {
     match answers {
-        [] => Ok(ask(alloc, title_pass(alloc, shorter)?)),
+        [] => Ok(Reply::ask(alloc, title_pass(alloc, shorter)?)),
         [first, ..] => answer(alloc, &["(", text_in(first), ")"]),
     }
 }
@@ -400,10 +398,10 @@ fn count_pings(alloc: Global, answers: &[Answer]) -> Result<Reply, AllocError>
     ensures { IfOk result (λ reply. reply ≡ counts_pings answers.now) }
 {
     match answers {
-        [] => Ok(ask(alloc, ping(alloc)?)),
+        [] => Ok(Reply::ask(alloc, ping(alloc)?)),
         [_] => {
             let hook = Text::copied(alloc, "ping")?;
-            Ok(ask(alloc, Ask::Did { hook }))
+            Ok(Reply::ask(alloc, Ask::Did { hook }))
         }
         [_, second, ..] => answer_shown(alloc, second),
     }
@@ -425,5 +423,5 @@ fn answer_shown(alloc: Global, found: &Answer) -> Result<Reply, AllocError>
 {
     let mut text = Text::empty(alloc);
     show(&mut text, found)?;
-    Ok(answer_text(alloc, text))
+    Ok(Reply::answer(alloc, text))
 }

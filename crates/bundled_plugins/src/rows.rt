@@ -3,7 +3,7 @@ ghost use Rattle.std.specs.Prelude.{◌≡◌, ◌++◌, IfOk, OnOk, map};
 ghost use Rattle.bundled_plugins.specs.Rows.{change_of, part_of, text_of, reply_of};
 
 use crate::calls::{first_argument, second_argument};
-use hook_changes::{Call, CallbackId, Change, Listed, Reply, Text, Then};
+use hook_changes::{Call, CallbackId, Change, Listed, Reply, Text};
 use itoa::Buffer;
 use std::alloc::{AllocError, Global};
 
@@ -116,9 +116,12 @@ fn text_of(alloc: Global, parts: &[Part], call: &Call) -> Result<Text, AllocErro
 pub fn reply_of(alloc: Global, row: &ReplyRow, call: &Call) -> Result<Reply, AllocError>
     ensures { IfOk result (λ reply. reply ≡ reply_of row.now call.now) }
 {
-    Ok(Reply {
-        changes: changes_of(alloc, row.changes)?,
-        echo: text_of(alloc, row.prints, call)?,
-        next: Then::Answer(text_of(alloc, row.answers, call)?),
-    })
+    let changes = changes_of(alloc, row.changes)?;
+    let echo = text_of(alloc, row.prints, call)?;
+    let text = text_of(alloc, row.answers, call)?;
+    Ok(
+        Reply::answer(alloc, text)
+            .with_changes(changes)
+            .with_echo(echo),
+    )
 }

@@ -1,7 +1,11 @@
 // What a callback is called with, and what it replies.
+ghost use Rattle.std.specs.Prelude.{◌≡◌};
+ghost use Rattle.hook_changes.specs.Replies.{answers_text, asks};
+
 use crate::callback::CallbackId;
 use crate::kept::{Listed, Text};
 use shortcode_atts::Atts;
+use std::alloc::Global;
 
 /// A change of the registrations or of the shortcodes.
 ///
@@ -127,4 +131,52 @@ pub struct Reply {
     /// Appended to the page at this moment.
     pub echo: Text,
     pub next: Then,
+}
+
+impl Reply {
+    /// A reply that answers a text, changes nothing and prints nothing. It does not allocate.
+    pub fn answer(alloc: Global, text: Text) -> Self
+        ensures { result ≡ answers_text text }
+    {
+        Reply {
+            changes: Listed::empty(alloc),
+            echo: Text::empty(alloc),
+            next: Then::Answer(text),
+        }
+    }
+
+    /// A reply that asks, changes nothing and prints nothing. It does not allocate.
+    pub fn ask(alloc: Global, ask: Ask) -> Self
+        ensures { result ≡ asks ask }
+    {
+        Reply {
+            changes: Listed::empty(alloc),
+            echo: Text::empty(alloc),
+            next: Then::Ask(ask),
+        }
+    }
+
+    /// The same reply, with these changes in place of its own.
+    pub fn with_changes(self, changes: Listed<Change>) -> Self
+        ensures { result ≡ record self { changes = changes } }
+    {
+        let Reply { echo, next, .. } = self;
+        Reply {
+            changes,
+            echo,
+            next,
+        }
+    }
+
+    /// The same reply, with this text to print in place of its own.
+    pub fn with_echo(self, echo: Text) -> Self
+        ensures { result ≡ record self { echo = echo } }
+    {
+        let Reply { changes, next, .. } = self;
+        Reply {
+            changes,
+            echo,
+            next,
+        }
+    }
 }

@@ -3,8 +3,7 @@ use Rattle.std.specs.Prelude.{ℕ, pos, ◌==◌, List, [], ◌∷◌, ◌++◌,
 use Rattle.shortcode_atts.specs.Attributes.{Attributes, value_of}
 use Rattle.hook_changes.specs.declared.reply.Call.{Call}
 use Rattle.hook_changes.specs.declared.reply.Reply.{Reply}
-use Rattle.hook_changes.specs.declared.reply.Then.{Then}
-use Rattle.hook_changes.specs.declared.reply.Then.TheVariants as next
+use Rattle.hook_changes.specs.Replies.{answers_text, asks}
 use Rattle.hook_changes.specs.declared.reply.Answer.{Answer}
 use Rattle.hook_changes.specs.declared.reply.Answer.TheVariants as answer
 use Rattle.hook_changes.specs.declared.reply.Ask.TheVariants.{Shortcodes}
@@ -23,10 +22,6 @@ load = AddTag (codes "notice") 1 ∷ Add (codes "the_title") (pos 10) 2 2 ∷ []
 
 abbrev pub notices : Shape
 notices = record { name = codes "notices"; load = load; callbacks = 1 ∷ 2 ∷ [] }
-
--- a reply that changes nothing and prints nothing
-abbrev pub replies : Then → Reply
-replies next = record { changes = []; echo = []; next = next }
 
 -- the attributes of [notice], and what each is if it isn't given
 abbrev pub defaults : List (Text × Text)
@@ -47,10 +42,10 @@ notice_html atts content =
     content
 
 -- number 1 asks for the shortcodes in its content, and draws the box round the answer
-abbrev pub notice : Attributes → Text → List Answer → Then
-notice atts content [] = next.Ask (Shortcodes content)
-notice atts content (answer.Text replaced ∷ more) = next.Answer (notice_html atts replaced)
-notice atts content (other ∷ more) = next.Answer []
+abbrev pub notice : Attributes → Text → List Answer → Reply
+notice atts content [] = asks (Shortcodes content)
+notice atts content (answer.Text replaced ∷ more) = answers_text (notice_html atts replaced)
+notice atts content (other ∷ more) = answers_text []
 
 -- number 2 puts the ID before the title
 abbrev pub numbered : List Text → Text
@@ -60,6 +55,6 @@ numbered (title ∷ id ∷ more) = id ++ (codes ". " ++ title)
 
 -- what the callback with that number replies
 unfoldable pub says : ℕ → Call → Reply
-says number call = replies
-    (if number == 1 then notice call.atts call.content call.answers
-    else next.Answer (numbered call.args))
+says number call =
+    if number == 1 then notice call.atts call.content call.answers
+    else answers_text (numbered call.args)

@@ -9,7 +9,7 @@ ghost use Rattle.notices.specs.Notices.{load, notices, notice, notice_html, defa
 ghost use Rattle.notices.specs.Numbers.{number_of};
 
 use callback_store::{Plugin, Stated};
-use hook_changes::{Answer, Ask, Atts, Call, CallbackId, Change, Listed, Reply, Text, Then};
+use hook_changes::{Answer, Ask, Atts, Call, CallbackId, Change, Listed, Reply, Text};
 use page_escapes::escape_html;
 use std::alloc::{AllocError, Global};
 
@@ -39,15 +39,13 @@ impl Stated for Callback {
 
     #[tactic(auto, unfolding(crate::specs::Notices::says))]
     fn answer(&self, alloc: Global, call: &Call) -> Result<Reply, AllocError> {
-        let next = match self {
-            Callback::Notice => notice(alloc, call)?,
-            Callback::NumberedTitle => Then::Answer(numbered(alloc, call.args.as_slice())?),
-        };
-        Ok(Reply {
-            changes: Listed::empty(alloc),
-            echo: Text::empty(alloc),
-            next,
-        })
+        match self {
+            Callback::Notice => notice(alloc, call),
+            Callback::NumberedTitle => {
+                let title = numbered(alloc, call.args.as_slice())?;
+                Ok(Reply::answer(alloc, title))
+            }
+        }
     }
 }
 
@@ -88,18 +86,19 @@ fn load(alloc: Global) -> Result<Listed<Change>, AllocError>
 }
 
 /// A box round the content, in which the shortcodes are replaced first.
-fn notice(alloc: Global, call: &Call) -> Result<Then, AllocError>
-    ensures { IfOk result (λ next. next ≡ notice call.now.atts call.now.content call.now.answers) }
+fn notice(alloc: Global, call: &Call) -> Result<Reply, AllocError>
+    ensures { IfOk result (λ reply. reply ≡ notice call.now.atts call.now.content call.now.answers) }
 {
     match call.answers.as_slice() {
-        [] => Ok(Then::Ask(Ask::Shortcodes {
-            text: call.content.clone()?,
-        })),
+        [] => {
+            let text = call.content.clone()?;
+            Ok(Reply::ask(alloc, Ask::Shortcodes { text }))
+        }
         [Answer::Text(replaced), ..] => {
             let html = notice_html(alloc, &call.atts, replaced.as_str())?;
-            Ok(Then::Answer(html))
+            Ok(Reply::answer(alloc, html))
         }
-        _ => Ok(Then::Answer(Text::empty(alloc))),
+        _ => Ok(Reply::answer(alloc, Text::empty(alloc))),
     }
 }
 
