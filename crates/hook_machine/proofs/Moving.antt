@@ -137,10 +137,10 @@ module _ (engine : Engine) where
   shortcodes_moves w inside k call text fs fs' d e f r s gs m =
       moves_onto engine (pending_left engine w k call (Next (next.Ask (Shortcodes text)))) (shortcodes_pass (invoke engine) inside text) (frame.Invocation (record { callback = k; call = call; pending = ForText })) fs fs' (rw e (ask_shortcodes engine w k call text d)) f r s gs m
 
-  pub core_moves : (w inside : World) (k : ℕ) (call : Call) (text : Text) (fs fs' : List Frame) → w.depth < 32 → inside ≡ record w { depth = w.depth + 1 } → text ≡ first_or_empty call.args → fs' ≡ frame.Invocation (record { callback = k; call = call; pending = ForCore }) ∷ fs
+  pub core_moves : (w inside : World) (k : ℕ) (call kept : Call) (text : Text) (fs fs' : List Frame) → w.depth < 32 → inside ≡ record w { depth = w.depth + 1 } → text ≡ first_or_empty call.args → fs' ≡ frame.Invocation (record { callback = k; call = kept; pending = ForCore }) ∷ fs
       → (r : Result Move RunFault) (s : World) (gs : List Frame) → Moves engine (then_rest engine (shortcodes_pass (invoke engine) inside text) fs') r s gs → Moves engine (then_rest engine (pending_left engine w k call Core) fs) r s gs
-  core_moves w inside k call text fs fs' d e t f r s gs m =
-      moves_onto engine (pending_left engine w k call Core) (shortcodes_pass (invoke engine) inside text) (frame.Invocation (record { callback = k; call = call; pending = ForCore })) fs fs' (rw (e, t) (core_goes engine w k call d)) f r s gs m
+  core_moves w inside k call kept text fs fs' d e t f r s gs m =
+      moves_onto engine (pending_left engine w k call Core) (shortcodes_pass (invoke engine) inside text) (frame.Invocation (record { callback = k; call = kept; pending = ForCore })) fs fs' (rw (e, t) (core_goes engine w k call kept d)) f r s gs m
 
   pub plain_moves : (w : World) (k : ℕ) (call : Call) (ask : Ask) (reply : Answer) (fs : List Frame) → answered (invoke engine) w ask ≡ Done w reply
       → (r : Result Move RunFault) (s : World) (gs : List Frame) → Moves engine (then_rest engine (invoke engine w k (with_answer call reply)) fs) r s gs → Moves engine (then_rest engine (pending_left engine w k call (Next (next.Ask ask))) fs) r s gs
@@ -256,6 +256,11 @@ module _ (engine : Engine) where
       → Moves engine (then_rest engine (shortcodes_pass (invoke engine) w text) fs) r s gs
   text_begin w text shown so_far ps cut fs t e c n r s gs m =
       moves_same engine (shortcodes_pass (invoke engine) w text) (text_left engine w (record { cut = cut; so_far = so_far; hand = None })) fs (rw (c, n, e, t) (text_begins engine w text)) r s gs m
+
+  -- a text without shortcodes
+  pub text_back : (w : World) (text shown : Text) (ps : List Piece) (fs : List Frame) → shown ≡ text → ps ≡ pieces_of (live (map (λ p. p.0) w.tags) shown) shown → pieces_pass (invoke engine) text w [] ps ≡ Done w text
+      → Moves engine (then_rest engine (shortcodes_pass (invoke engine) w text) fs) (Ok (Handed text)) w fs
+  text_back w text shown ps fs t e d = handed_moves (shortcodes_pass (invoke engine) w text) w text fs (text_begins engine w text ∙ (rw (e, t) at d))
 
   -- ---- the innermost frame
 

@@ -268,12 +268,12 @@ module _ (engine : Engine) where
   unfolding answered
   shortcodes_deep w k call text h = ask_refused w k call (Shortcodes text) TooDeep (deeper_beyond w _ h)
 
-  -- core's callback
-  pub core_goes : (w : World) (k : ℕ) (call : Call) → w.depth < 32
+  -- core's callback: what its call keeps is not read
+  pub core_goes : (w : World) (k : ℕ) (call kept : Call) → w.depth < 32
       → pending_left engine w k call Core
-      ≡ and_then (shortcodes_pass (invoke engine) (record w { depth = w.depth + 1 }) (first_or_empty call.args)) (λ later x. handed engine later (frame.Invocation (record { callback = k; call = call; pending = ForCore })) x)
+      ≡ and_then (shortcodes_pass (invoke engine) (record w { depth = w.depth + 1 }) (first_or_empty call.args)) (λ later x. handed engine later (frame.Invocation (record { callback = k; call = kept; pending = ForCore })) x)
   unfolding pending_left handed pending_handed
-  core_goes w k call h = deeper_within w (λ inside. shortcodes_pass (invoke engine) inside (first_or_empty call.args)) h
+  core_goes w k call kept h = deeper_within w (λ inside. shortcodes_pass (invoke engine) inside (first_or_empty call.args)) h
 
   pub core_deep : (w : World) (k : ℕ) (call : Call) → 32 ≤ w.depth → pending_left engine w k call Core ≡ Refused TooDeep
   unfolding pending_left

@@ -10,7 +10,7 @@ ghost use Rattle.hook_machine.specs.Moves.{Does, Shrinks, Invokes};
 
 use crate::fault::RunFault;
 use crate::frame::{Frame, Invoked, Move, Pending, Stack};
-use crate::machine::{add_answer, first_argument};
+use crate::machine::{add_answer, take_first_argument};
 use crate::replacing::begin_text;
 use crate::state::State;
 use crate::turning::{begin_action, begin_filter, invoke_turn};
@@ -116,7 +116,7 @@ fn ask_shortcodes<S: Stated>(
     begin_text(plugins, state, stack, text, cache)
 }
 
-/// Core's callback replaces the shortcodes of its first argument.
+/// Core's callback replaces the shortcodes of its first argument. That moves out of the call, which is not read again.
 fn core_turn<S: Stated>(
     plugins: &Plugins<S>,
     state: &mut State,
@@ -129,7 +129,8 @@ fn core_turn<S: Stated>(
         (λ engine. pending_left engine state.old callback call Core) stack.old result state.new stack.new }
     ensures grows { Shrinks 1 result stack.old stack.new }
 {
-    let text = first_argument(state.alloc(), &call)?;
+    let mut call = call;
+    let text = take_first_argument(state.alloc(), &mut call);
     state.deepen()?;
     wait(stack, callback, call, Pending::ForCore)?;
     begin_text(plugins, state, stack, text, cache)
@@ -267,6 +268,7 @@ pub fn waiting_turn<S: Stated>(
         }
         Pending::ForCore => {
             state.rise();
+            state.keep_call(call);
             Ok(Move::Handed(text))
         }
         Pending::Next(next) => {

@@ -26,14 +26,18 @@ pub fn reply_of<S: Stated>(
     }
 }
 
-/// A copy of the first argument, or empty text where there is none.
-pub fn first_argument(alloc: Global, call: &Call) -> Result<Text, AllocError>
-    ensures { IfOk result (λ text. text ≡ first_or_empty call.now.args) }
+/// Takes the first argument out of a call, or empty text where there is none.
+pub fn take_first_argument(alloc: Global, call: &mut Call) -> Text
+    ensures { result ≡ first_or_empty call.old.args }
 {
-    match call.args.as_slice().first() {
-        Some(text) => text.clone(),
-        None => Ok(Text::empty(alloc)),
+    let args = std::mem::replace(&mut call.args, Listed::empty(alloc));
+    let mut args = args.into_vec();
+    if args.is_empty() {
+        return Text::empty(alloc);
     }
+    let first = args.swap_remove(0);
+    call.args = Listed::new(args);
+    first
 }
 
 /// Hands a call one more answer.

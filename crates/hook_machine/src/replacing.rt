@@ -1,5 +1,7 @@
 // Shortcode passes.
-ghost use Rattle.std.specs.Prelude.{◌≡◌, ◌++◌, IfOk, OnOk};
+ghost use Rattle.std.specs.Prelude.{◌≡◌, ◌++◌, [], IsTrue, IfOk, OnOk};
+ghost use Rattle.hook_machine.specs.World.{World};
+ghost use Rattle.hook_machine.specs.Trace.{Done};
 ghost use Rattle.hook_machine.specs.Meaning.{Invocation, invoke, pieces_pass, shortcodes_pass};
 ghost use Rattle.hook_machine.specs.Ends.{engine_over};
 ghost use Rattle.hook_machine.specs.Rest.{text_left, in_place};
@@ -15,7 +17,7 @@ use crate::turning::invoke_turn;
 use callback_store::{Plugins, Stated};
 use content_cache::PieceCache;
 use hook_changes::{Call, CallbackId, Text};
-use shortcode_scan::part;
+use shortcode_scan::{Piece, part};
 use std::alloc::AllocError;
 
 /// The extra brackets of a match in hand.
@@ -138,7 +140,21 @@ pub fn with_text(pass: TextPass, text: &Text) -> Result<TextPass, AllocError>
     Ok(TextPass { cut, so_far, hand })
 }
 
-/// Begins a shortcode pass: its names and pieces are fixed here.
+/// Whether a text is one piece, which stands as it is.
+fn is_one_stretch(text: &str, pieces: &[Piece]) -> bool
+    ensures { IsTrue result → (invocation : Invocation) (world : World)
+        → pieces_pass invocation text.now world [] pieces.now ≡ Done world text.now }
+{
+    if pieces.len() != 1 {
+        return false;
+    }
+    match pieces[0] {
+        Piece::Plain(span) => span.start == 0 && span.end == text.len(),
+        Piece::Match { .. } => false,
+    }
+}
+
+/// Begins a shortcode pass: its names and pieces are fixed here. A text without shortcodes is handed on and not copied.
 pub fn begin_text<S: Stated>(
     plugins: &Plugins<S>,
     state: &mut State,
@@ -151,6 +167,9 @@ pub fn begin_text<S: Stated>(
     ensures shrinks { Shrinks 0 result stack.old stack.new }
 {
     let pieces = state.pieces(text.as_str(), cache)?;
+    if is_one_stretch(text.as_str(), pieces.as_slice()) {
+        return Ok(Move::Handed(text));
+    }
     let pass = TextPass {
         cut: Cut::new(text, pieces),
         so_far: Text::empty(state.alloc()),

@@ -1,3 +1,4 @@
+use Rattle.std.proofs.Common.{◌∙◌}
 use Rattle.hook_machine.specs.Ends.{engine_over}
 use Rattle.hook_machine.proofs.Moving.{text_handed, nothing_handed, core_handed, next_handed, begun_handed}
 use Rattle.hook_machine.proofs.asking.waiting_turn.Goals as goal
@@ -12,7 +13,7 @@ returns-in-ForNothing-clause-moves g c =
 
 pub returns-in-ForCore-clause-moves : goal.returns-in-ForCore-clause-moves
 returns-in-ForCore-clause-moves g c =
-    rw c.in-ForCore.is (core_handed (engine_over g.S.Stated.says g.S.Stated.number c.args.plugins.now) c.args.state.now c.rise-in-ForCore.new.self c.args.invoked.callback c.args.invoked.call c.args.text c.args.stack.now c.rise-in-ForCore.ensures)
+    rw c.in-ForCore.is (core_handed (engine_over g.S.Stated.says g.S.Stated.number c.args.plugins.now) c.args.state.now c.keep_call.new.self c.args.invoked.callback c.args.invoked.call c.args.text c.args.stack.now (c.keep_call.ensures ∙ c.rise-in-ForCore.ensures))
 
 pub returns-in-Next-clause-moves : goal.returns-in-Next-clause-moves
 returns-in-Next-clause-moves g c =
