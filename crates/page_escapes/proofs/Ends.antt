@@ -1,6 +1,9 @@
 -- What replacing each `]]>` makes of a text.
-use Rattle.std.proofs.Common.{◌≡◌, ◌==◌, ◌&&◌, ◌<◌, ℕ, zero, suc, List, [], ◌∷◌, ◌++◌, length, take, drop, codes, if◌then◌else◌, refl, sym, ap, ◌∙◌, ⊎_elim, append-nil, take-append-drop, length-take, subst, ◌≤◌, arith, Bor}
+use Rattle.std.proofs.Common.{◌≡◌, ◌==◌, ◌&&◌, ◌<◌, ℕ, get_or, zero, suc, List, [], ◌∷◌, ◌++◌, length, take, drop, codes, if◌then◌else◌, refl, sym, ap, ◌∙◌, ⊎_elim, append-nil, take-append-drop, length-take, length-drop, get_or-drop, subst, ◌≤◌, arith, Bor, Option, Some, None, is_some, true, false}
+use Rattle.std.proofs.lemmas.Bool.{false≢true}
+use Rattle.std.proofs.lemmas.List.{get_or_append_left}
 use Rattle.std.proofs.lemmas.Bool.Decides.{nat_tests}
+use Rattle.memchr.specs.Find.{OccursAt, FindsNeedle}
 use Rattle.std.specs.Str.Pattern.{FindsText, LacksTextAt, HasTextAt}
 use Rattle.std.specs.Str.Replace.{ReplacesMatches}
 use Rattle.page_escapes.specs.Escapes.{ends_escaped, ends_escaped_behind}
@@ -77,3 +80,16 @@ replaced (suc n) p s out is (a, b, q, rest, found, keeps, on, made) =
     let has = subst (λ e. HasTextAt e s a b) is found.1 in
     let more = ⊎_elim (λ next. replaced n q (drop b s) rest (keeps ∙ is) next.1) (λ empty. absurd (omega (arith, empty.0, has.ends))) on in
     made ∙ ap (λ l. take a s ++ (escape ++ l)) more ∙ sym (up_to_end s a b lacks has)
+
+-- an end stands where a text goes on with one
+stands : (s rest : List ℕ) (i : ℕ) → drop i s ≡ end ++ rest → OccursAt s end i
+stands s rest i same =
+    record {
+      fits = omega (arith, length-drop i s, ap length same);
+      reads = λ j inside. sym (get_or-drop i s j 0) ∙ ap (λ l. get_or l j 0) same ∙ get_or_append_left end rest 0 j inside;
+    }
+
+-- a text in which no end is found stays
+pub lacks_end : (s : List ℕ) (found : Option ℕ) → FindsNeedle s end 0 found → is_some found ≡ false → ends_escaped s ≡ s
+lacks_end s None nowhere none = without s (λ i inside rest same. nowhere i (omega arith) (omega (arith, inside)) (stands s rest i same))
+lacks_end s (Some k) first none = absurd (false≢true (sym none))

@@ -1,18 +1,30 @@
 //! Text made safe for the place in a page where it stands.
 #![tactic(auto)]
 
-ghost use Rattle.std.specs.Prelude.{◌≡◌, ◌++◌, IfOk, OnOk, codes, string_bytes};
+ghost use Rattle.std.specs.Prelude.{◌≡◌, ◌++◌, IsTrue, IfOk, OnOk, codes, string_bytes};
 ghost use Rattle.std.specs.Char.{encode_utf8};
 ghost use Rattle.page_escapes.specs.Escapes.{ends_escaped, html_escaped};
 
 use hook_changes::Text;
+use memchr::{memchr2, memchr3, memmem};
 use std::alloc::{AllocError, Global};
 
-/// A text with each `]]>` as `]]&gt;` (Code Reference, the_content).
-pub fn escape_ends(alloc: Global, text: &str) -> Result<Text, AllocError>
-    ensures { IfOk result (λ escaped. escaped ≡ ends_escaped text.now) }
+/// A text with each `]]>` as `]]&gt;` (Code Reference, the_content). A text without one is given back and not copied.
+pub fn escape_ends(alloc: Global, text: Text) -> Result<Text, AllocError>
+    ensures { IfOk result (λ escaped. escaped ≡ ends_escaped text) }
 {
-    Ok(Text::new(text.replace(alloc, "]]>", "]]&gt;")?))
+    if has_no_end(text.as_str()) {
+        return Ok(text);
+    }
+    let escaped = text.as_str().replace(alloc, "]]>", "]]&gt;")?;
+    Ok(Text::new(escaped))
+}
+
+/// Whether no `]]>` is in a text.
+fn has_no_end(text: &str) -> bool
+    ensures { IsTrue result → ends_escaped text.now ≡ text.now }
+{
+    memmem::find(text.as_bytes(), b"]]>").is_none()
 }
 
 /// A text with `&`, `<`, `>`, `"` and `'` as entities. An entity that stands there is escaped too (Code Reference,
@@ -20,11 +32,32 @@ pub fn escape_ends(alloc: Global, text: &str) -> Result<Text, AllocError>
 pub fn escape_html(alloc: Global, text: &str) -> Result<Text, AllocError>
     ensures { IfOk result (λ escaped. escaped ≡ html_escaped text.now) }
 {
-    let mut escaped = String::new(alloc);
+    if has_no_mark(text) {
+        return Text::copied(alloc, text);
+    }
+    let mut escaped = String::with_capacity(alloc, text.len())?;
     for character in text.chars() {
         push_escaped(&mut escaped, character)?;
     }
     Ok(Text::new(escaped))
+}
+
+/// `escape_html` for a text that is owned: one without any of these characters is given back and not copied.
+pub fn into_escaped_html(alloc: Global, text: Text) -> Result<Text, AllocError>
+    ensures { IfOk result (λ escaped. escaped ≡ html_escaped text) }
+{
+    if has_no_mark(text.as_str()) {
+        return Ok(text);
+    }
+    escape_html(alloc, text.as_str())
+}
+
+/// Whether no character of a text has an entity.
+fn has_no_mark(text: &str) -> bool
+    ensures { IsTrue result → html_escaped text.now ≡ text.now }
+{
+    let bytes = text.as_bytes();
+    memchr3(b'&', b'<', b'>', bytes).is_none() && memchr2(b'"', b'\'', bytes).is_none()
 }
 
 /// Puts a character behind a text, as its entity where it has one.

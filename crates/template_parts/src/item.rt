@@ -11,7 +11,7 @@ use callback_store::Stated;
 use hook_changes::{Listed, Text};
 use hook_machine::{Job, Run, RunFault};
 use itoa::Buffer;
-use page_escapes::{escape_ends, escape_html};
+use page_escapes::{escape_ends, escape_html, into_escaped_html};
 use site_records::{Post, PostKind};
 use std::alloc::{AllocError, Global};
 use template_trees::{Item, PostTag, Tag};
@@ -273,11 +273,11 @@ fn print_shown<S: Stated>(
     match shown {
         Shown::Plain => run.print(text.as_str()),
         Shown::HtmlEscaped => {
-            let escaped = escape_html(alloc, text.as_str())?;
+            let escaped = into_escaped_html(alloc, text)?;
             run.print(escaped.as_str())
         }
         Shown::EndsEscaped => {
-            let escaped = escape_ends(alloc, text.as_str())?;
+            let escaped = escape_ends(alloc, text)?;
             run.print(escaped.as_str())
         }
     }
