@@ -21,6 +21,7 @@ ghost use Rattle.std.specs.List.{list_all};
 ghost use Rattle.std.specs.Option.{option_to_list};
 ghost use Rattle.post_tables.specs.Page.{is_kind, is_published, page_of};
 ghost use Rattle.site_records.specs.Dates.{is_post_date};
+ghost use Rattle.permalink_query.specs.Faults.{IsFindFault};
 ghost use Rattle.permalink_query.specs.Found.{
   option_value,
   posts_per_page,
@@ -52,8 +53,8 @@ const DEFAULT_SIZE: u32 = 10;
 /// query names, newest first (class WP_Query). A part has as many posts as the first option named
 /// `posts_per_page` says, where that is a number from 1 to 100, and else 10. Nothing is found where
 /// there is no such post or page, and where a part is empty, but for the first part of the front.
-/// A month that the calendar doesn't have finds nothing. It is refused on allocation failure alone, and
-/// not at all where there is nothing to look for.
+/// A month that the calendar doesn't have finds nothing. It is refused on allocation failure, or by the
+/// limit on the steps of a statement, and not at all where there is nothing to look for.
 pub fn find(
     alloc: Global,
     tables: &mut Tables,
@@ -62,7 +63,7 @@ pub fn find(
 ) -> Result<Found, FindFault>
     ensures ok { IfOk result (λ f. f ≡ found tables.old.posts options.now query.now) }
     ensures same { tables.new ≡ tables.old }
-    ensures err { IfErr result (λ e. e ≡ FindFault.OutOfMemory) }
+    ensures err { IfErr result (IsFindFault tables.old.step_limit) }
     ensures void { is_void query.now ≡ true → result ≡ Ok nothing }
 {
     match *query {
@@ -97,7 +98,7 @@ fn find_month(
     ensures ok { IfOk result (λ f. f
         ≡ found tables.old.posts options.now (Query.Month year month part)) }
     ensures same { tables.new ≡ tables.old }
-    ensures err { IfErr result (λ e. e ≡ FindFault.OutOfMemory) }
+    ensures err { IfErr result (IsFindFault tables.old.step_limit) }
     ensures void { is_month year month ≡ false → result ≡ Ok nothing }
 {
     let Some(posts) = month_part(alloc, tables, posts_per_page(options), year, month, part)? else {
@@ -121,7 +122,7 @@ fn month_part(
     ensures posts { IfOk result (λ found. IfSome found (λ posts. posts
         ≡ part_of_posts size part (posts_of_month year month (published_posts tables.old.posts)))) }
     ensures same { tables.new ≡ tables.old }
-    ensures err { IfErr result (λ e. e ≡ FindFault.OutOfMemory) }
+    ensures err { IfErr result (IsFindFault tables.old.step_limit) }
 {
     let Some((from, to)) = month_span(alloc, year, month)? else {
         return Ok(None);
@@ -136,7 +137,7 @@ fn front_part(tables: &mut Tables, size: u32, part: u32) -> Result<Listed<Post>,
     ensures ok { IfOk result (λ posts. posts
         ≡ part_of_posts size part (published_posts tables.old.posts)) }
     ensures same { tables.new ≡ tables.old }
-    ensures err { IfErr result (λ e. e ≡ FindFault.OutOfMemory) }
+    ensures err { IfErr result (IsFindFault tables.old.step_limit) }
 {
     let (from, to) = all_dates();
     part_of(tables, &from, &to, size, part)
@@ -170,7 +171,7 @@ fn part_of(
         ≡ page_of PostKind.Post from.now to.now size ((part - 1) * size) tables.old.posts) }
     ensures dated { list_all (λ p. is_post_date p.date) tables.old.posts ≡ true }
     ensures same { tables.new ≡ tables.old }
-    ensures err { IfErr result (λ e. e ≡ FindFault.OutOfMemory) }
+    ensures err { IfErr result (IsFindFault tables.old.step_limit) }
 {
     let offset = u64::from(part.saturating_sub(1)) * u64::from(size);
     Ok(tables.posts_of(PostKind::Post, from, to, size, offset)?)
@@ -185,7 +186,7 @@ fn published(
 ) -> Result<Listed<Post>, FindFault>
     ensures ok { IfOk result (λ posts. posts ≡ published_with kind id tables.old.posts) }
     ensures same { tables.new ≡ tables.old }
-    ensures err { IfErr result (λ e. e ≡ FindFault.OutOfMemory) }
+    ensures err { IfErr result (IsFindFault tables.old.step_limit) }
 {
     let found = tables.post(id)?;
     Ok(if_published(alloc, kind, found)?)

@@ -184,7 +184,6 @@ index_made old new limit (Ok count) bare h =
           };
         };
         idle = wrote old new bare.idle _ _ _ _ _ w;
-        unlimited = limit ∙ bare.unlimited;
       };
       empty = λ i. record {
         posts = map post_in (none.0 i);
@@ -192,5 +191,6 @@ index_made old new limit (Ok count) bare h =
         templates = named_in text_in (none.1.1.1.0 i);
         active = named_in nothing_in (none.1.1.1.1.0 i);
         largest = top_in (none.1.0 i);
+        step_limit = (limit ∙ bare.unlimited) i;
       };
     }

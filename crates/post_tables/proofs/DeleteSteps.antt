@@ -78,7 +78,7 @@ deletes_post old new holds id count h =
     let posts : t.now.trees 0 ≡ filter (λ r. not (passes r)) (db 0) = ap (λ (x : Trees). x 0) trees ∙ applied.rows ∙ left in
     let top : t.now.trees 1 ≡ db 1 = ap (λ (x : Trees). x 1) trees ∙ applied.tables.1.0 (λ e. omega arith) in
     let tested : (r : Row) → Has (db 0) r → passes r ≡ ((post_in r).id == id) = λ r there. ap passes (ok.each r there) ∙ number_compares (post_in r).id id in
-    let it = posts_now db t.now.trees holds.sound
+    let it = posts_now old.step_limit db t.now.trees holds.sound
     (ap (λ (x : Trees). x 2) trees ∙ applied.tables.1.1.0 (λ e. omega arith), ap (λ (x : Trees). x 4) trees ∙ applied.tables.1.1.1.0 (λ e. omega arith), ap (λ (x : Trees). x 6) trees ∙ applied.tables.1.1.1.1.0 (λ e. omega arith))
     (subst ArePosts (sym posts) (some_posts _ (db 0) ok)) (subst IsCounter (sym top) holds.sound.counter) _ (ap (map post_in) posts ∙ mapped_filter id passes (db 0) tested) _ holds.sound.bounded (ap top_in top) (some_given (λ q. not (q.id == id)) (map post_in (db 0)) (top_in (db 1)) holds.sound.given) in
     record {

@@ -93,7 +93,7 @@ module _ (old new : Held MemStore) (holds : HoldsSite (state over_memory old).no
       let texts : AllByRecursion IsText (Text name ∷ Text value ∷ []) = ((name, refl, named_utf8), ((value, refl, utf8), tt)) in
       let it = replaced options put_option_text put_option_is old new name value count holds h in
       let db = trees_of old in
-      let now = options_now db (trees_of new) holds.sound it.others (still_named options (db 2) (trees_of new 2) name value texts holds.sound.options it.made) _ (named_set options (db 2) (trees_of new 2) name value texts holds.sound.options it.made) in
+      let now = options_now old.step_limit db (trees_of new) holds.sound it.others (still_named options (db 2) (trees_of new 2) name value texts holds.sound.options it.made) _ (named_set options (db 2) (trees_of new 2) name value texts holds.sound.options it.made) in
       record { holds = record { schema_is = it.schema_is; sound = now.sound }; rows = now.are; idle = it.idle }
 
   pub puts_template : (value : List ℕ) → IsUtf8 value → Executes put_template_text (Text name ∷ Text value ∷ []) (state over_memory old) (state over_memory new) (Ok count) → IsDone (λ s. record s { templates = insert s.templates name value }) old new
@@ -101,7 +101,7 @@ module _ (old new : Held MemStore) (holds : HoldsSite (state over_memory old).no
       let texts : AllByRecursion IsText (Text name ∷ Text value ∷ []) = ((name, refl, named_utf8), ((value, refl, utf8), tt)) in
       let it = replaced templates put_template_text put_template_is old new name value count holds h in
       let db = trees_of old in
-      let now = templates_now db (trees_of new) holds.sound it.others (still_named templates (db 4) (trees_of new 4) name value texts holds.sound.templates it.made) _ (named_set templates (db 4) (trees_of new 4) name value texts holds.sound.templates it.made) in
+      let now = templates_now old.step_limit db (trees_of new) holds.sound it.others (still_named templates (db 4) (trees_of new 4) name value texts holds.sound.templates it.made) _ (named_set templates (db 4) (trees_of new 4) name value texts holds.sound.templates it.made) in
       record { holds = record { schema_is = it.schema_is; sound = now.sound }; rows = now.are; idle = it.idle }
 
   pub puts_active : Executes put_active_text (Text name ∷ []) (state over_memory old) (state over_memory new) (Ok count) → IsDone (λ s. record s { active = insert s.active name tt }) old new
@@ -109,7 +109,7 @@ module _ (old new : Held MemStore) (holds : HoldsSite (state over_memory old).no
       let texts : AllByRecursion IsText (Text name ∷ []) = ((name, refl, named_utf8), tt) in
       let it = replaced actives put_active_text put_active_is old new name tt count holds h in
       let db = trees_of old in
-      let now = active_now db (trees_of new) holds.sound it.others (still_named actives (db 6) (trees_of new 6) name tt texts holds.sound.active it.made) _ (named_set actives (db 6) (trees_of new 6) name tt texts holds.sound.active it.made) in
+      let now = active_now old.step_limit db (trees_of new) holds.sound it.others (still_named actives (db 6) (trees_of new 6) name tt texts holds.sound.active it.made) _ (named_set actives (db 6) (trees_of new 6) name tt texts holds.sound.active it.made) in
       record { holds = record { schema_is = it.schema_is; sound = now.sound }; rows = now.are; idle = it.idle }
 
   pub deletes_template : Executes delete_template_text (Text name ∷ []) (state over_memory old) (state over_memory new) (Ok count) → IsDone (λ s. record s { templates = remove s.templates name }) old new
@@ -118,7 +118,7 @@ module _ (old new : Held MemStore) (holds : HoldsSite (state over_memory old).no
       let ok = holds.sound.templates in
       let it = deleted templates delete_template_text delete_template_is old new name count holds ok h in
       let named = subst (AreNamed text_rest text_in) (sym it.is) (others_named (db 4) ok name it.test it.tests) in
-      let now = templates_now db (trees_of new) holds.sound it.others named _ (ap (named_in text_in) it.is ∙ named_removed (db 4) ok name it.test it.tests) in
+      let now = templates_now old.step_limit db (trees_of new) holds.sound it.others named _ (ap (named_in text_in) it.is ∙ named_removed (db 4) ok name it.test it.tests) in
       record { holds = record { schema_is = it.schema_is; sound = now.sound }; rows = now.are; idle = it.idle }
 
   pub deletes_active : Executes delete_active_text (Text name ∷ []) (state over_memory old) (state over_memory new) (Ok count) → IsDone (λ s. record s { active = remove s.active name }) old new
@@ -127,7 +127,7 @@ module _ (old new : Held MemStore) (holds : HoldsSite (state over_memory old).no
       let ok = holds.sound.active in
       let it = deleted actives delete_active_text delete_active_is old new name count holds ok h in
       let named = subst (AreNamed no_rest nothing_in) (sym it.is) (others_named (db 6) ok name it.test it.tests) in
-      let now = active_now db (trees_of new) holds.sound it.others named _ (ap (named_in nothing_in) it.is ∙ named_removed (db 6) ok name it.test it.tests) in
+      let now = active_now old.step_limit db (trees_of new) holds.sound it.others named _ (ap (named_in nothing_in) it.is ∙ named_removed (db 6) ok name it.test it.tests) in
       record { holds = record { schema_is = it.schema_is; sound = now.sound }; rows = now.are; idle = it.idle }
 
 -- ---- the queries

@@ -44,7 +44,7 @@ puts_post old new holds count p readable h =
     let before = holds.sound.bounded in
     let own = readable.id in
     let low : max (top_in (db 1)) p.id < 2 ^ 32 = omega arith in
-    let it = posts_now db t.now.trees holds.sound
+    let it = posts_now old.step_limit db t.now.trees holds.sound
     (ap (λ (x : Trees). x 2) trees ∙ made.others.0, ap (λ (x : Trees). x 4) trees ∙ made.others.1, ap (λ (x : Trees). x 6) trees ∙ made.others.2)
     (subst ArePosts (sym posts) (still_posts p readable (db 0) holds.sound.posts)) (subst (λ (x : Trees). IsCounter (x 1)) (sym trees) made.counter) _ shown _ low top (more_given p (map post_in (db 0)) (top_in (db 1)) holds.sound.given) in
     record {

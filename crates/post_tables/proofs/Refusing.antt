@@ -1,6 +1,6 @@
--- Why a query over the tables is refused: only where an allocation failed.
+-- Why a query over the tables is refused: an allocation failed, or it would have gone past the limit on its steps.
 use Rattle.std.proofs.Common.{◌≡◌, ◌≢◌, inl, inr, ℕ, List, [], true, false, Ok, Err, Result, IfErr, length, append-nil, sym, ap, subst, subst₂, ◌∙◌, arith, true≢false}
-use Rattle.std.specs.Prelude.{nat_le, IsSome}
+use Rattle.std.specs.Prelude.{nat_le}
 use Rattle.std.proofs.lemmas.Bool.{leb-true}
 use Rattle.sqlite.specs.Order.{Row}
 use Rattle.sqlite.specs.Query.{Query}
@@ -25,7 +25,8 @@ use Rattle.sqlite.proofs.Callers.{IsPlain, command_of}
 use Rattle.sqlite.specs.Reading.{IsReadError}
 use Rattle.sqlite_value.specs.declared.value.Value.{Value}
 use Rattle.post_tables.specs.Schema.{site_schema}
-use Rattle.post_tables.specs.Stored.{IsUnlimited, IsSite}
+use Rattle.post_tables.specs.Reading.{IsStopped}
+use Rattle.post_tables.specs.Stored.{IsSite}
 
 abbrev pub no_memory : Error
 no_memory = SqliteFailure code.OutOfMemory
@@ -59,7 +60,7 @@ module _ (old new : Held MemStore) where
       by Broken is cause = absurd (true≢false cause)
       by Unstorable is cause = absurd cause
 
-  module _ (sql : List ℕ) (given : Row) (safe : IsSafe sql given) (has : old.schema ≡ site_schema) (unlimited : IsUnlimited old) where
+  module _ (sql : List ℕ) (given : Row) (safe : IsSafe sql given) (has : old.schema ≡ site_schema) where
     understood_is : understood old.schema sql ≡ understood site_schema sql
     understood_is = ap (λ s. understood s sql) has
 
@@ -79,15 +80,15 @@ module _ (old new : Held MemStore) where
     not_run e (inl refused) = absurd (a_statement e refused.0)
     not_run e (inr broke) = store_failed e broke
 
-    read : (e : Error) → RefusesToRead old.step_limit (Select (record { lets = []; body = safe.query }) safe.names) (record { schema = site_schema; trees = (state over_memory old).now.trees }) given e → e ≡ no_memory
+    read : (e : Error) → RefusesToRead old.step_limit (Select (record { lets = []; body = safe.query }) safe.names) (record { schema = site_schema; trees = (state over_memory old).now.trees }) given e → IsStopped old.step_limit e
     read e (inl mismatch) = absurd (true≢false (sym safe.typed ∙ mismatch.1))
     read e (inr (inl sum)) = absurd (safe.sums _ sum.1)
-    read e (inr (inr late)) = absurd (true≢false (sym (subst IsSome unlimited late.1)))
+    read e (inr (inr late)) = inr late
 
-    pub only_memory : (e : Error) → FailsToQuery sql given (state over_memory old) (state over_memory new) e → e ≡ no_memory
+    pub stopped : (e : Error) → FailsToQuery sql given (state over_memory old) (state over_memory new) e → IsStopped old.step_limit e
     unfolding FailsToQuery
-    only_memory e (inl none) = not_run e none
-    only_memory e (inr h) =
+    stopped e (inl none) = inl (not_run e none)
+    stopped e (inr h) =
         let known : Ok h.0 ≡ understood site_schema sql = sym h.1.is ∙ understood_is in
         let bare = subst IsPlain (sym known) safe.plain in
         let it = rw (bare.0, bare.1, append-nil given) at h.2 in
@@ -96,10 +97,10 @@ module _ (old new : Held MemStore) where
         read e (subst₂ (λ k d. RefusesToRead old.step_limit k d given e) (ap command_of known ∙ safe.is) same it.2)
 
 -- a result of a query
-pub read_memory : {A : Type 0} (old new : Held MemStore) (sql : List ℕ) (given : Row) → IsSafe sql given → IsSite old → (r : Result A Error)
-    → IfErr r (FailsToQuery sql given (state over_memory old) (state over_memory new)) → IfErr r (λ e. e ≡ no_memory)
-read_memory old new sql given safe is (Ok a) err = tt
-read_memory old new sql given safe is (Err e) err = only_memory old new sql given safe is.holds.schema_is is.unlimited e err
+pub read_stopped : {A : Type 0} (old new : Held MemStore) (sql : List ℕ) (given : Row) → IsSafe sql given → IsSite old → (r : Result A Error)
+    → IfErr r (FailsToQuery sql given (state over_memory old) (state over_memory new)) → IfErr r (IsStopped old.step_limit)
+read_stopped old new sql given safe is (Ok a) err = tt
+read_stopped old new sql given safe is (Err e) err = stopped old new sql given safe is.holds.schema_is e err
 
 -- ---- columns
 

@@ -195,7 +195,7 @@ edits_post old new holds id e good count h =
     let applied = one_step site_schema Enforced db edit.0 (edit_of db post_table (ids_of asked.0) Given 1 asked.0) refl edit.1 in
     let made = updated id e Enforced db edit.0 asked.0 good holds.sound.posts (asked.1.answer Null) edit.1 in
     let top : t.now.trees 1 ≡ db 1 = ap (λ (x : Trees). x 1) trees ∙ applied.tables.1.0 (λ e. omega arith) in
-    let it = posts_now db t.now.trees holds.sound
+    let it = posts_now old.step_limit db t.now.trees holds.sound
     (ap (λ (x : Trees). x 2) trees ∙ applied.tables.1.1.0 (λ e. omega arith), ap (λ (x : Trees). x 4) trees ∙ applied.tables.1.1.1.0 (λ e. omega arith), ap (λ (x : Trees). x 6) trees ∙ applied.tables.1.1.1.1.0 (λ e. omega arith))
     (subst (λ (x : Trees). ArePosts (x 0)) (sym trees) made.posts) (subst IsCounter (sym top) holds.sound.counter) _ (ap (λ (x : Trees). map post_in (x 0)) trees ∙ made.are) _ holds.sound.bounded (ap top_in top) (edited_given id e (map post_in (db 0)) (top_in (db 1)) holds.sound.given) in
     record {

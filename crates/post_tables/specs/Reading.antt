@@ -1,5 +1,5 @@
 -- What rows of an answer say.
-use Rattle.std.specs.Prelude.{⊤, ◌≡◌, ◌<◌, ◌^◌, true, length, ℕ, pos, List, [], ◌∷◌}
+use Rattle.std.specs.Prelude.{⊤, ◌≡◌, ◌⊎◌, ◌<◌, ◌^◌, true, length, ℕ, pos, List, [], ◌∷◌, Option, IsSome}
 use Rattle.sqlite_value.specs.declared.value.Value.{Value}
 use Rattle.sqlite_value.specs.declared.value.Value.TheVariants.{Int}
 use Rattle.sqlite_value.specs.Order.{Row, column, bytes}
@@ -36,6 +36,10 @@ name_from r = bytes (column r 0)
 -- an allocation failed
 abbrev pub IsNoMemory : Error → Type 0
 IsNoMemory e = e ≡ SqliteFailure code.OutOfMemory
+
+-- a query has no answer: an allocation failed, or it would have gone past the limit on its steps
+abbrev pub IsStopped : Option ℕ → Error → Type 0
+IsStopped limit e = IsNoMemory e ⊎ ((e ≡ SqliteFailure code.OperationInterrupted) × IsSome limit)
 
 -- an ID that a row names
 abbrev pub IsId : Value → Type 0

@@ -1,12 +1,12 @@
 -- What a site stores, and what each call makes of it.
-use Rattle.std.specs.Prelude.{◌≡◌, ◌⊎◌, Result, Ok, Err, ℕ, Bool, true, false, not, ◌&&◌, ◌==◌, List, [], ◌∷◌, map, filter, find, max, nat_lt, if◌then◌else◌, Option, Some, None, unwrap_or, refl}
+use Rattle.std.specs.Prelude.{◌≡◌, ◌⊎◌, Result, Ok, Err, ℕ, Bool, true, false, not, ◌&&◌, ◌==◌, List, [], ◌∷◌, map, filter, find, max, nat_lt, if◌then◌else◌, Option, Some, None, IsSome, unwrap_or, refl}
 use Rattle.std.specs.List.{list_any}
 use Rattle.std.specs.Option.{option_copied}
 use Rattle.std.proofs.Common.{Bor}
 use Rattle.std.specs.declared.cmp.Ordering.{Ordering}
 use Rattle.std.specs.Ordering.{nat_cmp}
 use Rattle.std.specs.Cmp.Lexicographic.{slice_cmp}
-use Rattle.std.specs.Coded.{Coded, code_by, coded×, coded_ℕ, coded_bool, coded_list}
+use Rattle.std.specs.Coded.{Coded, code_by, coded×, coded_ℕ, coded_bool, coded_list, coded_option}
 use Rattle.std.specs.FinMap.{FinMap, empty, insert, remove, code}
 use Rattle.std.specs.FinSet.{FinSet, code as set_code}
 use Rattle.site_records.specs.declared.post.Post.{Post}
@@ -44,9 +44,11 @@ pub record Rows : Type 0 where
   pub active : Names
   -- the greatest ID ever given or imported, also after its post is gone
   pub largest : ℕ
+  -- how many rows a statement may visit, if there is a limit
+  pub step_limit : Option ℕ
 
 abbrev pub no_rows : Rows
-no_rows = record { posts = []; options = empty; templates = empty; active = empty; largest = 0 }
+no_rows = record { posts = []; options = empty; templates = empty; active = empty; largest = 0; step_limit = None }
 
 -- ---- posts
 
@@ -151,10 +153,14 @@ abbrev pub fault_of : Error → TablesFault
 fault_of (SqliteFailure code.OutOfMemory) = OutOfMemory
 fault_of _ = Store
 
--- the call is refused by this fault, or an allocation failed
-abbrev pub IsRefusedAs : {A : Type 0} → TablesFault → Result A TablesFault → Type 0
-IsRefusedAs fault (Ok a) = ⊥
-IsRefusedAs fault (Err e) = (e ≡ fault) ⊎ (e ≡ OutOfMemory)
+-- a statement was not run to its end: an allocation failed, or it would have gone past the limit on its steps
+abbrev pub IsReadFault : Option ℕ → TablesFault → Type 0
+IsReadFault limit e = (e ≡ OutOfMemory) ⊎ ((e ≡ Store) × IsSome limit)
+
+-- the call is refused by this fault, or a statement before it was not run to its end
+abbrev pub IsRefusedAs : {A : Type 0} → Option ℕ → TablesFault → Result A TablesFault → Type 0
+IsRefusedAs limit fault (Ok a) = ⊥
+IsRefusedAs limit fault (Err e) = (e ≡ fault) ⊎ IsReadFault limit e
 
 -- ---- the codes of these values
 
@@ -194,6 +200,6 @@ post_code =
 
 abbrev pub rows_code : Coded Rows
 rows_code =
-    code_by (List Post × (Named × (Named × (Names × ℕ)))) (coded× (coded_list post_code) (coded× (code text_code text_code) (coded× (code text_code text_code) (coded× (set_code text_code) coded_ℕ))))
-    (λ s. (s.posts, (s.options, (s.templates, (s.active, s.largest)))))
-    (λ p. record { posts = p.0; options = p.1.0; templates = p.1.1.0; active = p.1.1.1.0; largest = p.1.1.1.1 }) (λ _. refl)
+    code_by (List Post × (Named × (Named × (Names × (ℕ × Option ℕ))))) (coded× (coded_list post_code) (coded× (code text_code text_code) (coded× (code text_code text_code) (coded× (set_code text_code) (coded× coded_ℕ (coded_option coded_ℕ))))))
+    (λ s. (s.posts, (s.options, (s.templates, (s.active, (s.largest, s.step_limit))))))
+    (λ p. record { posts = p.0; options = p.1.0; templates = p.1.1.0; active = p.1.1.1.0; largest = p.1.1.1.1.0; step_limit = p.1.1.1.1.1 }) (λ _. refl)

@@ -1,5 +1,5 @@
 -- How the tables hold the rows of a site, and what stays true of them.
-use Rattle.std.specs.Prelude.{⊤, Bool, IsUtf8, None, if◌then◌else◌, codes, ◌≡◌, ℕ, ℤ, pos, negsuc, false, true, List, [], ◌∷◌, drop, map, IsTrue, bytes_eq, ◌<◌, ◌≤◌, ◌^◌, Result, OnOk, OnErr}
+use Rattle.std.specs.Prelude.{⊤, Bool, IsUtf8, Option, None, if◌then◌else◌, codes, ◌≡◌, ℕ, ℤ, pos, negsuc, false, true, List, [], ◌∷◌, drop, map, IsTrue, bytes_eq, ◌<◌, ◌≤◌, ◌^◌, Result, OnOk, OnErr}
 use Rattle.std.specs.List.{AllByRecursion, list_any}
 use Rattle.std.specs.Ordering.{is_eq, nat_cmp}
 use Rattle.std.specs.FinMap.{FinMap, from_entries}
@@ -138,13 +138,14 @@ IsCounter (r ∷ s ∷ rows) = ⊥
 
 -- ---- the value that contracts see
 
-abbrev pub rows_in : Trees → Rows
-rows_in t = record {
+abbrev pub rows_in : Option ℕ → Trees → Rows
+rows_in limit t = record {
   posts = map post_in (t 0);
   options = named_in text_in (t 2);
   templates = named_in text_in (t 4);
   active = named_in nothing_in (t 6);
   largest = top_in (t 1);
+  step_limit = limit;
 }
 
 -- no ID of these is greater than the greatest ever given
@@ -165,16 +166,11 @@ pub record HoldsSite (d : Database) : Type 0 where
   pub sound : AreSound d.trees
 
 abbrev pub rows_of : Held MemStore → Rows
-rows_of h = rows_in (trees_of h)
-
--- no limit is set on the steps of a query
-abbrev pub IsUnlimited : Held MemStore → Type 0
-IsUnlimited h = h.step_limit ≡ None
+rows_of h = rows_in h.step_limit (trees_of h)
 
 pub record IsSite (h : Held MemStore) : Type 0 where
   pub holds : HoldsSite (state over_memory h).now
   pub idle : IsIdle h
-  pub unlimited : IsUnlimited h
 
 -- ---- what a statement does: all of it, or nothing
 

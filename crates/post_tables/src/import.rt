@@ -5,6 +5,7 @@ ghost use Rattle.std.specs.BTreeSet.{insert_key};
 ghost use Rattle.post_tables.specs.Stored.{is_met};
 ghost use Rattle.post_tables.specs.Rows.{
   IsOfStore,
+  IsReadFault,
   IsRefusedAs,
   are_new,
   with_new,
@@ -36,7 +37,7 @@ fn are_new(
     requires { IsSite conn.old }
     ensures reads { Reads conn.old conn.new }
     ensures value { IfOk result (λ new. new ≡ are_new posts.now (rows_of conn.old).posts) }
-    ensures memory { IfErr result (λ e. e ≡ TablesFault.OutOfMemory) }
+    ensures stopped { IfErr result (IsReadFault (rows_of conn.old).step_limit) }
 {
     let mut met = BTreeSet::new(alloc);
     for post in posts {
@@ -174,7 +175,7 @@ pub(crate) fn import(
     ensures duplicate { IfErr result (λ e. e ≡ TablesFault.DuplicateId
         → are_new records.now.posts (rows_of conn.old).posts ≡ false) }
     ensures not_new { are_new records.now.posts (rows_of conn.old).posts ≡ false
-        → IsRefusedAs TablesFault.DuplicateId result }
+        → IsRefusedAs (rows_of conn.old).step_limit TablesFault.DuplicateId result }
     ensures fault { IfErr result (λ e. (e ≡ TablesFault.DuplicateId) ⊎ IsOfStore e) }
 {
     if !are_new(conn, alloc, records.posts.as_slice())? {

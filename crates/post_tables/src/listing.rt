@@ -3,8 +3,8 @@ ghost use Rattle.std.specs.Prelude.{◌≡◌, ◌++◌, map, All, IfOk, IfErr, 
 ghost use Rattle.std.specs.List.{flat_map};
 ghost use Rattle.std.specs.Option.{option_to_list};
 ghost use Rattle.post_tables.specs.Page.{page_of};
-ghost use Rattle.post_tables.specs.Reading.{IsId, IsNoMemory};
-ghost use Rattle.post_tables.specs.Rows.{post_with};
+ghost use Rattle.post_tables.specs.Reading.{IsId, IsStopped};
+ghost use Rattle.post_tables.specs.Rows.{IsReadFault, post_with};
 ghost use Rattle.post_tables.specs.Stored.{IsSite, Reads, rows_of, magnitude};
 ghost use Rattle.sqlite_rules.specs.Edit.{id_in};
 ghost use Rattle.sqlite_value.specs.Order.{column};
@@ -30,7 +30,7 @@ pub(crate) fn part(
     ensures reads { Reads conn.old conn.new }
     ensures posts { IfOk result (λ posts. posts.items
         ≡ page_of kind from.now to.now limit offset (rows_of conn.old).posts) }
-    ensures memory { IfErr result (λ e. e ≡ TablesFault.OutOfMemory) }
+    ensures stopped { IfErr result (IsReadFault (rows_of conn.old).step_limit) }
 {
     // There are fewer IDs than that.
     let Ok(offset) = u32::try_from(offset) else {
@@ -58,7 +58,7 @@ fn later_part(
     ensures reads { Reads conn.old conn.new }
     ensures posts { IfOk result (λ posts. posts.items
         ≡ page_of kind from.now to.now limit offset (rows_of conn.old).posts) }
-    ensures memory { IfErr result (λ e. e ≡ TablesFault.OutOfMemory) }
+    ensures stopped { IfErr result (IsReadFault (rows_of conn.old).step_limit) }
 {
     let largest = largest_id(conn)?;
     if largest < offset {
@@ -81,7 +81,7 @@ fn part_by_ids(
     ensures reads { Reads conn.old conn.new }
     ensures posts { IfOk result (λ posts. posts.items
         ≡ page_of kind from.now to.now limit offset (rows_of conn.old).posts) }
-    ensures memory { IfErr result (λ e. e ≡ TablesFault.OutOfMemory) }
+    ensures stopped { IfErr result (IsReadFault (rows_of conn.old).step_limit) }
 {
     let ids = id_rows(conn, kind, from, to, limit, offset)?;
     posts_with(conn, alloc, &ids)
@@ -101,7 +101,7 @@ fn id_rows(
     ensures ids { IfOk result (λ rows. map (λ r. magnitude (id_in (column r 0))) rows.items
         ≡ map (λ p. p.id) (page_of kind from.now to.now limit offset (rows_of conn.old).posts)) }
     ensures readable { IfOk result (λ rows. All (λ r. IsId (column r 0)) rows.items) }
-    ensures memory { IfErr result IsNoMemory }
+    ensures stopped { IfErr result (IsStopped (rows_of conn.old).step_limit) }
 {
     conn.query_all(
         "SELECT id FROM post \
@@ -123,7 +123,7 @@ fn posts_with(
     ensures posts { IfOk result (λ posts. posts.items
         ≡ flat_map (λ r. option_to_list
         (post_with (magnitude (id_in (column r 0))) (rows_of conn.old).posts)) ids.now) }
-    ensures memory { IfErr result (λ e. e ≡ TablesFault.OutOfMemory) }
+    ensures stopped { IfErr result (IsReadFault (rows_of conn.old).step_limit) }
 {
     let mut posts = Vec::new(alloc);
     for row in ids {
@@ -139,7 +139,7 @@ fn push_post(conn: &mut Connection<MemStore>, posts: &mut Vec<Post>, id: u32) ->
     ensures reads { Reads conn.old conn.new }
     ensures posts { OnOk result (posts.new.items
         ≡ posts.old.items ++ option_to_list (post_with id (rows_of conn.old).posts)) }
-    ensures memory { IfErr result IsNoMemory }
+    ensures stopped { IfErr result (IsStopped (rows_of conn.old).step_limit) }
 {
     let rows = post_rows(conn, id)?;
     if let Some(post) = read_found(&rows)? {

@@ -4,7 +4,7 @@ ghost use Rattle.std.specs.FinMap.{insert, remove, entries, keys};
 ghost use Rattle.post_tables.specs.Reading.{
   pair_from,
   name_from,
-  IsNoMemory,
+  IsStopped,
   IsPairRow,
   IsNameRow,
 };
@@ -74,7 +74,7 @@ pub(crate) fn option_rows(conn: &mut Connection<MemStore>) -> Result<Vec<Row>, E
     ensures rows { IfOk result (λ rows. map pair_from rows.items
         ≡ entries (rows_of conn.old).options) }
     ensures readable { IfOk result (λ rows. All IsPairRow rows.items) }
-    ensures memory { IfErr result IsNoMemory }
+    ensures stopped { IfErr result (IsStopped (rows_of conn.old).step_limit) }
 {
     conn.query_all("SELECT name, value FROM option ORDER BY name", &[])
 }
@@ -85,7 +85,7 @@ pub(crate) fn template_rows(conn: &mut Connection<MemStore>) -> Result<Vec<Row>,
     ensures rows { IfOk result (λ rows. map pair_from rows.items
         ≡ entries (rows_of conn.old).templates) }
     ensures readable { IfOk result (λ rows. All IsPairRow rows.items) }
-    ensures memory { IfErr result IsNoMemory }
+    ensures stopped { IfErr result (IsStopped (rows_of conn.old).step_limit) }
 {
     conn.query_all("SELECT name, body FROM template ORDER BY name", &[])
 }
@@ -96,7 +96,7 @@ pub(crate) fn active_rows(conn: &mut Connection<MemStore>) -> Result<Vec<Row>, E
     ensures rows { IfOk result (λ rows. map name_from rows.items
         ≡ keys (rows_of conn.old).active) }
     ensures readable { IfOk result (λ rows. All IsNameRow rows.items) }
-    ensures memory { IfErr result IsNoMemory }
+    ensures stopped { IfErr result (IsStopped (rows_of conn.old).step_limit) }
 {
     conn.query_all("SELECT name FROM active ORDER BY name", &[])
 }

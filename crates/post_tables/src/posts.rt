@@ -19,7 +19,7 @@ ghost use Rattle.std.specs.Prelude.{
 ghost use Rattle.std.specs.Option.{option_to_list, option_copied};
 ghost use Rattle.site_records.specs.Dates.{is_post_date};
 ghost use Rattle.post_tables.specs.Page.{page_of};
-ghost use Rattle.post_tables.specs.Reading.{post_from, shown, IsNoMemory, IsPostRow, IsTop, IsTopRow};
+ghost use Rattle.post_tables.specs.Reading.{post_from, shown, IsStopped, IsPostRow, IsTop, IsTopRow};
 ghost use Rattle.post_tables.specs.Rows.{
   with_new,
   without_post,
@@ -204,7 +204,7 @@ fn top_rows(conn: &mut Connection<MemStore>) -> Result<Vec<Row>, Error>
     ensures reads { Reads conn.old conn.new }
     ensures rows { IfOk result (λ rows. IsTop rows.items (rows_of conn.old).largest) }
     ensures readable { IfOk result (λ rows. IsTopRow rows.items) }
-    ensures memory { IfErr result IsNoMemory }
+    ensures stopped { IfErr result (IsStopped (rows_of conn.old).step_limit) }
 {
     conn.query_all("SELECT seq FROM sqlite_sequence WHERE name = 'post'", &[])
 }
@@ -214,7 +214,7 @@ pub(crate) fn largest_id(conn: &mut Connection<MemStore>) -> Result<u32, Error>
     requires { IsSite conn.old }
     ensures reads { Reads conn.old conn.new }
     ensures largest { IfOk result (λ id. id ≡ (rows_of conn.old).largest) }
-    ensures memory { IfErr result IsNoMemory }
+    ensures stopped { IfErr result (IsStopped (rows_of conn.old).step_limit) }
 {
     read_top(&top_rows(conn)?)
 }
@@ -225,7 +225,7 @@ pub(crate) fn post_rows(conn: &mut Connection<MemStore>, id: u32) -> Result<Vec<
     ensures rows { IfOk result (λ rows. map post_from rows.items
         ≡ option_to_list (post_with id (rows_of conn.old).posts)) }
     ensures readable { IfOk result (λ rows. All IsPostRow rows.items × (length rows.items ≤ 1)) }
-    ensures memory { IfErr result IsNoMemory }
+    ensures stopped { IfErr result (IsStopped (rows_of conn.old).step_limit) }
 {
     conn.query_all(
         "SELECT id, kind, status, title, content, date FROM post WHERE id = ?1",
@@ -246,7 +246,7 @@ pub(crate) fn page_rows(
     ensures rows { IfOk result (λ rows. map post_from rows.items
         ≡ page_of kind from.now to.now limit offset (rows_of conn.old).posts) }
     ensures readable { IfOk result (λ rows. All IsPostRow rows.items) }
-    ensures memory { IfErr result IsNoMemory }
+    ensures stopped { IfErr result (IsStopped (rows_of conn.old).step_limit) }
 {
     conn.query_all(
         "SELECT id, kind, status, title, content, date FROM post \
@@ -261,7 +261,7 @@ fn id_rows(conn: &mut Connection<MemStore>, id: u32) -> Result<Vec<Row>, Error>
     ensures reads { Reads conn.old conn.new }
     ensures found { IfOk result (λ rows. not (nat_eq (length rows.items) 0)
         ≡ has_post id (rows_of conn.old).posts) }
-    ensures memory { IfErr result IsNoMemory }
+    ensures stopped { IfErr result (IsStopped (rows_of conn.old).step_limit) }
 {
     conn.query_all(FIND_POST, params![id])
 }
@@ -271,7 +271,7 @@ pub(crate) fn has_post(conn: &mut Connection<MemStore>, id: u32) -> Result<bool,
     requires { IsSite conn.old }
     ensures reads { Reads conn.old conn.new }
     ensures found { IfOk result (λ found. found ≡ has_post id (rows_of conn.old).posts) }
-    ensures memory { IfErr result IsNoMemory }
+    ensures stopped { IfErr result (IsStopped (rows_of conn.old).step_limit) }
 {
     let rows = id_rows(conn, id)?;
     Ok(!rows.is_empty())

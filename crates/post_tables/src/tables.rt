@@ -33,6 +33,7 @@ ghost use Rattle.post_tables.specs.Rows.{
   are_new,
   with_records,
   IsOfStore,
+  IsReadFault,
   IsRefusedAs,
 };
 ghost use Rattle.post_tables.specs.Page.{newest, is_listed, page_of};
@@ -88,7 +89,8 @@ fn next_id(conn: &mut Connection<MemStore>) -> Result<u32, TablesFault>
     ensures left { OnOk result ((rows_of conn.old).largest < 2147483647) }
     ensures used_up { result ≡ Err TablesFault.IdsUsedUp
         → 2147483647 ≤ (rows_of conn.old).largest }
-    ensures fault { IfErr result (λ e. (e ≡ TablesFault.IdsUsedUp) ⊎ (e ≡ TablesFault.OutOfMemory)) }
+    ensures fault { IfErr result (λ e. (e ≡ TablesFault.IdsUsedUp)
+        ⊎ IsReadFault (rows_of conn.old).step_limit e) }
 {
     let largest = largest_id(conn)?;
     if largest >= GREATEST_ID {
@@ -116,6 +118,15 @@ impl Tables {
         let mut conn = Connection::open_in_memory(alloc)?;
         create(&mut conn)?;
         Ok(Tables { conn, alloc })
+    }
+
+    /// Limits how many rows each later statement may visit, from the next call on; with `None` there is no limit. A
+    /// statement that would visit more is refused as `Store` and leaves every row as it was.
+    pub fn limit_steps(&mut self, limit: Option<u32>)
+        ensures { self.new ≡ record self.old { step_limit = limit } }
+    {
+        let steps = limit.map(u64::from);
+        self.conn.set_step_limit(steps);
     }
 
     /// Puts in a post or a page, and answers its ID: the one after the greatest that was ever given
@@ -147,7 +158,7 @@ impl Tables {
         ensures left { OnOk result (self.old.largest < 2147483647) }
         ensures used_up { result ≡ Err TablesFault.IdsUsedUp → 2147483647 ≤ self.old.largest }
         ensures none_left { 2147483647 ≤ self.old.largest
-            → IsRefusedAs TablesFault.IdsUsedUp result }
+            → IsRefusedAs self.old.step_limit TablesFault.IdsUsedUp result }
         ensures fault { IfErr result (λ e. (e ≡ TablesFault.IdsUsedUp) ⊎ IsOfStore e) }
     {
         let id = next_id(&mut self.conn)?;
@@ -179,7 +190,8 @@ impl Tables {
         ensures err { OnErr result (self.new ≡ self.old) }
         ensures there { OnOk result (has_post id self.old.posts ≡ true) }
         ensures missing { result ≡ Err TablesFault.NoSuchPost → has_post id self.old.posts ≡ false }
-        ensures absent { has_post id self.old.posts ≡ false → IsRefusedAs TablesFault.NoSuchPost result }
+        ensures absent { has_post id self.old.posts ≡ false
+            → IsRefusedAs self.old.step_limit TablesFault.NoSuchPost result }
         ensures fault { IfErr result (λ e. (e ≡ TablesFault.NoSuchPost) ⊎ IsOfStore e) }
     {
         if !has_post(&mut self.conn, id)? {
@@ -197,7 +209,8 @@ impl Tables {
         ensures err { OnErr result (self.new ≡ self.old) }
         ensures there { OnOk result (has_post id self.old.posts ≡ true) }
         ensures missing { result ≡ Err TablesFault.NoSuchPost → has_post id self.old.posts ≡ false }
-        ensures absent { has_post id self.old.posts ≡ false → IsRefusedAs TablesFault.NoSuchPost result }
+        ensures absent { has_post id self.old.posts ≡ false
+            → IsRefusedAs self.old.step_limit TablesFault.NoSuchPost result }
         ensures fault { IfErr result (λ e. (e ≡ TablesFault.NoSuchPost) ⊎ IsOfStore e) }
     {
         if !has_post(&mut self.conn, id)? {
@@ -211,7 +224,7 @@ impl Tables {
     pub fn post(&mut self, id: u32) -> Result<Option<Post>, TablesFault>
         ensures ok { IfOk result (λ post. post ≡ post_with id self.old.posts) }
         ensures same { self.new ≡ self.old }
-        ensures fault { IfErr result (λ e. e ≡ TablesFault.OutOfMemory) }
+        ensures fault { IfErr result (IsReadFault self.old.step_limit) }
     {
         let rows = post_rows(&mut self.conn, id)?;
         Ok(read_found(&rows)?)
@@ -231,7 +244,7 @@ impl Tables {
         ensures ok { IfOk result (λ posts. posts
             ≡ page_of kind from.now to.now limit offset self.old.posts) }
         ensures same { self.new ≡ self.old }
-        ensures fault { IfErr result (λ e. e ≡ TablesFault.OutOfMemory) }
+        ensures fault { IfErr result (IsReadFault self.old.step_limit) }
 
         // Each is newer than all after it. All of them are listed, and are the posts that have their IDs.
         ensures in_order { IfOk result (λ posts. IsStrictlySortedBy newest posts) }
@@ -261,7 +274,7 @@ impl Tables {
     pub fn options(&mut self) -> Result<Listed<(Text, Text)>, TablesFault>
         ensures ok { IfOk result (λ options. options ≡ entries self.old.options) }
         ensures same { self.new ≡ self.old }
-        ensures fault { IfErr result (λ e. e ≡ TablesFault.OutOfMemory) }
+        ensures fault { IfErr result (IsReadFault self.old.step_limit) }
     {
         let rows = option_rows(&mut self.conn)?;
         Ok(Listed::new(read_pairs(self.alloc, &rows)?))
@@ -287,7 +300,7 @@ impl Tables {
     pub fn active(&mut self) -> Result<Listed<Text>, TablesFault>
         ensures ok { IfOk result (λ names. names ≡ keys self.old.active) }
         ensures same { self.new ≡ self.old }
-        ensures fault { IfErr result (λ e. e ≡ TablesFault.OutOfMemory) }
+        ensures fault { IfErr result (IsReadFault self.old.step_limit) }
     {
         let rows = active_rows(&mut self.conn)?;
         Ok(Listed::new(read_names(self.alloc, &rows)?))
@@ -312,7 +325,7 @@ impl Tables {
     pub fn templates(&mut self) -> Result<Listed<(Text, Text)>, TablesFault>
         ensures ok { IfOk result (λ templates. templates ≡ entries self.old.templates) }
         ensures same { self.new ≡ self.old }
-        ensures fault { IfErr result (λ e. e ≡ TablesFault.OutOfMemory) }
+        ensures fault { IfErr result (IsReadFault self.old.step_limit) }
     {
         let rows = template_rows(&mut self.conn)?;
         Ok(Listed::new(read_pairs(self.alloc, &rows)?))
@@ -329,7 +342,7 @@ impl Tables {
         ensures twice { result ≡ Err TablesFault.DuplicateId
             → are_new records.now.posts self.old.posts ≡ false }
         ensures not_new { are_new records.now.posts self.old.posts ≡ false
-            → IsRefusedAs TablesFault.DuplicateId result }
+            → IsRefusedAs self.old.step_limit TablesFault.DuplicateId result }
         ensures fault { IfErr result (λ e. (e ≡ TablesFault.DuplicateId) ⊎ IsOfStore e) }
     {
         import(&mut self.conn, self.alloc, records)

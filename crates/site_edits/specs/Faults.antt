@@ -1,4 +1,5 @@
 -- What stops a command, by what stopped the tables.
+use Rattle.std.specs.Prelude.{◌≡◌, ◌⊎◌, ℕ, Option, IsSome}
 use Rattle.post_tables.specs.declared.fault.TablesFault.{TablesFault}
 use Rattle.post_tables.specs.declared.fault.TablesFault.TheVariants as tables
 use Rattle.site_edits.specs.declared.fault.StoreFault.{StoreFault}
@@ -8,3 +9,7 @@ use Rattle.site_edits.specs.declared.fault.StoreFault.TheVariants.{OutOfMemory, 
 abbrev pub fault_by : TablesFault → StoreFault
 fault_by tables.OutOfMemory = OutOfMemory
 fault_by _ = Store
+
+-- what only reads is stopped: an allocation failed, or a statement would have gone past the limit on its steps
+abbrev pub IsReadFault : Option ℕ → StoreFault → Type 0
+IsReadFault limit e = (e ≡ OutOfMemory) ⊎ ((e ≡ Store) × IsSome limit)

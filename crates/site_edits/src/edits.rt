@@ -4,7 +4,7 @@ ghost use Rattle.callback_store.specs.Shape.{shapes_of};
 ghost use Rattle.site_replies.specs.Reply.{answer_of};
 ghost use Rattle.site_values.specs.Limits.{fits};
 ghost use Rattle.site_edits.specs.Edits.{put, edit, edited, delete, set_option, set_active, if_given};
-ghost use Rattle.site_edits.specs.Late.{is_done};
+ghost use Rattle.site_edits.specs.Late.{may_be_late};
 ghost use Rattle.post_tables.specs.Rows.{edit_by};
 
 use crate::fault::StoreFault;
@@ -35,7 +35,7 @@ pub fn put(
     ensures ok { IfOk result (λ reply. (tables.new, answer_of reply)
         ≡ put tables.old kind status title.now content.now date.now) }
     ensures err { OnErr result (tables.new ≡ tables.old) }
-    ensures late { IfErr result (λ fault. fault ≡ StoreFault.Store → is_done
+    ensures late { IfErr result (λ fault. fault ≡ StoreFault.Store → may_be_late tables.old.step_limit
         (put tables.old kind status title.now content.now date.now).1 ≡ true) }
 {
     if title.len() > MAX_TITLE || content.len() > MAX_CONTENT {
@@ -64,7 +64,7 @@ pub fn edit(
     ensures ok { IfOk result (λ reply. (tables.new, answer_of reply)
         ≡ edit tables.old id (edit_by status title.entry content.entry date.entry)) }
     ensures err { OnErr result (tables.new ≡ tables.old) }
-    ensures late { IfErr result (λ fault. fault ≡ StoreFault.Store → is_done
+    ensures late { IfErr result (λ fault. fault ≡ StoreFault.Store → may_be_late tables.old.step_limit
         (edit tables.old id (edit_by status title.entry content.entry date.entry)).1 ≡ true) }
 {
     if !fits_if_given(title, MAX_TITLE) || !fits_if_given(content, MAX_CONTENT) {
@@ -92,7 +92,7 @@ fn edit_post(
     ensures ok { IfOk result (λ reply. (tables.new, answer_of reply)
         ≡ edited tables.old id (edit_by status title.entry content.entry date.entry)) }
     ensures err { OnErr result (tables.new ≡ tables.old) }
-    ensures late { IfErr result (λ fault. fault ≡ StoreFault.Store → is_done
+    ensures late { IfErr result (λ fault. fault ≡ StoreFault.Store → may_be_late tables.old.step_limit
         (edited tables.old id (edit_by status title.entry content.entry date.entry)).1 ≡ true) }
 {
     match tables.edit_post(id, status, title, content, date) {
@@ -108,7 +108,7 @@ pub fn delete(tables: &mut Tables, id: u32) -> Result<SiteReply, StoreFault>
     ensures ok { IfOk result (λ reply. (tables.new, answer_of reply) ≡ delete tables.old id) }
     ensures err { OnErr result (tables.new ≡ tables.old) }
     ensures late { IfErr result (λ fault. fault ≡ StoreFault.Store
-        → is_done (delete tables.old id).1 ≡ true) }
+        → may_be_late tables.old.step_limit (delete tables.old id).1 ≡ true) }
 {
     match tables.delete_post(id) {
         Ok(()) => Ok(SiteReply::Ok),
@@ -124,7 +124,7 @@ pub fn set_option(tables: &mut Tables, name: &str, value: &str) -> Result<SiteRe
         (λ reply. (tables.new, answer_of reply) ≡ set_option tables.old name.now value.now) }
     ensures err { OnErr result (tables.new ≡ tables.old) }
     ensures late { IfErr result (λ fault. fault ≡ StoreFault.Store
-        → is_done (set_option tables.old name.now value.now).1 ≡ true) }
+        → may_be_late tables.old.step_limit (set_option tables.old name.now value.now).1 ≡ true) }
 {
     if value.len() > MAX_VALUE {
         return Ok(SiteReply::Refused(Refusal::TooLarge));
@@ -144,7 +144,7 @@ pub fn set_active<S: Stated>(
     ensures ok { IfOk result (λ reply. (tables.new, answer_of reply)
         ≡ set_active (shapes_of S.number plugins.now) tables.old plugin.now active) }
     ensures err { OnErr result (tables.new ≡ tables.old) }
-    ensures late { IfErr result (λ fault. fault ≡ StoreFault.Store → is_done
+    ensures late { IfErr result (λ fault. fault ≡ StoreFault.Store → may_be_late tables.old.step_limit
         (set_active (shapes_of S.number plugins.now) tables.old plugin.now active).1 ≡ true) }
 {
     if plugins.load_of(plugin).is_none() {

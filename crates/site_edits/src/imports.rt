@@ -4,7 +4,7 @@ ghost use Rattle.callback_store.specs.Shape.{shapes_of};
 ghost use Rattle.serde_json.specs.View.{view};
 ghost use Rattle.site_replies.specs.Reply.{answer_of};
 ghost use Rattle.site_edits.specs.Imports.{import, imported, import_refusal, added, are_known};
-ghost use Rattle.site_edits.specs.Late.{is_done};
+ghost use Rattle.site_edits.specs.Late.{may_be_late};
 
 use crate::fault::StoreFault;
 use callback_store::{Plugins, Stated};
@@ -28,7 +28,7 @@ pub fn import<S: Stated>(
     ensures ok { IfOk result (λ reply. (tables.new, answer_of reply)
         ≡ import (shapes_of S.number plugins.now) tables.old (view site.now)) }
     ensures err { OnErr result (tables.new ≡ tables.old) }
-    ensures late { IfErr result (λ fault. fault ≡ StoreFault.Store → is_done
+    ensures late { IfErr result (λ fault. fault ≡ StoreFault.Store → may_be_late tables.old.step_limit
         (import (shapes_of S.number plugins.now) tables.old (view site.now)).1 ≡ true) }
 {
     match read_site_value(alloc, site) {
@@ -47,7 +47,7 @@ fn add_known<S: Stated>(
     ensures ok { IfOk result (λ reply. (tables.new, answer_of reply)
         ≡ imported (shapes_of S.number plugins.now) tables.old (Ok records.now)) }
     ensures err { OnErr result (tables.new ≡ tables.old) }
-    ensures late { IfErr result (λ fault. fault ≡ StoreFault.Store → is_done
+    ensures late { IfErr result (λ fault. fault ≡ StoreFault.Store → may_be_late tables.old.step_limit
         (imported (shapes_of S.number plugins.now) tables.old (Ok records.now)).1 ≡ true) }
 {
     if !are_known(plugins, records.active.as_slice()) {
@@ -84,7 +84,7 @@ fn add_records(tables: &mut Tables, records: &SiteRecords) -> Result<SiteReply, 
     ensures ok { IfOk result (λ reply. (tables.new, answer_of reply) ≡ added tables.old records.now) }
     ensures err { OnErr result (tables.new ≡ tables.old) }
     ensures late { IfErr result (λ fault. fault ≡ StoreFault.Store
-        → is_done (added tables.old records.now).1 ≡ true) }
+        → may_be_late tables.old.step_limit (added tables.old records.now).1 ≡ true) }
 {
     match tables.import(records) {
         Ok(()) => Ok(SiteReply::Ok),

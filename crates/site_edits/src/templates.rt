@@ -3,7 +3,7 @@ ghost use Rattle.std.specs.Prelude.{◌≡◌, IfOk, IfErr, OnErr, true};
 ghost use Rattle.serde_json.specs.View.{view};
 ghost use Rattle.site_replies.specs.Reply.{answer_of};
 ghost use Rattle.site_edits.specs.Templates.{set_template, removed};
-ghost use Rattle.site_edits.specs.Late.{is_done};
+ghost use Rattle.site_edits.specs.Late.{may_be_late};
 
 use crate::fault::StoreFault;
 use post_tables::Tables;
@@ -24,7 +24,7 @@ pub fn set_template(
     ensures ok { IfOk result (λ reply. (tables.new, answer_of reply)
         ≡ set_template tables.old name.now (view body.now)) }
     ensures err { OnErr result (tables.new ≡ tables.old) }
-    ensures late { IfErr result (λ fault. fault ≡ StoreFault.Store → is_done
+    ensures late { IfErr result (λ fault. fault ≡ StoreFault.Store → may_be_late tables.old.step_limit
         (set_template tables.old name.now (view body.now)).1 ≡ true) }
 {
     if body.is_null() {
@@ -46,7 +46,7 @@ fn remove_template(tables: &mut Tables, name: &str) -> Result<SiteReply, StoreFa
     ensures ok { IfOk result (λ reply. (tables.new, answer_of reply) ≡ removed tables.old name.now) }
     ensures err { OnErr result (tables.new ≡ tables.old) }
     ensures late { IfErr result (λ fault. fault ≡ StoreFault.Store
-        → is_done (removed tables.old name.now).1 ≡ true) }
+        → may_be_late tables.old.step_limit (removed tables.old name.now).1 ≡ true) }
 {
     if !is_template_name(name) {
         return Ok(SiteReply::Refused(Refusal::BadTemplate));

@@ -4,3 +4,4 @@ pub mod Endings
 pub mod Machine
 pub mod Pages
 pub mod Refusals
+pub mod Limits

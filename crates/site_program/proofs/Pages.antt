@@ -1,7 +1,7 @@
 -- Lemmas on what a request is answered.
-use Rattle.std.proofs.Common.{◌≡◌, ◌≢◌, ◌≤◌, ℕ, List, ◌∙◌, Ok, Err, refl, sym, ap, length}
+use Rattle.std.proofs.Common.{◌≡◌, ◌≢◌, ◌≤◌, inl, inr, ℕ, Bool, true, List, ◌∙◌, Ok, Err, refl, sym, ap, length}
 use Rattle.std.proofs.lemmas.Bool.{le-leb}
-use Rattle.std.specs.Prelude.{Result, IfErr, false}
+use Rattle.std.specs.Prelude.{Result, IfErr, false, ◌||◌}
 use Rattle.hook_machine.specs.World.{Text, World, fresh, loaded}
 use Rattle.hook_machine.specs.declared.fault.RunFault.{RunFault}
 use Rattle.hook_machine.specs.declared.fault.RunFault.TheVariants as fault
@@ -13,6 +13,10 @@ use Rattle.template_parts.specs.Pages as template
 use Rattle.template_parts.specs.Pages.{Work, IsPage, IsRefusedBy}
 use Rattle.template_parts.specs.declared.settings.Settings.{Settings}
 use Rattle.site_replies.specs.Reply.{Answer, page}
+use Rattle.site_edits.specs.Faults.{IsReadFault}
+use Rattle.site_edits.specs.Late.{rests_on_rows, may_be_late}
+use Rattle.site_edits.specs.declared.fault.StoreFault.{StoreFault}
+use Rattle.site_edits.specs.declared.fault.StoreFault.TheVariants as store
 use Rattle.site_program.specs.Step.{got, max_path}
 use Rattle.site_program.specs.Requests.{Texts, settings_for, page_pass, page_of, options_of, templates_of, active_of, found_by, shown, refusal_of, request}
 
@@ -37,10 +41,35 @@ module _ (engine : Engine) (calls : ℕ) (found : Found) (options templates : Te
 
 -- ---- the answer to a path
 
+-- however a page ended, its reply rests on the rows
+shown-rests : (status : ℕ) (end : End (Unit {0})) → rests_on_rows (shown status end) ≡ true
+shown-rests status (Ended world nothing) = refl
+shown-rests status (Fault fault.TooManyCalls) = refl
+shown-rests status (Fault fault.TooDeep) = refl
+shown-rests status (Fault fault.OutOfMemory) = refl
+
+or_true : (b : Bool) → (b || true) ≡ true
+or_true true = refl
+or_true false = refl
+
 module _ (engine : Engine) (calls : ℕ) (rows : Rows) (path : Text) where
+  -- by what was read of the rows
+  pub request-is : (answer : Answer) (found : Found) (options templates : Texts) (active : List Text) → found ≡ found_by rows path → options ≡ options_of rows → templates ≡ templates_of rows → active ≡ active_of rows
+      → answer ≡ page_of engine calls found options templates active → answer ≡ request engine calls rows path
+  unfolding request
+  request-is answer found options templates active f o t a is = rw (is, f, o, t, a) refl
+
   -- a path that isn't too long
-  pub got-short : (new : Rows) (answer : Answer) (found : Found) (options templates : Texts) (active : List Text) → length path ≤ max_path → new ≡ rows
-      → found ≡ found_by rows path → options ≡ options_of rows → templates ≡ templates_of rows → active ≡ active_of rows
-      → answer ≡ page_of engine calls found options templates active → (new, answer) ≡ got engine calls rows path
-  unfolding got request
-  got-short new answer found options templates active short same f o t a is = rw (le-leb _ _ short, same, is, f, o, t, a) refl
+  pub got-short : (new : Rows) (answer : Answer) → length path ≤ max_path → new ≡ rows → answer ≡ request engine calls rows path → (new, answer) ≡ got engine calls rows path
+  unfolding got
+  got-short new answer short same is = rw (le-leb _ _ short, same, is) refl
+
+  rests : rests_on_rows (request engine calls rows path) ≡ true
+  unfolding request
+  rests = shown-rests _ _
+
+  -- the database refuses it only with a limit on steps, in place of a reply that rests on the rows
+  pub got-late : length path ≤ max_path → (why : StoreFault) → IsReadFault rows.step_limit why → why ≡ store.Store → may_be_late rows.step_limit (got engine calls rows path).1 ≡ true
+  unfolding got
+  got-late short why (inl none) is = absurd (let clash = sym none ∙ is in cc)
+  got-late short why (inr late) is = rw (le-leb _ _ short, late.1, rests) (or_true _)

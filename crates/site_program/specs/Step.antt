@@ -14,7 +14,7 @@ use Rattle.site_program.specs.Requests.{request}
 use Rattle.site_edits.specs.Edits.{put, edit, delete, set_option, set_active}
 use Rattle.site_edits.specs.Templates.{set_template}
 use Rattle.site_edits.specs.Imports.{import}
-use Rattle.site_edits.specs.Late.{is_done}
+use Rattle.site_edits.specs.Late.{may_be_late}
 use Rattle.site_replies.specs.Reply.{Answer, refused}
 
 -- the most bytes that a path may have
@@ -45,12 +45,13 @@ step engine calls rows line = carried_out engine calls rows (option_and_then com
 
 module _ (steps : Rows → List ℕ → Rows × Answer) where
   -- The reply to a line, and the rows after it: those of its step; or a refusal that leaves the rows unchanged, on allocation
-  -- failure, or by the database in place of the `ok` of an edit.
+  -- failure, or by the database in place of the `ok` of an edit; with a limit on the steps of a statement also in place of
+  -- whatever rests on the rows.
   abbrev pub Answers : Rows → List ℕ → Answer → Rows → Type 0
   Answers old line reply new =
       ((new, reply) ≡ steps old line)
       ⊎ (((reply ≡ refused OutOfMemory) × (new ≡ old))
-      ⊎ ((reply ≡ refused Store) × (new ≡ old) × (is_done (steps old line).1 ≡ true)))
+      ⊎ ((reply ≡ refused Store) × (new ≡ old) × (may_be_late old.step_limit (steps old line).1 ≡ true)))
 
 -- the steps of a site with this setup
 abbrev pub steps_of : {S : Type 0} → (ℕ → Call → Reply) → (S → ℕ) → Setup S → Rows → List ℕ → Rows × Answer

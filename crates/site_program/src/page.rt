@@ -1,5 +1,5 @@
 //! The pages of a site.
-ghost use Rattle.std.specs.Prelude.{◌≡◌, IfOk, OnErr, IfErr};
+ghost use Rattle.std.specs.Prelude.{◌≡◌, IfOk, OnErr, IfErr, true};
 ghost use Rattle.callback_store.specs.Shape.{shapes_of};
 ghost use Rattle.hook_machine.specs.World.{fresh, loaded};
 ghost use Rattle.hook_machine.specs.Ends.{engine_with};
@@ -9,7 +9,9 @@ ghost use Rattle.site_replies.specs.Reply.{answer_of};
 ghost use Rattle.permalink_query.specs.Paths.{query_of};
 ghost use Rattle.permalink_query.specs.Found.{found};
 ghost use Rattle.template_parts.specs.Pages.{IsPage, IsRefusedBy};
-ghost use Rattle.site_program.specs.Requests.{page_pass, page_of};
+ghost use Rattle.site_edits.specs.Faults.{IsReadFault};
+ghost use Rattle.site_edits.specs.Late.{may_be_late};
+ghost use Rattle.site_program.specs.Requests.{request, page_pass, page_of};
 
 use crate::settings::settings_for;
 use crate::setup::Setup;
@@ -42,11 +44,28 @@ impl<'p, S: Stated> Setup<'p, S> {
         ensures ok { IfOk result (λ reply. (tables.new, answer_of reply)
             ≡ got (engine_of S.says S.number self.now) (calls_of self.now) tables.old path.now) }
         ensures err { OnErr result (tables.new ≡ tables.old) }
-        ensures memory { IfErr result (λ fault. fault ≡ StoreFault.OutOfMemory) }
+        ensures late { IfErr result (λ fault. fault ≡ StoreFault.Store → may_be_late tables.old.step_limit
+            (got (engine_of S.says S.number self.now) (calls_of self.now) tables.old path.now).1
+            ≡ true) }
     {
         if path.len() > MAX_PATH {
             return Ok(SiteReply::Refused(Refusal::TooLarge));
         }
+        self.page_at(tables, path, cache)
+    }
+
+    /// The page of a path that is not too long.
+    fn page_at(
+        &self,
+        tables: &mut Tables,
+        path: &str,
+        cache: &mut PieceCache,
+    ) -> Result<SiteReply, StoreFault>
+        ensures ok { IfOk result (λ reply. answer_of reply ≡ request
+            (engine_of S.says S.number self.now) (calls_of self.now) tables.old path.now) }
+        ensures same { tables.new ≡ tables.old }
+        ensures stopped { IfErr result (IsReadFault tables.old.step_limit) }
+    {
         let options = tables.options()?;
         let found = found_by(self.alloc, tables, path, options.as_slice())?;
         let templates = tables.templates()?;
@@ -140,7 +159,7 @@ fn found_by(
     ensures found { IfOk result (λ f.
         f ≡ found tables.old.posts options.now (query_of path.now)) }
     ensures same { tables.new ≡ tables.old }
-    ensures memory { IfErr result (λ fault. fault ≡ StoreFault.OutOfMemory) }
+    ensures stopped { IfErr result (IsReadFault tables.old.step_limit) }
 {
     let query = read(alloc, path)?;
     match find(alloc, tables, &query, options) {

@@ -57,6 +57,9 @@ impl<'p, S: Stated> Site<'p, S> {
         // Two of them come only where an end failed.
         ensures read { R.has_failed reader.new ≡ is_read result }
         ensures write { W.has_failed writer.new ≡ is_write result }
+
+        // No line changes the limit on steps.
+        ensures limit { (rows_of self.new).step_limit ≡ (rows_of self.old).step_limit }
         ensures setup { setup_of self.new ≡ setup_of self.old }
     {
         let Site {
@@ -116,6 +119,7 @@ impl<'p, S: Stated> Setup<'p, S> {
             tables.old left.old (held.old.items ++ chunk.now)
             (W.contents writer.old) (W.contents writer.new) tables.new) }
         ensures failed { W.has_failed writer.new ≡ is_write result }
+        ensures limit { tables.new.step_limit ≡ tables.old.step_limit }
     {
         let mut rest = chunk;
         while let Some(end) = memchr(b'\n', rest) {
@@ -158,6 +162,7 @@ impl<'p, S: Stated> Setup<'p, S> {
             → (tables.new ≡ tables.old) × (W.contents writer.new ≡ W.contents writer.old) }
         ensures only { IfErr result (λ e. (e ≡ ServeFault.Write) ⊎ (e ≡ ServeFault.OutOfMemory)) }
         ensures failed { W.has_failed writer.new ≡ is_write result }
+        ensures limit { tables.new.step_limit ≡ tables.old.step_limit }
     {
         if held.is_empty() {
             return self.answer(tables, part, writer, cache);
@@ -184,6 +189,7 @@ impl<'p, S: Stated> Setup<'p, S> {
             tables.old line.now (W.contents writer.old) (W.contents writer.new) tables.new) }
         ensures fault { IfErr result (λ e. e ≡ ServeFault.Write) }
         ensures failed { W.has_failed writer.new ≡ is_err result }
+        ensures limit { tables.new.step_limit ≡ tables.old.step_limit }
     {
         let reply = self.command(tables, line, cache);
         reply.write_to(writer)

@@ -61,14 +61,24 @@ impl<'p, S: Stated> Site<'p, S> {
         })
     }
 
+    /// Limits how many rows each later statement on the site's tables may visit; with `None` there is no limit, as at
+    /// first. A command whose statement would visit more is refused as `Store` and leaves every row as it was.
+    pub fn limit_steps(&mut self, limit: Option<u32>)
+        ensures rows { rows_of self.new ≡ record (rows_of self.old) { step_limit = limit } }
+        ensures setup { setup_of self.new ≡ setup_of self.old }
+    {
+        self.tables.limit_steps(limit);
+    }
+
     /// Carries out one line, given without its newline. A line that is no command is refused as such, and a refused
     /// command leaves the rows as they were. For want of memory any command may be refused, and by the database any
-    /// that would change rows.
+    /// that would change rows; where the steps of a statement are limited, any that needs one.
     pub fn command(&mut self, line: &[u8]) -> SiteReply
         ensures answers { Answers (steps_of S.says S.number (setup_of self.old))
             (rows_of self.old) line.now (answer_of result) (rows_of self.new) }
         ensures refused { (r : Refusal) → answer_of result ≡ refused r
             → rows_of self.new ≡ rows_of self.old }
+        ensures limit { (rows_of self.new).step_limit ≡ (rows_of self.old).step_limit }
         ensures setup { setup_of self.new ≡ setup_of self.old }
     {
         self.setup.command(&mut self.tables, line, &mut self.cache)
@@ -80,7 +90,7 @@ impl<'p, S: Stated> Setup<'p, S> {
     ghost use Rattle.site_replies.specs.declared.reply.Refusal.{Refusal};
     ghost use Rattle.site_replies.specs.Reply.{refused};
     ghost use Rattle.site_program.specs.Site.{engine_of, calls_of};
-    ghost use Rattle.site_edits.specs.Late.{is_done};
+    ghost use Rattle.site_edits.specs.Late.{may_be_late};
     ghost use Rattle.site_program.specs.Step.{Answers, steps_of, carried_out};
 
     /// Carries out one line over the tables.
@@ -93,6 +103,7 @@ impl<'p, S: Stated> Setup<'p, S> {
         ensures answers { Answers (steps_of S.says S.number self.now)
             tables.old line.now (answer_of result) tables.new }
         ensures refused { (r : Refusal) → answer_of result ≡ refused r → tables.new ≡ tables.old }
+        ensures limit { tables.new.step_limit ≡ tables.old.step_limit }
     {
         match self.try_command(tables, line, cache) {
             Ok(reply) => reply,
@@ -112,7 +123,8 @@ impl<'p, S: Stated> Setup<'p, S> {
             (tables.new, answer_of reply) ≡ steps_of S.says S.number self.now tables.old line.now) }
         ensures err { OnErr result (tables.new ≡ tables.old) }
         ensures late { IfErr result (λ fault. fault ≡ StoreFault.Store
-            → is_done (steps_of S.says S.number self.now tables.old line.now).1 ≡ true) }
+            → may_be_late tables.old.step_limit
+            (steps_of S.says S.number self.now tables.old line.now).1 ≡ true) }
     {
         let Some(tree) = read_line(self.alloc, line)? else {
             return Ok(SiteReply::Refused(Refusal::BadCommand));
@@ -134,7 +146,8 @@ impl<'p, S: Stated> Setup<'p, S> {
             (engine_of S.says S.number self.now) (calls_of self.now) tables.old
             (Some (asked_by command.entry))) }
         ensures err { OnErr result (tables.new ≡ tables.old) }
-        ensures late { IfErr result (λ fault. fault ≡ StoreFault.Store → is_done (carried_out
+        ensures late { IfErr result (λ fault. fault ≡ StoreFault.Store
+            → may_be_late tables.old.step_limit (carried_out
             (engine_of S.says S.number self.now) (calls_of self.now) tables.old
             (Some (asked_by command.entry))).1 ≡ true) }
     {

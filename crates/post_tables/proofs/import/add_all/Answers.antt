@@ -48,8 +48,7 @@ returns-in_err-commit-clause-err c =
 pub returns-clause-site : goal.returns-clause-site
 returns-clause-site c =
     let end = c.commit.new.self.0 in
-    let limit : end.step_limit ≡ c.args.conn.now.step_limit = c.commit.ensures.survives.limit ∙ c.in_ok-add_records.ensures.made.limit ∙ ap (λ h. h.step_limit) c.transaction-tx.ensures.begun in
-    let both = committed_site c.add_records.new.tx.conn.now end c.in_ok-add_records.ensures.made.holds (limit ∙ c.requires.unlimited) (c.in_ok-commit.ensures.ok (memory_is_clean end)).1 in
+    let both = committed_site c.add_records.new.tx.conn.now end c.in_ok-add_records.ensures.made.holds c.commit.ensures.survives.limit (c.in_ok-commit.ensures.ok (memory_is_clean end)).1 in
     let same : end ≡ c.conn-2-1.given.0 = search rules in
     subst IsSite same both.0
 
@@ -57,8 +56,7 @@ pub returns-clause-ok : goal.returns-clause-ok
 returns-clause-ok c =
     let end = c.commit.new.self.0 in
     let made = c.in_ok-add_records.ensures.made in
-    let limit : end.step_limit ≡ c.args.conn.now.step_limit = c.commit.ensures.survives.limit ∙ made.limit ∙ ap (λ h. h.step_limit) c.transaction-tx.ensures.begun in
-    let both = committed_site c.add_records.new.tx.conn.now end made.holds (limit ∙ c.requires.unlimited) (c.in_ok-commit.ensures.ok (memory_is_clean end)).1 in
+    let both = committed_site c.add_records.new.tx.conn.now end made.holds c.commit.ensures.survives.limit (c.in_ok-commit.ensures.ok (memory_is_clean end)).1 in
     let same : end ≡ c.conn-2-1.given.0 = search rules in
     subst (λ h. rows_of h ≡ with_records c.args.records.now (rows_of c.args.conn.now)) same
     (both.1 ∙ made.rows ∙ ap (λ h. with_records c.args.records.now (rows_of h)) c.transaction-tx.ensures.begun)

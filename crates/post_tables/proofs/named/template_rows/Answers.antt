@@ -3,7 +3,7 @@ use Rattle.sqlite.proofs.Callers.{memory_is_clean}
 use Rattle.post_tables.proofs.Statements.{reads}
 use Rattle.post_tables.proofs.NamedTable.{templates}
 use Rattle.post_tables.proofs.NamedReading.{names_safe}
-use Rattle.post_tables.proofs.Refusing.{read_memory}
+use Rattle.post_tables.proofs.Refusing.{read_stopped}
 use Rattle.post_tables.proofs.NamedSteps.{templates_readable, templates_text, templates_is, templates_rows}
 use Rattle.post_tables.proofs.named.template_rows.Goals as goal
 
@@ -19,5 +19,5 @@ returns-clause-rows c = templates_rows c.args.conn.now c.query_all.new.self c.re
 pub returns-clause-readable : goal.returns-clause-readable
 returns-clause-readable c = templates_readable c.args.conn.now c.query_all.new.self c.requires c.query_all.result (c.query_all.ensures.ok (memory_is_clean c.query_all.new.self))
 
-pub returns-clause-memory : goal.returns-clause-memory
-returns-clause-memory c = read_memory c.args.conn.now c.query_all.new.self templates_text [] (names_safe templates templates_text templates_is) c.requires c.query_all.result (c.query_all.ensures.err (memory_is_clean c.query_all.new.self))
+pub returns-clause-stopped : goal.returns-clause-stopped
+returns-clause-stopped c = read_stopped c.args.conn.now c.query_all.new.self templates_text [] (names_safe templates templates_text templates_is) c.requires c.query_all.result (c.query_all.ensures.err (memory_is_clean c.query_all.new.self))

@@ -1,6 +1,6 @@
 use Rattle.sqlite.proofs.Callers.{memory_is_clean}
 use Rattle.post_tables.proofs.Statements.{reads}
-use Rattle.post_tables.proofs.Refusing.{read_memory}
+use Rattle.post_tables.proofs.Refusing.{read_stopped}
 use Rattle.post_tables.proofs.Finding.{find_text, find_plain, find_safe, id_given, found}
 use Rattle.post_tables.proofs.posts.id_rows.Goals as goal
 
@@ -13,5 +13,5 @@ returns-clause-reads c =
 pub returns-clause-found : goal.returns-clause-found
 returns-clause-found c = found c.args.conn.now c.query_all.new.self c.args.id c.requires.holds c.query_all.result (rw (c.params-to_sql.ensures) at (c.query_all.ensures.ok (memory_is_clean c.query_all.new.self)))
 
-pub returns-clause-memory : goal.returns-clause-memory
-returns-clause-memory c = read_memory c.args.conn.now c.query_all.new.self find_text (id_given c.args.id) (find_safe c.args.id) c.requires c.query_all.result (rw (c.params-to_sql.ensures) at (c.query_all.ensures.err (memory_is_clean c.query_all.new.self)))
+pub returns-clause-stopped : goal.returns-clause-stopped
+returns-clause-stopped c = read_stopped c.args.conn.now c.query_all.new.self find_text (id_given c.args.id) (find_safe c.args.id) c.requires c.query_all.result (rw (c.params-to_sql.ensures) at (c.query_all.ensures.err (memory_is_clean c.query_all.new.self)))

@@ -1,6 +1,6 @@
 use Rattle.sqlite.proofs.Callers.{memory_is_clean}
 use Rattle.post_tables.proofs.Statements.{reads}
-use Rattle.post_tables.proofs.Refusing.{read_memory}
+use Rattle.post_tables.proofs.Refusing.{read_stopped}
 use Rattle.post_tables.proofs.Finding.{post_readable, post_safe, post_text, post_plain, post_rows, id_given}
 use Rattle.post_tables.proofs.posts.post_rows.Goals as goal
 
@@ -16,5 +16,5 @@ returns-clause-rows c = post_rows c.args.conn.now c.query_all.new.self c.require
 pub returns-clause-readable : goal.returns-clause-readable
 returns-clause-readable c = post_readable c.args.conn.now c.query_all.new.self c.requires.holds c.args.id c.query_all.result (rw (c.params-to_sql.ensures) at (c.query_all.ensures.ok (memory_is_clean c.query_all.new.self)))
 
-pub returns-clause-memory : goal.returns-clause-memory
-returns-clause-memory c = read_memory c.args.conn.now c.query_all.new.self post_text (id_given c.args.id) (post_safe c.args.id) c.requires c.query_all.result (rw (c.params-to_sql.ensures) at (c.query_all.ensures.err (memory_is_clean c.query_all.new.self)))
+pub returns-clause-stopped : goal.returns-clause-stopped
+returns-clause-stopped c = read_stopped c.args.conn.now c.query_all.new.self post_text (id_given c.args.id) (post_safe c.args.id) c.requires c.query_all.result (rw (c.params-to_sql.ensures) at (c.query_all.ensures.err (memory_is_clean c.query_all.new.self)))

@@ -1,7 +1,7 @@
 use Rattle.std.proofs.Common.{[]}
 use Rattle.sqlite.proofs.Callers.{memory_is_clean}
 use Rattle.post_tables.proofs.Statements.{reads}
-use Rattle.post_tables.proofs.Refusing.{read_memory}
+use Rattle.post_tables.proofs.Refusing.{read_stopped}
 use Rattle.post_tables.proofs.TopLemmas.{top_readable, top_safe, top_text, top_plain, top_rows}
 use Rattle.post_tables.proofs.posts.top_rows.Goals as goal
 
@@ -17,5 +17,5 @@ returns-clause-rows c = top_rows c.args.conn.now c.query_all.new.self c.query_al
 pub returns-clause-readable : goal.returns-clause-readable
 returns-clause-readable c = top_readable c.args.conn.now c.query_all.new.self c.query_all.result c.requires (c.query_all.ensures.ok (memory_is_clean c.query_all.new.self))
 
-pub returns-clause-memory : goal.returns-clause-memory
-returns-clause-memory c = read_memory c.args.conn.now c.query_all.new.self top_text [] top_safe c.requires c.query_all.result (c.query_all.ensures.err (memory_is_clean c.query_all.new.self))
+pub returns-clause-stopped : goal.returns-clause-stopped
+returns-clause-stopped c = read_stopped c.args.conn.now c.query_all.new.self top_text [] top_safe c.requires c.query_all.result (c.query_all.ensures.err (memory_is_clean c.query_all.new.self))

@@ -1,23 +1,16 @@
-use Rattle.std.proofs.Common.{rules, ◌≡◌, ◌∙◌}
-use Rattle.std.proofs.lemmas.Result.{IfOk-weaker}
-use Rattle.site_replies.specs.Reply.{answer_of}
-use Rattle.site_program.specs.Step.{got}
-use Rattle.site_program.specs.Requests.{page_of, options_of, templates_of, active_of, found_by}
+use Rattle.std.proofs.lemmas.Result.{IfOk-weaker, IfErr-weaker}
 use Rattle.site_program.specs.Site.{engine_of, calls_of}
-use Rattle.site_program.proofs.Pages.{got-short}
+use Rattle.site_program.proofs.Pages.{got-short, got-late}
 use Rattle.site_program.proofs.setup.Setup.get.Goals as goal
 
 pub returns-clause-ok : goal.returns-clause-ok
 returns-clause-ok g c =
     let engine = engine_of g.S.Stated.says g.S.Stated.number c.args.self.now in
     let calls = calls_of c.args.self.now in
-    let rows = c.args.tables.now in
-    let same : c.active.new.self ≡ rows = c.active.ensures.same ∙ c.templates.ensures.same ∙ c.found_by.ensures.same ∙ c.options.ensures.same in
-    let o : c.as_slice-2.result.now ≡ options_of rows = search rules in
-    let t : c.as_slice-3.result.now ≡ templates_of rows = search rules in
-    let a : c.as_slice-4.result.now ≡ active_of rows = search rules in
-    let f : c.in_ok-found.found ≡ found_by rows c.args.path.now = search rules in
-    IfOk-weaker c.answer_to.result (λ reply. answer_of reply ≡ page_of engine calls c.in_ok-found.found c.as_slice-2.result.now c.as_slice-3.result.now c.as_slice-4.result.now)
-    (λ reply. (c.active.new.self, answer_of reply) ≡ got engine calls rows c.args.path.now)
-    (λ reply is. got-short engine calls rows c.args.path.now c.active.new.self (answer_of reply) c.in_ok-found.found c.as_slice-2.result.now c.as_slice-3.result.now c.as_slice-4.result.now c.if-path-gt-MAX_PATH.false same f o t a is)
-    c.answer_to.ensures.ok
+    IfOk-weaker c.page_at.result _ _ (λ reply is. got-short engine calls c.args.tables.now c.args.path.now c.page_at.new.tables _ c.if-path-gt-MAX_PATH.false c.page_at.ensures.same is) c.page_at.ensures.ok
+
+pub returns-clause-late : goal.returns-clause-late
+returns-clause-late g c =
+    let engine = engine_of g.S.Stated.says g.S.Stated.number c.args.self.now in
+    let calls = calls_of c.args.self.now in
+    IfErr-weaker c.page_at.result _ _ (λ why stopped. got-late engine calls c.args.tables.now c.args.path.now c.if-path-gt-MAX_PATH.false why stopped) c.page_at.ensures.stopped

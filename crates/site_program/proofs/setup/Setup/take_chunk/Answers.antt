@@ -58,6 +58,7 @@ loop-end-preserved g c =
       line = rw c.in_ok-finish_line.ensures.empty IsLine-nil;
       room = rw c.in_ok-finish_line.ensures.empty (λ h. absurd (omega arith));
       sound = search rules;
+      limit = c.in_ok-finish_line.ensures.limit ∙ i.limit;
     }
 
 -- the line found no memory, or its reply was not written
@@ -114,6 +115,7 @@ loop-end-init g c = record {
   line = c.requires.line;
   room = c.requires.room;
   sound = c.requires.whole;
+  limit = refl;
 }
 
 -- what is held leaves room within a line

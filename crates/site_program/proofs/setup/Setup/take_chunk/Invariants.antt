@@ -15,6 +15,7 @@ invariant-loop-end g l =
       line : IsLine l.held.items;
       room : 0 < length l.held.items → 0 < l.left;
       sound : g.W.Sink.has_failed l.writer ≡ false;
+      limit : l.tables.step_limit ≡ l.fn.tables.step_limit;
     }
 
 abbrev pub decreases-loop-end : goal.decreases-loop-end

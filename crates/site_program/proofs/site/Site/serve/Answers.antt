@@ -20,6 +20,7 @@ chunks-preserved g c =
       taken = Takes-trans _ _ _ _ _ _ _ _ _ _ _ _ _ _ i.taken ok.ok;
       line = ok.line;
       room = ok.room;
+      limit = ok.limit ∙ i.limit;
       reader_sound = search rules;
       writer_sound = search rules;
     }
