@@ -5,7 +5,9 @@ use Rattle.hook_changes.specs.declared.reply.Change.{Change}
 use Rattle.hook_changes.specs.declared.reply.Reply.{Reply}
 use Rattle.hook_changes.specs.declared.reply.Change.TheVariants.{Add, Remove, RemoveAll}
 use Rattle.hook_changes.specs.declared.reply.Then.TheVariants as next
+use Rattle.hook_machine.specs.World.{Text}
 use Rattle.hook_machine.specs.Meaning.{first_or_empty}
+use Rattle.engine_tests.specs.Asking.{asking}
 
 abbrev pub the_title : List ℕ
 the_title = codes "the_title"
@@ -26,10 +28,10 @@ letter number =
     (if number == 103 then codes "c" else
     (if number == 104 then codes "x" else codes "r")))
 
+-- a reply that changes what is registered, and answers the value with a letter after it
+abbrev pub lettered : ℕ → Text → Reply
+lettered number value = record { changes = changes number value; echo = []; next = next.Answer (value ++ letter number) }
+
 -- what the test callback with that number replies
 unfoldable pub tested : ℕ → Call → Reply
-tested number call = record {
-  changes = changes number (first_or_empty call.args);
-  echo = [];
-  next = next.Answer (first_or_empty call.args ++ letter number);
-}
+tested number call = if nat_lt 200 number then asking number call else lettered number (first_or_empty call.args)

@@ -1,8 +1,9 @@
 //! The test callbacks.
 ghost use Rattle.std.specs.Prelude.{◌≡◌, IfOk};
 ghost use Rattle.hook_machine.specs.Meaning.{first_or_empty};
-ghost use Rattle.engine_tests.specs.Tested.{tested, changes, letter};
+ghost use Rattle.engine_tests.specs.Tested.{tested, lettered, changes, letter};
 
+use crate::asking::asking;
 use callback_store::Stated;
 use hook_changes::{Call, CallbackId, Change, Listed, Reply, Text, Then};
 use std::alloc::{AllocError, Global};
@@ -29,18 +30,27 @@ impl Stated for Tested {
         if number == 106 {
             return Err(AllocError);
         }
-        let value = first_argument(call);
-        let mut text = Text::copied(alloc, value)?;
-        text.push_str(letter(number))?;
-        Ok(Reply {
-            changes: changes(alloc, number, value)?,
-            echo: Text::empty(alloc),
-            next: Then::Answer(text),
-        })
+        if number > 200 {
+            return asking(alloc, number, call);
+        }
+        lettered(alloc, number, first_argument(call))
     }
 }
 
-fn first_argument(call: &Call) -> &str
+fn lettered(alloc: Global, number: u32, value: &str) -> Result<Reply, AllocError>
+    ensures { IfOk result (λ reply. reply ≡ lettered number value.now) }
+{
+    let mut text = Text::copied(alloc, value)?;
+    text.push_str(letter(number))?;
+    Ok(Reply {
+        changes: changes(alloc, number, value)?,
+        echo: Text::empty(alloc),
+        next: Then::Answer(text),
+    })
+}
+
+/// The first argument, or empty text.
+pub fn first_argument(call: &Call) -> &str
     ensures { result.now ≡ first_or_empty call.entry.now.args }
 {
     match call.args.as_slice() {

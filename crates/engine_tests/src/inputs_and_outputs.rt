@@ -4,7 +4,7 @@ ghost use Rattle.std.specs.Prelude.{◌≡◌, Some};
 use crate::expecting::Expecting;
 use ends::{Reading, Sink, Source, Writing, write_all, write_pieces};
 use std::io;
-use std::io::{ErrorKind, Read};
+use std::io::{ErrorKind, Read, Write};
 
 // A reader of std that gives its bytes, and fails when they are all read.
 #[derive(Drop)]
@@ -18,6 +18,42 @@ impl<'a> Read for Broken<'a> {
             return Err(io::Error::from(ErrorKind::Other));
         }
         self.0.read(buf)
+    }
+}
+
+/// A reader of std that fails at its first read, and then gives its bytes.
+#[derive(Drop)]
+struct FailsOnce<'a> {
+    has_failed: bool,
+    rest: &'a [u8],
+}
+
+impl<'a> Read for FailsOnce<'a> {
+    fn read(&mut self, buf: &mut [u8]) -> io::Result<usize> {
+        if self.has_failed {
+            return self.rest.read(buf);
+        }
+        self.has_failed = true;
+        Err(io::Error::from(ErrorKind::Other))
+    }
+}
+
+/// A writer of std that takes all that it is given, but for one write of which it takes nothing. It counts its writes.
+#[derive(Drop)]
+struct TakesNothing<'a> {
+    at: u32,
+    writes: &'a mut u32,
+}
+
+impl<'a> Write for TakesNothing<'a> {
+    fn write(&mut self, buf: &[u8]) -> io::Result<usize> {
+        let at = *self.writes;
+        *self.writes = at.saturating_add(1);
+        Ok(if at == self.at { 0 } else { buf.len() })
+    }
+
+    fn flush(&mut self) -> io::Result<()> {
+        Ok(())
     }
 }
 
@@ -57,9 +93,39 @@ fn writes_to_a_fault() -> bool {
     counts == [Some(2), Some(0), None] && &room == b"ab"
 }
 
+// A reader that fails is told as a fault at once, even if it would give bytes at the next read: what is read before a
+// fault never has a gap.
+fn tells_a_fault_once() -> bool {
+    let mut source = Reading::new(FailsOnce {
+        has_failed: false,
+        rest: b"ab",
+    });
+    source.read(&mut [0u8; 2]).is_err() && gives(&mut source, b"ab") && gives(&mut source, b"")
+}
+
 #[test]
 fn ends_of_std(rt: HostRuntime) {
-    assert!(rt; reads_to_the_end_or_a_fault() && writes_to_a_fault());
+    assert!(rt; reads_to_the_end_or_a_fault() && tells_a_fault_once() && writes_to_a_fault());
+}
+
+/// Whether two long pieces and a short one are written, and in how many writes, if the one at this place takes nothing:
+/// it is the last.
+fn writes_until(at: u32) -> (bool, u32) {
+    let long = [b'x'; 2000];
+    let mut writes = 0;
+    let mut sink = Writing::new(TakesNothing {
+        at,
+        writes: &mut writes,
+    });
+    let is_written = write_pieces(&mut sink, &[&long, b"\n", &long]).is_ok();
+    drop(sink);
+    (is_written, writes)
+}
+
+#[test]
+fn a_write_that_takes_nothing_is_the_last(rt: HostRuntime) {
+    assert!(rt; writes_until(0) == (false, 1) && writes_until(1) == (false, 2));
+    assert!(rt; writes_until(2) == (false, 3) && writes_until(3) == (true, 3));
 }
 
 #[test]

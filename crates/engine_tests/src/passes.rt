@@ -227,7 +227,8 @@ static CASES: [Case; 23] = [
     Case([No, No, No], NONE, false, 0, Ok(""), Ok(""), PLAIN),
 ];
 
-fn texts(alloc: Global, texts: &[&str]) -> Result<Listed<Text>, AllocError> {
+/// These texts.
+pub fn texts(alloc: Global, texts: &[&str]) -> Result<Listed<Text>, AllocError> {
     let mut listed = Listed::empty(alloc);
     for text in texts {
         listed.push(Text::copied(alloc, text)?)?;

@@ -1,8 +1,19 @@
 //! Plugins over the test callbacks.
 use crate::callbacks::Tested;
+use crate::names::{LONGEST, TOO_LONG};
 use callback_store::{Plugin, PluginFault, Plugins};
 use hook_changes::{CallbackId, Change, Listed, Text};
 use std::alloc::{AllocError, Global};
+
+/// A hook of a load list. A variant and not its name, since a table can't hold an array of what has references.
+#[derive(Clone, Copy)]
+pub enum Hook {
+    Title,
+    In,
+    Longest,
+    TooLong,
+    Empty,
+}
 
 /// A place in a load list.
 #[derive(Clone, Copy)]
@@ -11,6 +22,8 @@ pub enum Load {
     No,
     /// Adds a callback to `the_title` at a priority, with one argument.
     Add(i32, u32),
+    /// Adds a callback to a hook at a priority, with an accepted count.
+    On(Hook, i32, u32, u8),
     /// Adds the tag `t` with its handler.
     Tag(u32),
 }
@@ -60,19 +73,40 @@ fn load_list(alloc: Global, changes: &[Load]) -> Result<Listed<Change>, AllocErr
     for change in changes {
         match *change {
             Load::No => {}
-            Load::Add(priority, number) => load.push(addition(alloc, priority, number)?)?,
+            Load::Add(priority, number) => {
+                load.push(addition(alloc, "the_title", priority, number, 1)?)?;
+            }
+            Load::On(hook, priority, number, accepted) => {
+                load.push(addition(alloc, name_of(hook), priority, number, accepted)?)?;
+            }
             Load::Tag(number) => load.push(tag(alloc, number)?)?,
         }
     }
     Ok(load)
 }
 
-fn addition(alloc: Global, priority: i32, number: u32) -> Result<Change, AllocError> {
+fn name_of(hook: Hook) -> &'static str {
+    match hook {
+        Hook::Title => "the_title",
+        Hook::In => "in",
+        Hook::Longest => LONGEST,
+        Hook::TooLong => TOO_LONG,
+        Hook::Empty => "",
+    }
+}
+
+fn addition(
+    alloc: Global,
+    hook: &str,
+    priority: i32,
+    number: u32,
+    accepted: u8,
+) -> Result<Change, AllocError> {
     Ok(Change::Add {
-        hook: Text::copied(alloc, "the_title")?,
+        hook: Text::copied(alloc, hook)?,
         priority,
         callback: CallbackId::new(number),
-        accepted: 1,
+        accepted,
     })
 }
 

@@ -2,12 +2,13 @@
 //! defaults of a handler (shortcode_atts).
 #![tactic(auto)]
 
-ghost use Rattle.std.specs.Prelude.{◌≡◌, ℕ, List, map, option_map, slice_get};
-ghost use Rattle.std.specs.Prelude.{string_bytes, unwrap_or, Some, None, IfOk, OnOk};
+ghost use Rattle.std.specs.Prelude.{◌≡◌, ℕ, List, [], ◌∷◌, ◌++◌, map, option_map, slice_get};
+ghost use Rattle.std.specs.Prelude.{string_bytes, unwrap_or, Some, None, IfOk, OnOk, true, false};
+ghost use Rattle.std.specs.List.{All};
 ghost use Rattle.shortcode_atts.specs.Attributes.{Attributes, attributes, add, add_under, value_of};
 ghost use Rattle.shortcode_atts.specs.Attributes.{pair_or, with_defaults, no_attributes, pair_bytes};
 ghost use Rattle.shortcode_atts.specs.Found.{item_now, pair_now};
-ghost use Rattle.shortcode_atts.specs.Items.{Item, IsItems, items_of};
+ghost use Rattle.shortcode_atts.specs.Items.{Item, IsItems, items_of, is_blank, begins_blank, spaced};
 
 use indexmap::IndexMap;
 use std::alloc::{AllocError, Global};
@@ -176,4 +177,13 @@ pub fn parse(alloc: Global, text: &str) -> Result<Atts, AllocError>
 pub fn one_list_of_items()
     ensures items { (text : List ℕ) → IsItems text (items_of text) }
     ensures only { (text : List ℕ) (items : List Item) → IsItems text items → items ≡ items_of text }
+{}
+
+/// A law: a run of blanks becomes one space, however many they are and whichever of the two, and every other character
+/// stays as it is (Code Reference, shortcode_parse_atts). The call does nothing: it carries these equations.
+pub fn a_run_of_blanks_is_one_space()
+    ensures run { (blank : ℕ) (blanks rest : List ℕ) → All (λ c. is_blank c ≡ true) (blank ∷ blanks)
+        → begins_blank rest ≡ false → spaced (blank ∷ blanks ++ rest) ≡ 32 ∷ spaced rest }
+    ensures other { (c : ℕ) (rest : List ℕ) → is_blank c ≡ false → spaced (c ∷ rest) ≡ c ∷ spaced rest }
+    ensures end { spaced [] ≡ [] }
 {}
