@@ -38,7 +38,7 @@ impl Stated for Bundled {
 
 /// The active plugin, the title and content of the one post if there is one, how many calls a page has, how many turns
 /// stop after a callback, and what the next turn gives: a page, or a fault that each later turn gives too.
-struct Case(
+pub struct Case(
     &'static str,
     Option<(&'static str, &'static str)>,
     u32,
@@ -46,7 +46,7 @@ struct Case(
     Result<&'static str, RunFault>,
 );
 
-static CASES: [Case; 9] = [
+pub static CASES: [Case; 9] = [
     // Nothing is invoked.
     Case("", None, 10_000, 0, Ok("<p>Nothing found.</p>")),
     // Two callbacks of the title, and core's of the content.
@@ -102,7 +102,7 @@ fn callbacks(alloc: Global) -> Result<Listed<Bundled>, AllocError>
     Ok(Listed::new(callbacks))
 }
 
-fn plugins(alloc: Global) -> Result<Plugins<Bundled>, PluginFault> {
+pub fn plugins(alloc: Global) -> Result<Plugins<Bundled>, PluginFault> {
     let Ok(callbacks) = callbacks(alloc) else {
         return Err(PluginFault::OutOfMemory);
     };
@@ -157,7 +157,7 @@ fn active(alloc: Global, name: &str) -> Result<Listed<Text>, AllocError> {
 }
 
 /// A run of the case, with its plugins loaded.
-fn loaded<'p>(
+pub fn loaded<'p>(
     alloc: Global,
     plugins: &'p Plugins<Bundled>,
     case: &Case,
