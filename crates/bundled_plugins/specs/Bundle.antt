@@ -18,7 +18,8 @@ atts = plugin (codes "atts") (AddTag (codes "show") 23 ∷ AddTag (codes "link")
 abbrev pub bold : Shape
 bold =
     plugin (codes "bold")
-    (AddTag (codes "b") 17 ∷ AddTag (codes "i") 18 ∷ AddTag (codes "raw") 19 ∷ AddTag (codes "off") 20 ∷ AddTag (codes "alloff") 21 ∷ AddTag (codes "hush") 22 ∷ [])
+    (AddTag (codes "b") 17 ∷ AddTag (codes "i") 18 ∷ AddTag (codes "raw") 19 ∷ AddTag (codes "off") 20 ∷ AddTag (codes "alloff") 21 ∷ AddTag (codes "hush") 22
+    ∷ [])
     (17 ∷ 18 ∷ 19 ∷ 20 ∷ 21 ∷ 22 ∷ [])
 
 abbrev pub deep : Shape

@@ -13,7 +13,7 @@ abbrev pub first_argument : List Text → Text
 first_argument [] = []
 first_argument (value ∷ more) = value
 
--- the second argument where there is one
+-- the second argument if there is one
 abbrev pub second_argument : List Text → Text
 second_argument [] = []
 second_argument (value ∷ more) = first_argument more

@@ -17,7 +17,7 @@ the_title = codes "the_title"
 abbrev pub wp_footer : Text
 wp_footer = codes "wp_footer"
 
--- number 7 of `nest`: takes itself out and asks for a pass of its own hook, and then puts itself back behind the others
+-- number 7 of `nest`: takes itself out and asks for a pass of its own hook, and then puts itself back after the others
 abbrev pub asks_its_own_hook : Text → List Answer → Reply
 asks_its_own_hook value [] = changes_and_asks (Remove the_title (pos 11) 7 ∷ []) (Apply the_title [] [])
 asks_its_own_hook value (first ∷ more) =
@@ -55,7 +55,7 @@ questions =
     ∷ GetOption (codes "blogname")
     ∷ []
 
--- the next question where there is one, and then the answers
+-- the next question if there is one, and then the answers
 abbrev pub asks_or_lists : Option Ask → List Answer → Reply
 asks_or_lists (Some ask) answers = asks ask
 asks_or_lists None answers = answers_text (listed (take 6 answers))
@@ -100,7 +100,11 @@ stated =
     ∷ (8, λ call. answers_text (first_argument call.args ++ codes "3"))
     ∷ (9, λ call. answers_text (first_argument call.args ++ codes "4"))
     -- grow
-    ∷ (10, λ call. changes_and_answers (Add the_title (pos 5) 11 1 ∷ Add the_title (pos 10) 12 1 ∷ Add the_title (pos 20) 13 1 ∷ []) (first_argument call.args ++ codes "a"))
+    ∷ (
+      10,
+      λ call. changes_and_answers (Add the_title (pos 5) 11 1 ∷ Add the_title (pos 10) 12 1 ∷ Add the_title (pos 20) 13 1 ∷ [])
+          (first_argument call.args ++ codes "a"),
+    )
     ∷ (11, λ call. answers_text (first_argument call.args ++ codes "5"))
     ∷ (12, λ call. answers_text (first_argument call.args ++ codes "9"))
     ∷ (13, λ call. answers_text (first_argument call.args ++ codes "7"))

@@ -7,7 +7,7 @@ use hook_changes::{Answer, Call, Reply, Text};
 use itoa::Buffer;
 use std::alloc::{AllocError, Global};
 
-/// The first argument, or empty text where there is none.
+/// The first argument, or empty text if there is none.
 pub fn first_argument(call: &Call) -> &str
     ensures { result.now ≡ first_argument call.entry.now.args }
 {
@@ -17,7 +17,7 @@ pub fn first_argument(call: &Call) -> &str
     }
 }
 
-/// The second argument, or empty text where there is none.
+/// The second argument, or empty text if there is none.
 pub fn second_argument(call: &Call) -> &str
     ensures { result.now ≡ second_argument call.entry.now.args }
 {
@@ -27,7 +27,7 @@ pub fn second_argument(call: &Call) -> &str
     }
 }
 
-/// The text of an answer, or empty text where it is another one.
+/// The text of an answer, or empty text if it is another one.
 pub fn text_in(answer: &Answer) -> &str
     ensures { result.now ≡ text_in answer.entry.now }
 {
@@ -37,7 +37,7 @@ pub fn text_in(answer: &Answer) -> &str
     }
 }
 
-/// Puts these texts behind a text.
+/// Appends these texts to a text.
 pub fn push_all(text: &mut Text, parts: &[&str]) -> Result<(), AllocError>
     ensures { OnOk result (text.new ≡ text.old ++ flat_map (λ part. part.now) parts.now) }
 {
@@ -56,7 +56,7 @@ pub fn joined(alloc: Global, parts: &[&str]) -> Result<Text, AllocError>
     Ok(text)
 }
 
-/// Puts an answer behind a text, as it is shown: a text as it is, a number in decimal, a flag as `1` or `0`, and the
+/// Appends an answer to a text, as it is shown: a text as it is, a number in decimal, a flag as `1` or `0`, and the
 /// answer to an action as `-`.
 pub fn show(text: &mut Text, answer: &Answer) -> Result<(), AllocError>
     ensures { OnOk result (text.new ≡ text.old ++ shown answer.now) }
@@ -81,7 +81,7 @@ pub fn listed(alloc: Global, answers: &[Answer]) -> Result<Text, AllocError>
     Ok(text)
 }
 
-/// Puts further answers behind a text, each with a comma before it.
+/// Appends further answers to a text, each with a comma before it.
 fn show_more(text: &mut Text, answers: &[Answer]) -> Result<(), AllocError>
     ensures { OnOk result (text.new ≡ text.old ++ flat_map (λ next. codes "," ++ shown next) answers.now) }
 {

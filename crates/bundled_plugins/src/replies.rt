@@ -5,8 +5,10 @@ ghost use Rattle.hook_changes.specs.declared.reply.Change.{Change};
 ghost use Rattle.hook_changes.specs.declared.reply.Ask.{Ask};
 ghost use Rattle.hook_changes.specs.Replies.{answers_text, changes_and_asks};
 ghost use Rattle.bundled_plugins.specs.Calls.{shown};
-ghost use Rattle.bundled_plugins.specs.Replies.{says, reply_in, the_title, asks_its_own_hook, replaces_content, attributes_listed, named_listed};
-ghost use Rattle.bundled_plugins.specs.Replies.{positional_listed, link, asks_in_turn, is_run_of_d, in_parentheses, goes_deeper, counts_pings};
+ghost use Rattle.bundled_plugins.specs.Replies.{says, reply_in, the_title, asks_its_own_hook, replaces_content};
+ghost use Rattle.bundled_plugins.specs.Replies.{attributes_listed, named_listed};
+ghost use Rattle.bundled_plugins.specs.Replies.{positional_listed, link, asks_in_turn, is_run_of_d, in_parentheses};
+ghost use Rattle.bundled_plugins.specs.Replies.{goes_deeper, counts_pings};
 ghost use Rattle.bundled_plugins.specs.Rows.{replies_of, AreStated};
 
 use crate::calls::{answer, first_argument, joined, listed, push_all, show, text_in};
@@ -295,7 +297,7 @@ fn list_attributes(alloc: Global, atts: &Atts) -> Result<Reply, AllocError>
     Ok(Reply::answer(alloc, text))
 }
 
-/// Puts the attributes with a name behind a text.
+/// Appends the attributes with a name to a text.
 fn push_named(text: &mut Text, atts: &Atts) -> Result<(), AllocError>
     ensures { OnOk result (text.new ≡ text.old ++ named_listed atts.now.named) }
 {
@@ -309,7 +311,7 @@ fn push_named(text: &mut Text, atts: &Atts) -> Result<(), AllocError>
     Err(AllocError)
 }
 
-/// Puts values without a name behind a text.
+/// Appends values without a name to a text.
 fn push_positional(text: &mut Text, values: &[String]) -> Result<(), AllocError>
     ensures { OnOk result (text.new ≡ text.old ++ positional_listed (map string_bytes values.now)) }
 {

@@ -1,4 +1,4 @@
-// The entries of a group, which a plan and its passes share.
+//! The entries of a group, which a plan and its passes share.
 ghost use Rattle.std.specs.Prelude.{◌≡◌, ◌∷◌, [], ◌==◌, not, filter, length, drop, IfOk, MatchOption};
 ghost use Rattle.call_plans.specs.Entries.{with_entry};
 

@@ -1,4 +1,4 @@
-// The callbacks of a hook at one priority.
+//! The callbacks of a hook at one priority.
 ghost use Rattle.std.specs.Prelude.{◌≡◌, int_lt};
 ghost use Rattle.std.specs.Ordering.{int_eq};
 

@@ -1,4 +1,4 @@
-// The groups of one hook.
+//! The groups of one hook.
 ghost use Rattle.std.specs.Prelude.{◌≡◌, ◌<◌, [], true, false, not, length, map};
 ghost use Rattle.std.specs.Prelude.{filter, None, Some, OnOk, OnErr, MatchOption, MatchResult};
 ghost use Rattle.hook_registry.specs.Table.{with_added, is_at, is_of, is_other, is_above, entry_of, least_priority};

@@ -1,4 +1,4 @@
-// The plans of every hook.
+//! The plans of every hook.
 ghost use Rattle.std.specs.Prelude.{◌≡◌, [], None, Some, IfOk, OnOk, OnErr, MatchOption};
 ghost use Rattle.hook_registry.specs.Named.{value_of};
 ghost use Rattle.hook_registry.specs.Table.{add, remove, remove_all, group, next_priority};

@@ -1,4 +1,4 @@
-// Where a pass is.
+//! If a pass is.
 ghost use Rattle.std.specs.Prelude.{◌≡◌, [], None};
 
 use crate::entries::EntriesLeft;

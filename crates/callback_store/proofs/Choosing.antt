@@ -36,7 +36,8 @@ module _ {S : Type 0} (number : S → ℕ) (list : List (Plugin S)) where
 
   -- the first of four tests that holds names the fault
   chosen : (a b c d : Bool) → Many a → BadNames b → SameNames c → SameCallbacks d
-      → fault_of (map (shape_of number) list) ≡ (if a then Some TooMany else (if b then Some BadName else (if c then Some SameName else (if d then Some SameCallback else None))))
+      → fault_of (map (shape_of number) list) ≡ (if a then Some TooMany else
+      (if b then Some BadName else (if c then Some SameName else (if d then Some SameCallback else None))))
   chosen a b c d ha hb hc hd = rw (many ∙ ha, bad ∙ hb, same ∙ hc, hd) refl
 
   pub too_many : Many true → fault_of (map (shape_of number) list) ≡ Some TooMany

@@ -18,7 +18,7 @@ module _ {X Y : Type 0} (p : Y → Bool) (h : X → Y) where
       ]
 
 module _ {X : Type 0} (p : X → Bool) where
-  -- something is found exactly where something passes
+  -- something is found exactly if something passes
   pub is_some-find : (xs : List X) → is_some (find p xs) ≡ list_any p xs
   is_some-find [] = refl
   is_some-find (x ∷ xs) =

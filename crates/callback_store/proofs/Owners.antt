@@ -36,14 +36,16 @@ module _ {S : Type 0} (number : S → ℕ) where
       is_some-mapped None = refl
       is_some-mapped (Some p) = refl
 
-  pub owner_is : (id : ℕ) (list : List (Plugin S)) (o : Option (Plugin S)) → o ≡ find (has id) list → owner (map (shape_of number) list) id ≡ option_map (λ p. p.name) o
+  pub owner_is : (id : ℕ) (list : List (Plugin S)) (o : Option (Plugin S)) → o ≡ find (has id) list
+      → owner (map (shape_of number) list) id ≡ option_map (λ p. p.name) o
   owner_is id list o e = ap (option_map (λ s. s.name)) (found id list ∙ ap (option_map (shape_of number)) (sym e)) ∙ name-mapped o
     where
       name-mapped : (p : Option (Plugin S)) → option_map (λ s. s.name) (option_map (shape_of number) p) ≡ option_map (λ p. p.name) p
       name-mapped None = refl
       name-mapped (Some p) = refl
 
-  pub load_is : (name : List ℕ) (list : List (Plugin S)) (o : Option (Plugin S)) → o ≡ find (λ p. bytes_eq p.name name) list → load_of (map (shape_of number) list) name ≡ option_map (λ p. p.load) o
+  pub load_is : (name : List ℕ) (list : List (Plugin S)) (o : Option (Plugin S)) → o ≡ find (λ p. bytes_eq p.name name) list
+      → load_of (map (shape_of number) list) name ≡ option_map (λ p. p.load) o
   load_is name list o e =
       ap (option_map (λ s. s.load)) (find-map (λ s. bytes_eq s.name name) (shape_of number) list ∙ ap (option_map (shape_of number)) (sym e)) ∙ load-mapped o
     where
@@ -62,12 +64,14 @@ module _ {X : Type 0} (p : X → Bool) where
       ] refl e
 
 module _ {S : Type 0} (number : S → ℕ) where
-  pub found_passes : (id : ℕ) (callbacks : List S) (r : Option (Bor S)) → option_copied r ≡ find (λ c. number c == id) callbacks → IfSome r (λ c. number c.now ≡ id)
+  pub found_passes : (id : ℕ) (callbacks : List S) (r : Option (Bor S)) → option_copied r ≡ find (λ c. number c == id) callbacks
+      → IfSome r (λ c. number c.now ≡ id)
   found_passes id callbacks None e = tt
   found_passes id callbacks (Some c) e = eqb-true (number c.now) id (passes (λ c. number c == id) c.now callbacks e)
 
   -- a plugin that has the callback has one of that number
-  pub finds_one : (id : ℕ) (list : List (Plugin S)) (plugin : Plugin S) (r : Option (Bor S)) → Some plugin ≡ find (has number id) list → option_copied r ≡ find (λ c. number c == id) plugin.callbacks → is_some r ≡ true
+  pub finds_one : (id : ℕ) (list : List (Plugin S)) (plugin : Plugin S) (r : Option (Bor S)) → Some plugin ≡ find (has number id) list
+      → option_copied r ≡ find (λ c. number c == id) plugin.callbacks → is_some r ≡ true
   finds_one id list plugin r e h =
       copied r ∙ ap is_some h ∙ is_some-find (λ c. number c == id) plugin.callbacks ∙ passes (has number id) plugin list e
     where
@@ -84,29 +88,34 @@ any_at test (y ∷ ys) (suc i) x e t = elim (test y) as (λ b. (b || list_any te
 
 module _ {S : Type 0} (number : S → ℕ) where
   -- the callback at a place of the plugin at a place is held
-  pub held_at : (id : ℕ) (ps : List (Plugin S)) (i j : ℕ) (p : Plugin S) (s : S) → slice_get ps i ≡ Some p → slice_get p.callbacks j ≡ Some s → (number s == id) ≡ true
+  pub held_at : (id : ℕ) (ps : List (Plugin S)) (i j : ℕ) (p : Plugin S) (s : S) → slice_get ps i ≡ Some p → slice_get p.callbacks j ≡ Some s
+      → (number s == id) ≡ true
       → is_held (map (shape_of number) ps) id ≡ true
   held_at id ps i j p s e f t =
       list_any-map (has_callback id) (shape_of number) ps
       ∙ any_at (λ q. has_callback id (shape_of number q)) ps i p e (has-shape_of number id p ∙ any_at (λ c. number c == id) p.callbacks j s f t)
 
   -- the callback at a place of a plugin is the plugin's
-  pub has_one_at : (id : ℕ) (p : Plugin S) (j : ℕ) (s : S) → slice_get p.callbacks j ≡ Some s → (number s == id) ≡ true → has_callback id (shape_of number p) ≡ true
+  pub has_one_at : (id : ℕ) (p : Plugin S) (j : ℕ) (s : S) → slice_get p.callbacks j ≡ Some s → (number s == id) ≡ true
+      → has_callback id (shape_of number p) ≡ true
   has_one_at id p j s e t = has-shape_of number id p ∙ any_at (λ c. number c == id) p.callbacks j s e t
 
   -- a plugin of one of the names has the callback, by the plugins themselves
-  pub held_by_names : (names : List (List ℕ)) (id : ℕ) (ps : List (Plugin S)) → is_held_by (map (shape_of number) ps) names id ≡ list_any (λ p. list_any (bytes_eq p.name) names && has number id p) ps
+  pub held_by_names : (names : List (List ℕ)) (id : ℕ) (ps : List (Plugin S))
+      → is_held_by (map (shape_of number) ps) names id ≡ list_any (λ p. list_any (bytes_eq p.name) names && has number id p) ps
   held_by_names names id [] = refl
   held_by_names names id (p ∷ ps) = rw (has-shape_of number id p, held_by_names names id ps) refl
 
   -- a plugin at a place has one of the names, and the callback
-  pub held_by_at : (names : List (List ℕ)) (id : ℕ) (ps : List (Plugin S)) (i : ℕ) (p : Plugin S) → slice_get ps i ≡ Some p → list_any (bytes_eq p.name) names ≡ true → has_callback id (shape_of number p) ≡ true
+  pub held_by_at : (names : List (List ℕ)) (id : ℕ) (ps : List (Plugin S)) (i : ℕ) (p : Plugin S) → slice_get ps i ≡ Some p
+      → list_any (bytes_eq p.name) names ≡ true → has_callback id (shape_of number p) ≡ true
       → is_held_by (map (shape_of number) ps) names id ≡ true
   held_by_at names id ps i p e n h =
       list_any-map (λ q. list_any (bytes_eq q.name) names && has_callback id q) (shape_of number) ps
       ∙ any_at (λ q. list_any (bytes_eq q.name) names && has_callback id (shape_of number q)) ps i p e (rw (n, h) refl)
 
   -- what holds of a list holds of the plugins that keep it
-  pub kept : (P : List (Plugin S) → Type 0) (list : List (Plugin S)) (r : Result (Plugins S) PluginFault) → IfOk r (λ plugins. plugins.list ≡ list) → P list → IfOk r (λ plugins. P plugins.list)
+  pub kept : (P : List (Plugin S) → Type 0) (list : List (Plugin S)) (r : Result (Plugins S) PluginFault) → IfOk r (λ plugins. plugins.list ≡ list) → P list
+      → IfOk r (λ plugins. P plugins.list)
   kept P list (Ok plugins) e h = subst P (sym e) h
   kept P list (Err fault) e h = tt

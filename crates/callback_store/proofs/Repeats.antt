@@ -52,7 +52,8 @@ module _ {X : Type 0} (eq : X → X → Bool) where
   repeats-more seen rest x h =
       rw h (or_turn (list_any (λ y. list_any (eq y) seen) rest) (list_any (λ y. eq y x) rest) (has_repeat eq rest)
       ∙ ap (λ b. b || has_repeat eq rest)
-      (any_or (λ y. list_any (eq y) seen) (λ y. eq y x) rest ∙ any_same (λ y. list_any (eq y) seen || eq y x) (λ y. list_any (eq y) (seen ++ x ∷ [])) (one_more seen x) rest))
+      (any_or (λ y. list_any (eq y) seen) (λ y. eq y x) rest ∙ any_same (λ y. list_any (eq y) seen || eq y x) (λ y. list_any (eq y) (seen ++ x ∷ []))
+      (one_more seen x) rest))
 
 module _ {X Y : Type 0} (eq : Y → Y → Bool) (h : X → Y) where
   pub has_repeat-map : (xs : List X) → has_repeat eq (map h xs) ≡ has_repeat (λ x y. eq (h x) (h y)) xs
@@ -83,5 +84,7 @@ module _ (xs seen new : List ℕ) (i : ℕ) (added : Bool) (passed : seen ≡ ta
   pub is_new : added ≡ true → added ≡ not (list_any (λ k. get_or xs i 0 == k) seen) → list_any (λ k. get_or xs i 0 == k) (take i xs) ≡ false
   is_new t e = rw (← passed) (not_true (list_any (λ k. get_or xs i 0 == k) seen) (sym e ∙ t))
 
-  pub seen-more : i < length xs → added ≡ true → added ≡ not (list_any (λ k. get_or xs i 0 == k) seen) → new ≡ insert_key (λ m n. m == n) seen (get_or xs i 0) → new ≡ take (i + 1) xs
-  seen-more h t e n = n ∙ rw (not_true (list_any (λ k. get_or xs i 0 == k) seen) (sym e ∙ t)) (ap (λ l. l ++ get_or xs i 0 ∷ []) passed ∙ sym (take_more xs i 0 h))
+  pub seen-more : i < length xs → added ≡ true → added ≡ not (list_any (λ k. get_or xs i 0 == k) seen) → new ≡ insert_key (λ m n. m == n) seen (get_or xs i 0)
+      → new ≡ take (i + 1) xs
+  seen-more h t e n = n ∙ rw (not_true (list_any (λ k. get_or xs i 0 == k) seen) (sym e ∙ t))
+      (ap (λ l. l ++ get_or xs i 0 ∷ []) passed ∙ sym (take_more xs i 0 h))

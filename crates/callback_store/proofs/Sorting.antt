@@ -21,7 +21,11 @@ module _ {X : Type 0} (lt : X → X → Bool) (o : IsStrictWeakOrder lt) where
 
   up_of : (xs : List X) → ((i j : ℕ) (d : X) → i ≤ j → j < length xs → lt (get_or xs j d) (get_or xs i d) ≡ false) → Up xs
   up_of [] h = tt
-  up_of (x ∷ xs) h = (none_before_of x xs (λ k p. h 0 (suc k) x (omega arith) (omega arith)), up_of xs (λ i j d p q. h (suc i) (suc j) d (omega arith) (omega arith)))
+  up_of (x ∷ xs) h = (
+    none_before_of x xs (λ k p. h 0 (suc k) x (omega arith) (omega arith)),
+    up_of xs
+        (λ i j d p q. h (suc i) (suc j) d (omega arith) (omega arith)),
+  )
 
   none_before-placed : (x y : X) (ys : List X) → lt y x ≡ false → NoneBefore x ys → NoneBefore x (placed lt y ys)
   none_before-placed x y [] n h = (n, tt)
@@ -63,7 +67,8 @@ module _ {X : Type 0} (lt : X → X → Bool) (o : IsStrictWeakOrder lt) where
       elim (lt y x) as (λ b. lt y x ≡ b → filter (ties lt z) (cond b (y ∷ placed lt x ys) (x ∷ y ∷ ys)) ≡ filter (ties lt z) (x ∷ y ∷ ys)) [
         | true ↦ λ l.
             elim (ties lt z y) as (λ b. ties lt z y ≡ b → cond b (y ∷ filter (ties lt z) (placed lt x ys)) (filter (ties lt z) (placed lt x ys))
-            ≡ cond (ties lt z x) (x ∷ cond b (y ∷ filter (ties lt z) ys) (filter (ties lt z) ys)) (cond b (y ∷ filter (ties lt z) ys) (filter (ties lt z) ys))) [
+            ≡ cond (ties lt z x) (x ∷ cond b (y ∷ filter (ties lt z) ys) (filter (ties lt z) ys))
+            (cond b (y ∷ filter (ties lt z) ys) (filter (ties lt z) ys))) [
               | true ↦ λ t. ap (λ rest. y ∷ rest) (kept-placed z x ys) ∙ rw (apart z x y l t) refl
               | false ↦ λ t. kept-placed z x ys
             ] refl
@@ -108,7 +113,8 @@ module _ {X : Type 0} (lt : X → X → Bool) (o : IsStrictWeakOrder lt) where
       let q : lt y x ≡ false = first_kept (λ z. lt z x ≡ false) (ties lt y) (x ∷ xs) y (filter (ties lt y) ys) (not_itself x, up.0) back in
       let both_first : y ∷ filter (ties lt x) ys ≡ x ∷ filter (ties lt x) xs = sym (tied x y ys p q) ∙ there in
       let first : y ≡ x = cc in
-      let rest : xs ≡ ys = one_order xs ys up.1 vp.1 (λ z. same_rest (ties lt z x) x (filter (ties lt z) ys) (filter (ties lt z) xs) (ap (λ w. cond (ties lt z w) (w ∷ filter (ties lt z) ys) (filter (ties lt z) ys)) (sym first) ∙ same z)) in
+      let rest : xs ≡ ys = one_order xs ys up.1 vp.1 (λ z. same_rest (ties lt z x) x (filter (ties lt z) ys) (filter (ties lt z) xs)
+      (ap (λ w. cond (ties lt z w) (w ∷ filter (ties lt z) ys) (filter (ties lt z) ys)) (sym first) ∙ same z)) in
       λ i. sym first i ∷ rest i
 
   pub sorted_is : (xs ys : List X) → IsSortedBy lt ys → IsStableBy lt xs ys → ys ≡ sorted lt xs
@@ -121,7 +127,8 @@ module _ {X Y : Type 0} (lt : Y → Y → Bool) (f : X → Y) where
   placed-map : (x : X) (ys : List X) → map f (placed (λ a b. lt (f a) (f b)) x ys) ≡ placed lt (f x) (map f ys)
   placed-map x [] = refl
   placed-map x (y ∷ ys) =
-      elim (lt (f y) (f x)) as (λ b. map f (cond b (y ∷ placed (λ a b. lt (f a) (f b)) x ys) (x ∷ y ∷ ys)) ≡ cond b (f y ∷ placed lt (f x) (map f ys)) (f x ∷ f y ∷ map f ys)) [
+      elim (lt (f y) (f x)) as (λ b. map f (cond b (y ∷ placed (λ a b. lt (f a) (f b)) x ys) (x ∷ y ∷ ys))
+      ≡ cond b (f y ∷ placed lt (f x) (map f ys)) (f x ∷ f y ∷ map f ys)) [
         | true ↦ ap (λ rest. f y ∷ rest) (placed-map x ys)
         | false ↦ refl
       ]

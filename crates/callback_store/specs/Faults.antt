@@ -23,7 +23,7 @@ has_bad_name shapes = list_any (λ s. not (is_tag_name s.name)) shapes
 abbrev pub has_same_name : List Shape → Bool
 has_same_name shapes = has_repeat bytes_eq (map (λ s. s.name) shapes)
 
--- the numbers of all callbacks, behind core's
+-- the numbers of all callbacks, after core's
 abbrev pub numbers : List Shape → List ℕ
 numbers shapes = 0 ∷ flat_map (λ s. s.callbacks) shapes
 

@@ -21,11 +21,11 @@ shape_of number plugin = record { name = plugin.name; load = plugin.load; callba
 abbrev pub shapes_of : {S : Type 0} → (S → ℕ) → Plugins S → List Shape
 shapes_of number plugins = map (shape_of number) plugins.list
 
--- no name stands before a lesser one, by bytes
+-- no name stands before a smaller one, by bytes
 abbrev pub AreInOrder : List Shape → Type 0
 AreInOrder shapes = IsSortedByKey (λ s. s.name) (slice_cmp nat_cmp) shapes
 
--- whether a plugin has the lesser name, by bytes
+-- whether a plugin has the smaller name, by bytes
 abbrev pub comes_before : Shape → Shape → Bool
 comes_before s t = is_lt (slice_cmp nat_cmp s.name t.name)
 

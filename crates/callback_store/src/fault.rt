@@ -1,7 +1,7 @@
-// Why plugins are refused.
+//! Why plugins are refused.
 use thiserror::Error;
 
-/// Why a list of plugins is refused. Where several hold, the first of this list is named.
+/// Why a list of plugins is refused. If several hold, the first of this list is named.
 #[derive(Clone, Copy, Debug, PartialEq, Eq, Error)]
 pub enum PluginFault {
     /// More than 64 plugins, or one with more than 256 callbacks or 256 changes in its load list.

@@ -1,6 +1,7 @@
-// Plugins, with their load lists and callbacks.
+//! Plugins, with their load lists and callbacks.
 ghost use Rattle.std.specs.Prelude.{◌≡◌, ◌≢◌, ◌++◌, map, IfOk, IfErr, OnOk, IsTrue, IfSome, None, Some};
-ghost use Rattle.std.specs.Prelude.{option_map, is_some, find, bytes_eq, ◌==◌, ◌&&◌, ◌||◌, not, nat_lt, length, slice_get};
+ghost use Rattle.std.specs.Prelude.{option_map, is_some, find, bytes_eq, not, nat_lt, length, slice_get};
+ghost use Rattle.std.specs.Prelude.{◌==◌, ◌&&◌, ◌||◌};
 ghost use Rattle.std.specs.List.{list_any};
 ghost use Rattle.std.specs.List.Sorted.{IsPermutation, IsSortedByKey};
 ghost use Rattle.std.specs.Ordering.{nat_cmp};
@@ -94,10 +95,12 @@ impl<S: Stated> Plugins<S> {
     /// Takes a list of plugins and puts them in the order of their names by bytes, in which load lists are carried
     /// out, or refuses the list by its first fault. What is refused is dropped.
     pub fn new(alloc: Global, list: Listed<Plugin<S>>) -> Result<Self, PluginFault>
-        ensures permutation { IfOk result (λ plugins. IsPermutation (map (shape_of S.number) list) (shapes_of S.number plugins)) }
+        ensures permutation { IfOk result (λ plugins. IsPermutation
+            (map (shape_of S.number) list) (shapes_of S.number plugins)) }
         ensures in_order { IfOk result (λ plugins. AreInOrder (shapes_of S.number plugins)) }
         ensures no_fault { IfOk result (λ plugins. fault_of (map (shape_of S.number) list) ≡ None) }
-        ensures fault { IfErr result (λ fault. fault ≢ PluginFault.OutOfMemory → fault_of (map (shape_of S.number) list) ≡ Some fault) }
+        ensures fault { IfErr result (λ fault. fault ≢ PluginFault.OutOfMemory
+            → fault_of (map (shape_of S.number) list) ≡ Some fault) }
     {
         match without_fault(alloc, list.as_slice()) {
             Ok(()) => with_places(alloc, sorted_by_name(list)),
@@ -118,7 +121,8 @@ impl<S: Stated> Plugins<S> {
     /// The plugins by name, in the order of bytes, in which load lists are carried out. `new` has put them in that
     /// order already, but no invariant of a type that holds callbacks can say so.
     pub fn by_name(&self, alloc: Global) -> Result<Vec<&Plugin<S>>, AllocError>
-        ensures { IfOk result (λ list. map (λ p. shape_of S.number p.now) list.items ≡ by_name (shapes_of S.number self.entry.now)) }
+        ensures { IfOk result (λ list. map (λ p. shape_of S.number p.now) list.items
+            ≡ by_name (shapes_of S.number self.entry.now)) }
     {
         let mut list = Vec::new(alloc);
         for plugin in self.list.as_slice() {
@@ -150,7 +154,7 @@ impl<S: Stated> Plugins<S> {
         None
     }
 
-    /// The name of the plugin that has the callback, where one has it. Core's callback 0 has none.
+    /// The name of the plugin that has the callback, if one has it. Core's callback 0 has none.
     pub fn owner(&self, id: CallbackId) -> Option<&str>
         ensures { option_map (λ name. name.now) result ≡ owner (shapes_of S.number self.entry.now) id }
     {
@@ -184,7 +188,8 @@ impl<S: Stated> Plugins<S> {
 
     /// Whether one of the callbacks of the plugins of these names has the number.
     fn is_among(&self, names: &[Text], id: CallbackId) -> bool
-        ensures { result ≡ list_any (λ p. list_any (bytes_eq p.name) names.now && list_any (λ c. S.number c == id) p.callbacks) self.now.list }
+        ensures { result ≡ list_any (λ p. list_any (bytes_eq p.name) names.now
+            && list_any (λ c. S.number c == id) p.callbacks) self.now.list }
     {
         for plugin in self.list.as_slice() {
             if is_one_of(names, plugin.name.as_str()) && plugin.has_callback(id) {
@@ -194,7 +199,7 @@ impl<S: Stated> Plugins<S> {
         false
     }
 
-    /// The load list of the plugin of that name, or `None` where no plugin has the name.
+    /// The load list of the plugin of that name, or `None` if no plugin has the name.
     pub fn load_of(&self, name: &str) -> Option<&[Change]>
         ensures { option_map (λ changes. changes.now) result ≡ load_of (shapes_of S.number self.entry.now) name.now }
     {
@@ -225,7 +230,7 @@ impl<S: Stated> Plugins<S> {
         }
     }
 
-    /// The callback with a number, where a plugin has it. It takes as long in a bundle of many callbacks as in a small
+    /// The callback with a number, if a plugin has it. It takes as long in a bundle of many callbacks as in a small
     /// one; a number that none has is looked for among all.
     pub fn callback(&self, id: CallbackId) -> Option<&S>
         ensures number { IfSome result (λ callback. S.number callback.now ≡ id) }
@@ -247,7 +252,7 @@ impl<S: Stated> Plugins<S> {
         }
     }
 
-    /// The reply of the callback with a number to a call, where there is memory for it.
+    /// The reply of the callback with a number to a call, if there is memory for it.
     pub fn call(&self, alloc: Global, id: CallbackId, call: &Call) -> Result<Reply, AllocError>
         requires { IsTrue (is_held (shapes_of S.number self.now) id) }
         ensures { IfOk result (λ reply. reply ≡ S.says id call.now) }
@@ -268,7 +273,8 @@ fn is_one_of(names: &[Text], name: &str) -> bool
 /// Refuses a list by its first fault.
 fn without_fault<S: Stated>(alloc: Global, list: &[Plugin<S>]) -> Result<(), PluginFault>
     ensures no_fault { OnOk result (fault_of (map (shape_of S.number) list.now) ≡ None) }
-    ensures fault { IfErr result (λ fault. fault ≢ PluginFault.OutOfMemory → fault_of (map (shape_of S.number) list.now) ≡ Some fault) }
+    ensures fault { IfErr result (λ fault. fault ≢ PluginFault.OutOfMemory
+        → fault_of (map (shape_of S.number) list.now) ≡ Some fault) }
 {
     if are_too_many(list) {
         return Err(PluginFault::TooMany);
@@ -355,7 +361,7 @@ fn push_numbers<S: Stated>(numbers: &mut Vec<u32>, callbacks: &[S]) -> Result<()
     Ok(())
 }
 
-/// The numbers of all callbacks, behind core's.
+/// The numbers of all callbacks, after core's.
 fn all_numbers<S: Stated>(alloc: Global, list: &[Plugin<S>]) -> Result<Vec<u32>, AllocError>
     ensures { IfOk result (λ all. all.items ≡ numbers (map (shape_of S.number) list.now)) }
 {

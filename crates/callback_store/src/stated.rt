@@ -1,4 +1,4 @@
-// What a stored callback is stated to reply.
+//! What a stored callback is stated to reply.
 ghost use Rattle.std.specs.Prelude.{◌≡◌, ℕ, IfOk};
 
 use hook_changes::{Call, CallbackId, Reply};
@@ -21,7 +21,7 @@ pub trait Stated: Drop {
     fn id(&self) -> CallbackId
         ensures { result ≡ number self.now };
 
-    /// The reply to a call, where there is memory for it.
+    /// The reply to a call, if there is memory for it.
     fn answer(&self, alloc: Global, call: &Call) -> Result<Reply, AllocError>
         ensures { IfOk result (λ reply. reply ≡ says (number self.now) call.now) };
 }

@@ -1,4 +1,4 @@
-// The cache of pieces.
+//! The cache of pieces.
 ghost use Rattle.std.specs.Prelude.{◌≡◌, ◌≤◌, IfOk};
 ghost use Rattle.std.specs.List.{AllByRecursion};
 ghost use Rattle.shortcode_scan.specs.Pieces.{IsPieces, pieces_of};

@@ -1,4 +1,4 @@
-// What is kept of a text.
+//! What is kept of a text.
 ghost use Rattle.std.specs.Prelude.{◌≡◌, ◌↔◌, IsTrue, IfOk};
 
 use hook_changes::{Listed, TagName};

@@ -23,7 +23,7 @@ pub struct EndFault;
 
 /// Where input comes from.
 pub trait Source {
-    /// The bytes that reads give from here on, or `None` where the source does not tell them.
+    /// The bytes that reads give from here on, or `None` if the source does not tell them.
     ghost remaining: { Self → Option (List ℕ) };
 
     /// Whether a read has failed.
@@ -39,7 +39,7 @@ pub trait Source {
 
 /// Where replies go.
 pub trait Sink {
-    /// The bytes that were taken so far, or `None` where the sink does not tell them.
+    /// The bytes that were taken so far, or `None` if the sink does not tell them.
     ghost contents: { Self → Option (List ℕ) };
 
     /// Whether a write has failed.

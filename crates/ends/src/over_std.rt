@@ -6,7 +6,7 @@ use std::io::{Read, Write};
 
 /// A source over a reader. A failed read of any kind is a fault.
 ///
-/// It tells its bytes where the reader does, as a `&[u8]` or a `Cursor` does and standard input does not.
+/// It tells its bytes if the reader does, as a `&[u8]` or a `Cursor` does and standard input does not.
 #[derive(Drop)]
 pub struct Reading<R> {
     inner: R,
@@ -44,7 +44,7 @@ impl<R: Read> Source for Reading<R> {
 
 /// A sink over a writer. A failed write of any kind is a fault, and so is a write of some bytes that takes none.
 ///
-/// It tells its bytes where the writer does, as a `Vec<u8>` does and standard output does not.
+/// It tells its bytes if the writer does, as a `Vec<u8>` does and standard output does not.
 #[derive(Drop)]
 pub struct Writing<W> {
     inner: W,

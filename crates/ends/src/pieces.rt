@@ -26,7 +26,7 @@ pub fn write_all<W: Sink>(writer: &mut W, bytes: &[u8]) -> Result<(), EndFault>
 }
 
 /// Writes the pieces, one after another. Short pieces are gathered on the stack, up to 1,024 bytes, and written
-/// together, so it takes no memory. At an `Err` some of their bytes were written, from the front.
+/// together, so it does not allocate. At an `Err` some of their bytes were written, from the front.
 pub fn write_pieces<W: Sink>(writer: &mut W, pieces: &[&[u8]]) -> Result<(), EndFault>
     requires { W.has_failed writer.old ≡ false }
     ensures ok { OnOk result (Appends (W.contents writer.old) (W.contents writer.new)
@@ -42,7 +42,7 @@ pub fn write_pieces<W: Sink>(writer: &mut W, pieces: &[&[u8]]) -> Result<(), End
     write_all(writer, gathered.as_slice())
 }
 
-// Gathers one more piece. Where it does not fit, what was gathered is written before it.
+// Gathers one more piece. If it does not fit, what was gathered is written before it.
 fn gather<W: Sink>(
     writer: &mut W,
     gathered: &mut ArrayVec<u8, GATHERED>,

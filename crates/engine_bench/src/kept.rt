@@ -1,4 +1,4 @@
-// The callbacks that are timed.
+//! The callbacks that are timed.
 ghost use Rattle.engine_bench.specs.Kept.{kept};
 
 use callback_store::Stated;

@@ -39,7 +39,7 @@ fn main(rt: HostRuntime) -> ExitCode {
     }
 }
 
-/// The number that a word is, or 3 where there is no such word.
+/// The number that an argument is, or 3 if there is no such argument.
 fn number(word: Option<String>) -> u32 {
     match word {
         Some(word) => word.as_str().parse().unwrap_or(0),

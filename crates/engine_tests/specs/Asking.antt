@@ -34,7 +34,7 @@ deeper_ask value hook =
     if nat_lt (length value) 32 then Apply (codes "the_title") (value ++ codes "x") (hook ∷ []) else Apply hook value []
 
 -- what is asked first, given the value, the name of a hook, and further arguments: 201 a filter, 202 and 208 an action,
--- 203 whether it has callbacks, 204 where it has callback 207, 205 whether it runs, 206 how often it was fired
+-- 203 whether it has callbacks, 204 if it has callback 207, 205 whether it runs, 206 how often it was fired
 abbrev pub first_ask : ℕ → List Text → Ask
 first_ask number args =
     if number == 201 then Apply (second_or_empty args) (first_or_empty args) (after_two args) else

@@ -166,7 +166,7 @@ static QUESTIONS: [Case; 12] = [
     ),
     // Core's own callback.
     Case([HAS, No, No], "v", &["the_content"], Ok("1"), ""),
-    // The least priority, and no number if the hook has another callback alone.
+    // The smallest priority, and no number if the hook has another callback alone.
     Case(
         [HAS_207, On(Hook::In, 20, 207, 1), On(Hook::In, -5, 207, 1)],
         "v",

@@ -3,7 +3,7 @@ ghost use Rattle.std.specs.Prelude.{◌≡◌, None, false};
 
 use ends::{EndFault, Sink};
 
-/// Takes these bytes, at most so many a call, and nothing else: another byte in their place, or one behind them, is a
+/// Takes these bytes, at most a number a call, and nothing else: another byte in their place, or one after them, is a
 /// fault.
 #[derive(Drop)]
 pub struct Expecting<'a> {

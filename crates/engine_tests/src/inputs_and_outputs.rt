@@ -139,7 +139,7 @@ fn all_is_written_or_a_front_part(rt: HostRuntime) {
     }
 }
 
-/// In how many writes a sink gets pieces, where they are these bytes.
+/// In how many writes a sink gets pieces, if they are these bytes.
 fn writes(pieces: &[&[u8]], wanted: &[u8]) -> Option<u32> {
     let mut sink = Expecting::new(wanted, 9000);
     match write_pieces(&mut sink, pieces) {

@@ -38,7 +38,7 @@ static CASES: [Case; 23] = [
         Ok(""),
         PLAIN,
     ),
-    // The greatest and the least priority.
+    // The largest and the smallest priority.
     Case(
         [Add(2147483647, 102), Add(-2147483648, 105), No],
         NONE,
@@ -124,7 +124,7 @@ static CASES: [Case; 23] = [
         TOO_MANY,
         TOO_MANY,
     ),
-    // A callback that removes itself is run to the end of this pass, and is in no later one: at a lesser priority
+    // A callback that removes itself is run to the end of this pass, and is in no later one: at a smaller priority
     // than another, at the same one before and after it, and at a greater one.
     Case(
         [Add(10, 105), Add(20, 102), No],
@@ -162,7 +162,7 @@ static CASES: [Case; 23] = [
         Ok("b"),
         PLAIN,
     ),
-    // Its registration at a greater priority is gone when the pass would reach it, and that at a lesser one stays.
+    // Its registration at a greater priority is gone when the pass would reach it, and that at a smaller one stays.
     Case(
         [Add(5, 105), Add(10, 105), No],
         NONE,

@@ -195,7 +195,7 @@ fn is_end(turned: Result<PageTurn, RunFault>, end: Result<&str, RunFault>) -> bo
     }
 }
 
-/// Whether so many turns stop before the page's end.
+/// Whether that many turns stop before the page's end.
 fn is_stopped(page: &mut Page<'_, Bundled>, cache: &mut PieceCache, turns: u32) -> bool
     requires { CanGoOn page.old }
     ensures { CanGoOn page.new }

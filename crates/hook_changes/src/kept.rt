@@ -1,4 +1,4 @@
-// Texts and lists as fields of plain data: contracts see their bytes and their items, and no capacity or pointer.
+//! Texts and lists as fields of plain data: contracts see their bytes and their items, and no capacity or pointer.
 ghost use Rattle.std.specs.Prelude.{◌≡◌, ℕ, List, [], ◌++◌, ◌∷◌, string_bytes, IfOk, OnOk, OnErr};
 
 use std::alloc::{AllocError, AllocFailed, Global};
@@ -24,7 +24,7 @@ impl Text {
         Text { text }
     }
 
-    /// The empty text. It takes no memory.
+    /// The empty text. It does not allocate.
     pub fn empty(alloc: Global) -> Self
         ensures { result ≡ [] }
     {
@@ -49,7 +49,7 @@ impl Text {
         self.text.as_str()
     }
 
-    /// Appends a text. Where there is no memory for it, nothing is appended.
+    /// Appends a text. If there is no memory for it, nothing is appended.
     pub fn push_str(&mut self, text: &str) -> Result<(), AllocError>
         ensures ok { OnOk result (self.new ≡ self.old ++ text.now) }
         ensures err { OnErr result (self.new ≡ self.old) }
@@ -96,7 +96,7 @@ impl<T> Listed<T> {
         Listed { items }
     }
 
-    /// No items. It takes no memory.
+    /// No items. It does not allocate.
     pub fn empty(alloc: Global) -> Self
         ensures { result ≡ [] }
     {
@@ -112,7 +112,7 @@ impl<T> Listed<T> {
         self.items.as_slice()
     }
 
-    /// Puts an item behind the others. Where there is no memory for it, the items stay as they were.
+    /// Appends an item. If there is no memory for it, the items stay as they were.
     pub fn push(&mut self, item: T) -> Result<(), AllocFailed<T>>
         ensures ok { OnOk result (self.new ≡ self.old ++ item ∷ []) }
         ensures err { OnErr result (self.new ≡ self.old) }

@@ -1,4 +1,4 @@
-// The names of hooks and of shortcodes.
+//! The names of hooks and of shortcodes.
 ghost use Rattle.std.specs.Prelude.{◌≡◌, ◌↔◌, ℕ, List, IsTrue, IsFalse, IfOk, Err, bytes_eq};
 ghost use Rattle.std.specs.List.{list_all};
 ghost use Rattle.shortcode_atts.specs.NameByte.{is_name_byte};

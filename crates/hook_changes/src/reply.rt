@@ -1,4 +1,4 @@
-// What a callback is called with, and what it replies.
+//! What a callback is called with, and what it replies.
 ghost use Rattle.std.specs.Prelude.{◌≡◌};
 ghost use Rattle.hook_changes.specs.Replies.{answers_text, asks};
 
@@ -47,7 +47,7 @@ pub enum Change {
 /// What a callback asks of the engine in the midst of its work.
 #[derive(Drop)]
 pub enum Ask {
-    /// `apply_filters`: the value behind the callbacks of the hook. Answered by a text.
+    /// `apply_filters`: the value after the callbacks of the hook. Answered by a text.
     Apply {
         hook: Text,
         value: Text,
@@ -73,7 +73,7 @@ pub enum Ask {
         hook: Text,
     },
     /// `has_filter`: without a callback whether the hook has any registration, answered by a flag; with one the
-    /// least priority of that callback there, answered by a number, or by the flag `false`.
+    /// smallest priority of that callback there, answered by a number, or by the flag `false`.
     Has {
         hook: Text,
         callback: Option<CallbackId>,
@@ -108,7 +108,7 @@ pub struct Call {
     pub tag: Text,
     /// The shortcode's attributes.
     pub atts: Atts,
-    /// The text between the shortcode's tags; empty where it has no closing tag.
+    /// The text between the shortcode's tags; empty if it has no closing tag.
     pub content: Text,
     /// What the engine answered so far to the asks of this callback in this place, in order.
     pub answers: Listed<Answer>,
@@ -119,14 +119,14 @@ pub struct Call {
 pub enum Then {
     /// It is done. In a filter this is the next value, in a shortcode what replaces it; an action drops it.
     Answer(Text),
-    /// It is called again, with the engine's answer behind those that it had.
+    /// It is called again, with the engine's answer after those that it had.
     Ask(Ask),
 }
 
 /// What a callback replies.
 #[derive(Drop)]
 pub struct Reply {
-    /// Carried out in order, right behind the echo.
+    /// Carried out in order, right after the echo.
     pub changes: Listed<Change>,
     /// Appended to the page at this moment.
     pub echo: Text,

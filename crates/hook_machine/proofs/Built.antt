@@ -22,7 +22,8 @@ one_or_none false t c = refl
 
 pub table-changed : (plugins : List Shape) (w : World) (c : Change) → (changed plugins w c).table ≡ table_with w.table (table_changes plugins w c)
 table-changed plugins w (Add hook priority callback accepted) =
-    one_or_none (is_hook_name hook && is_active plugins w callback && nat_le accepted 16) w.table (Added hook (record { priority = priority; callback = callback; accepted = accepted }))
+    one_or_none (is_hook_name hook && is_active plugins w callback && nat_le accepted 16) w.table
+    (Added hook (record { priority = priority; callback = callback; accepted = accepted }))
 table-changed plugins w (Remove hook priority callback) = one_or_none (is_hook_name hook) w.table (Removed hook priority callback)
 table-changed plugins w (RemoveAll hook priority) = one_or_none (is_hook_name hook) w.table (RemovedAll hook priority)
 table-changed plugins w (AddTag tag callback) = refl
@@ -32,7 +33,8 @@ table-changed plugins w RemoveAllTags = refl
 pub built-kept : (plugins : List Shape) (w : World) (c : Change) → HasBuiltTable w → HasBuiltTable (changed plugins w c)
 built-kept plugins w c built = record {
   changes = built.changes ++ table_changes plugins w c;
-  is = table-changed plugins w c ∙ ap (λ t. table_with t (table_changes plugins w c)) built.is ∙ sym (fold-append one_list.changed [] built.changes (table_changes plugins w c));
+  is = table-changed plugins w c ∙ ap (λ t. table_with t (table_changes plugins w c)) built.is
+      ∙ sym (fold-append one_list.changed [] built.changes (table_changes plugins w c));
 }
 
 keeps_built : (plugins : List Shape) → Keeps plugins HasBuiltTable
@@ -46,10 +48,12 @@ keeps_built plugins = record {
   changed = built-kept plugins;
 }
 
-pub built-loaded : (plugins : List Shape) (calls : ℕ) (options : List (Text × Text)) (active : List Text) → HasBuiltTable (loaded plugins (fresh calls options active))
+pub built-loaded : (plugins : List Shape) (calls : ℕ) (options : List (Text × Text)) (active : List Text)
+    → HasBuiltTable (loaded plugins (fresh calls options active))
 unfolding loaded
 built-loaded plugins calls options active =
-    keeps_all plugins HasBuiltTable (keeps_built plugins) (fresh calls options active) (core_changes ++ load_changes plugins active) (record { changes = []; is = refl })
+    keeps_all plugins HasBuiltTable (keeps_built plugins) (fresh calls options active) (core_changes ++ load_changes plugins active)
+    (record { changes = []; is = refl })
 
 module _ (engine : Engine) (w : World) where
   pub built-filtered : (hook value : Text) (args : List Text) → HasBuiltTable w → Throughout HasBuiltTable (filtered engine w hook value args)

@@ -6,10 +6,10 @@ use Rattle.hook_registry.specs.Table.{group, after}
 use Rattle.hook_machine.specs.declared.fault.RunFault.{RunFault}
 use Rattle.hook_machine.specs.declared.pass.PassKind.TheVariants.{Action}
 use Rattle.hook_machine.specs.World.{Text, World}
-use Rattle.hook_machine.specs.Trace.{Trace, Done, Refused, Turn, and_then, chosen, Ended, end_of}
+use Rattle.hook_machine.specs.Trace.{Trace, Done, Refused, Turn, and_then, chosen, Ended, outcome_of}
 use Rattle.hook_machine.specs.Meaning.{Invocation, group_pass, priorities_pass, pass, action_pass, fired}
 
--- where the work has a result, it is this one
+-- if the work has a result, it is this one
 pub data Gives {A : Type 0} (x : A) : Trace A → Type 0 where
   gives_done : {w : World} → Gives x (Done w x)
   gives_refused : {f : RunFault} → Gives x (Refused f)
@@ -50,7 +50,7 @@ action_gives inv w hook args = by_name (is_hook_name hook)
     by_name true = gives_pass inv hook args [] (fired w hook)
     by_name false = gives_done
 
-pub given_is : {A : Type 0} {x : A} {t : Trace A} (w : World) (y : A) → Gives x t → end_of t ≡ Ended w y → y ≡ x
+pub given_is : {A : Type 0} {x : A} {t : Trace A} (w : World) (y : A) → Gives x t → outcome_of t ≡ Ended w y → y ≡ x
 given_is w y gives_done e = cc
 given_is w y gives_refused e = cc
 given_is w y (gives_turn r) e = given_is w y r e

@@ -47,7 +47,8 @@ use Rattle.hook_machine.proofs.Ending.{filter_named, filter_unnamed, action_name
 use Rattle.hook_machine.proofs.Steps.{turn_refused, pass_goes, pass_ends, pass_begins, ask_plain, ask_apply, ask_act, ask_shortcodes, apply_deep, act_deep, shortcodes_deep, core_goes, core_deep, text_begins, moves_via, moves_onto, moves_same, then_done}
 
 -- the position stays in its hook
-next_hook : (table : Table) (hook : Text) (at : Option ℤ) (es : List Entry) → (next_entry table (record { hook = hook; reached = at; entries = es })).1.hook ≡ hook
+next_hook : (table : Table) (hook : Text) (at : Option ℤ) (es : List Entry)
+    → (next_entry table (record { hook = hook; reached = at; entries = es })).1.hook ≡ hook
 next_hook table hook at [] = from_next (next_priority table hook at)
   where
     from_group : (p : ℤ) (es : List Entry) → (first_of (record { hook = hook; reached = Some p; entries = [] }) es).1.hook ≡ hook
@@ -65,7 +66,8 @@ shrinks_invoked more (Ok (Handed x)) olds news h = absurd h
 shrinks_invoked more (Err fault) olds news h = tt
 
 module _ (engine : Engine) where
-  pub refused_moves : (w : World) (k : ℕ) (call : Call) (fs : List Frame) (f : RunFault) → w.calls ≡ 0 → f ≡ TooManyCalls → (v : World) (gs : List Frame) → Moves engine (then_rest engine (invoke engine w k call) fs) (Err f) v gs
+  pub refused_moves : (w : World) (k : ℕ) (call : Call) (fs : List Frame) (f : RunFault) → w.calls ≡ 0 → f ≡ TooManyCalls → (v : World) (gs : List Frame)
+      → Moves engine (then_rest engine (invoke engine w k call) fs) (Err f) v gs
   refused_moves w k call fs f h e v gs = rw e (turn_refused engine w k call fs h)
 
   -- a frame that ends hands its result on
@@ -73,7 +75,8 @@ module _ (engine : Engine) where
   handed_moves t w x fs e = ap (λ (t : Trace Text). then_rest engine t fs) e
 
   -- one that is refused
-  pub deep_moves : (t : Trace Text) (f : RunFault) (fs : List Frame) → t ≡ Refused TooDeep → f ≡ TooDeep → (v : World) (gs : List Frame) → Moves engine (then_rest engine t fs) (Err f) v gs
+  pub deep_moves : (t : Trace Text) (f : RunFault) (fs : List Frame) → t ≡ Refused TooDeep → f ≡ TooDeep → (v : World) (gs : List Frame)
+      → Moves engine (then_rest engine t fs) (Err f) v gs
   deep_moves t f fs e q v gs = rw q (ap (λ (t : Trace Text). then_rest engine t fs) e)
 
   -- ---- passes
@@ -83,69 +86,101 @@ module _ (engine : Engine) where
   unfolding handed
   kept_alike later p q kept x k = ap (λ (v : Text). pass_left engine later (record p { value = v; position = q })) (sym k)
 
-  pub pass_moves : (w : World) (p : HookPass) (e : Entry) (q : Position) (kept : Text) (call : Call) (fs fs' : List Frame) → Some e ≡ (next_entry w.table p.position).0 → q ≡ (next_entry w.table p.position).1
-      → call ≡ hook_call q.hook (take e.accepted (arguments p.kind p.value p.args)) → ((x : Text) → value_after p.kind kept x ≡ value_after p.kind p.value x) → fs' ≡ frame.Pass (record p { value = kept; position = q }) ∷ fs
-      → (r : Result Move RunFault) (s : World) (gs : List Frame) → Moves engine (then_rest engine (invoke engine w e.callback call) fs') r s gs → Moves engine (then_rest engine (pass_left engine w p) fs) r s gs
+  pub pass_moves : (w : World) (p : HookPass) (e : Entry) (q : Position) (kept : Text) (call : Call) (fs fs' : List Frame)
+      → Some e ≡ (next_entry w.table p.position).0 → q ≡ (next_entry w.table p.position).1
+      → call ≡ hook_call q.hook (take e.accepted (arguments p.kind p.value p.args)) → ((x : Text) → value_after p.kind kept x ≡ value_after p.kind p.value x)
+      → fs' ≡ frame.Pass (record p { value = kept; position = q }) ∷ fs
+      → (r : Result Move RunFault) (s : World) (gs : List Frame) → Moves engine (then_rest engine (invoke engine w e.callback call) fs') r s gs
+      → Moves engine (then_rest engine (pass_left engine w p) fs) r s gs
   pass_moves w p e q kept call fs fs' h k c l f r s gs m =
       moves_onto engine (pass_left engine w p) (invoke engine w e.callback call) (frame.Pass (record p { value = kept; position = q })) fs fs'
       (pass_goes engine w p e h
-      ∙ ap (λ (z : Position). and_then (invoke engine w e.callback (hook_call p.position.hook (take e.accepted (arguments p.kind p.value p.args)))) (λ later x. handed engine later (frame.Pass (record p { position = z })) x)) (sym k)
+      ∙ ap (λ (z : Position). and_then (invoke engine w e.callback (hook_call p.position.hook (take e.accepted (arguments p.kind p.value p.args))))
+      (λ later x. handed engine later (frame.Pass (record p { position = z })) x)) (sym k)
       ∙ ap (λ (z : Call). and_then (invoke engine w e.callback z) (λ later x. handed engine later (frame.Pass (record p { position = q })) x))
-      (ap (λ (z : Text). hook_call z (take e.accepted (arguments p.kind p.value p.args))) (sym (ap (λ (z : Position). z.hook) k ∙ next_hook w.table p.position.hook p.position.reached p.position.entries)) ∙ sym c)
-      ∙ then_under (invoke engine w e.callback call) (λ later x. handed engine later (frame.Pass (record p { position = q })) x) (λ later x. handed engine later (frame.Pass (record p { value = kept; position = q })) x) (λ later x. kept_alike later p q kept x (l x)))
+      (ap (λ (z : Text). hook_call z (take e.accepted (arguments p.kind p.value p.args)))
+      (sym (ap (λ (z : Position). z.hook) k ∙ next_hook w.table p.position.hook p.position.reached p.position.entries)) ∙ sym c)
+      ∙ then_under (invoke engine w e.callback call) (λ later x. handed engine later (frame.Pass (record p { position = q })) x)
+      (λ later x. handed engine later (frame.Pass (record p { value = kept; position = q })) x) (λ later x. kept_alike later p q kept x (l x)))
       f r s gs m
 
-  pub leave_moves : (w left : World) (p : HookPass) (fs : List Frame) → None ≡ (next_entry w.table p.position).0 → left ≡ left_hook w → Moves engine (then_rest engine (pass_left engine w p) fs) (Ok (Handed p.value)) left fs
+  pub leave_moves : (w left : World) (p : HookPass) (fs : List Frame) → None ≡ (next_entry w.table p.position).0 → left ≡ left_hook w
+      → Moves engine (then_rest engine (pass_left engine w p) fs) (Ok (Handed p.value)) left fs
   leave_moves w left p fs h e = handed_moves (pass_left engine w p) left p.value fs (pass_ends engine w p h ∙ ap (λ (v : World). Done v p.value) (sym e))
 
-  pub begin_moves : (w entered : World) (kind : PassKind) (hook v : Text) (args : List Text) (at : Position) (fs : List Frame) → entered ≡ record w { running = w.running ++ hook ∷ [] } → at ≡ record { hook = hook; reached = None; entries = [] }
-      → (r : Result Move RunFault) (s : World) (gs : List Frame) → Moves engine (then_rest engine (pass_left engine entered (record { kind = kind; args = args; value = v; position = at })) fs) r s gs
+  pub begin_moves : (w entered : World) (kind : PassKind) (hook v : Text) (args : List Text) (at : Position) (fs : List Frame)
+      → entered ≡ record w { running = w.running ++ hook ∷ [] } → at ≡ record { hook = hook; reached = None; entries = [] }
+      → (r : Result Move RunFault) (s : World) (gs : List Frame) → Moves engine
+      (then_rest engine (pass_left engine entered (record { kind = kind; args = args; value = v; position = at })) fs) r s gs
       → Moves engine (then_rest engine (pass (invoke engine) kind w hook v args) fs) r s gs
   begin_moves w entered kind hook v args at fs e q r s gs m =
-      moves_same engine (pass (invoke engine) kind w hook v args) (pass_left engine entered (record { kind = kind; args = args; value = v; position = at })) fs (rw (e, q) (pass_begins engine w kind hook v args)) r s gs m
+      moves_same engine (pass (invoke engine) kind w hook v args) (pass_left engine entered (record { kind = kind; args = args; value = v; position = at }))
+      fs (rw (e, q) (pass_begins engine w kind hook v args)) r s gs m
 
   pub filter_moves : (w : World) (hook name v : Text) (args : List Text) (fs : List Frame) → name ≡ hook → is_hook_name hook ≡ true
-      → (r : Result Move RunFault) (s : World) (gs : List Frame) → Moves engine (then_rest engine (pass (invoke engine) Filter w name v args) fs) r s gs → Moves engine (then_rest engine (filter_pass (invoke engine) w hook v args) fs) r s gs
+      → (r : Result Move RunFault) (s : World) (gs : List Frame) → Moves engine (then_rest engine (pass (invoke engine) Filter w name v args) fs) r s gs
+      → Moves engine (then_rest engine (filter_pass (invoke engine) w hook v args) fs) r s gs
   filter_moves w hook name v args fs e h r s gs m =
-      moves_same engine (filter_pass (invoke engine) w hook v args) (pass (invoke engine) Filter w name v args) fs (filter_named (invoke engine) w hook v args h ∙ ap (λ (n : Text). pass (invoke engine) Filter w n v args) (sym e)) r s gs m
+      moves_same engine (filter_pass (invoke engine) w hook v args) (pass (invoke engine) Filter w name v args) fs
+      (filter_named (invoke engine) w hook v args h ∙ ap (λ (n : Text). pass (invoke engine) Filter w n v args) (sym e)) r s gs m
 
-  pub filter_back : (w : World) (hook v : Text) (args : List Text) (fs : List Frame) → is_hook_name hook ≡ false → Moves engine (then_rest engine (filter_pass (invoke engine) w hook v args) fs) (Ok (Handed v)) w fs
+  pub filter_back : (w : World) (hook v : Text) (args : List Text) (fs : List Frame) → is_hook_name hook ≡ false
+      → Moves engine (then_rest engine (filter_pass (invoke engine) w hook v args) fs) (Ok (Handed v)) w fs
   filter_back w hook v args fs h = handed_moves (filter_pass (invoke engine) w hook v args) w v fs (filter_unnamed (invoke engine) w hook v args h)
 
-  pub action_moves : (w counted : World) (hook name nothing : Text) (args : List Text) (fs : List Frame) → name ≡ hook → is_hook_name hook ≡ true → counted ≡ fired w name → nothing ≡ []
-      → (r : Result Move RunFault) (s : World) (gs : List Frame) → Moves engine (then_rest engine (pass (invoke engine) Action counted name nothing args) fs) r s gs → Moves engine (then_rest engine (action_pass (invoke engine) w hook args) fs) r s gs
+  pub action_moves : (w counted : World) (hook name nothing : Text) (args : List Text) (fs : List Frame) → name ≡ hook → is_hook_name hook ≡ true
+      → counted ≡ fired w name → nothing ≡ []
+      → (r : Result Move RunFault) (s : World) (gs : List Frame) → Moves engine (then_rest engine (pass (invoke engine) Action counted name nothing args) fs)
+      r s gs → Moves engine (then_rest engine (action_pass (invoke engine) w hook args) fs) r s gs
   action_moves w counted hook name nothing args fs e h c n r s gs m =
-      moves_same engine (action_pass (invoke engine) w hook args) (pass (invoke engine) Action counted name nothing args) fs (rw (c, n, e) (action_named (invoke engine) w hook args h)) r s gs m
+      moves_same engine (action_pass (invoke engine) w hook args) (pass (invoke engine) Action counted name nothing args) fs
+      (rw (c, n, e) (action_named (invoke engine) w hook args h)) r s gs m
 
-  pub action_back : (w : World) (hook nothing : Text) (args : List Text) (fs : List Frame) → is_hook_name hook ≡ false → nothing ≡ [] → Moves engine (then_rest engine (action_pass (invoke engine) w hook args) fs) (Ok (Handed nothing)) w fs
+  pub action_back : (w : World) (hook nothing : Text) (args : List Text) (fs : List Frame) → is_hook_name hook ≡ false → nothing ≡ []
+      → Moves engine (then_rest engine (action_pass (invoke engine) w hook args) fs) (Ok (Handed nothing)) w fs
   action_back w hook nothing args fs h n = rw n (handed_moves (action_pass (invoke engine) w hook args) w [] fs (action_unnamed (invoke engine) w hook args h))
 
   -- ---- asks
 
-  pub apply_moves : (w inside : World) (k : ℕ) (call : Call) (hook name v : Text) (args : List Text) (fs fs' : List Frame) → w.depth < 32 → inside ≡ record w { depth = w.depth + 1 } → name ≡ hook → fs' ≡ frame.Invocation (record { callback = k; call = call; pending = ForText }) ∷ fs
-      → (r : Result Move RunFault) (s : World) (gs : List Frame) → Moves engine (then_rest engine (filter_pass (invoke engine) inside name v args) fs') r s gs → Moves engine (then_rest engine (pending_left engine w k call (Next (next.Ask (Apply hook v args)))) fs) r s gs
+  pub apply_moves : (w inside : World) (k : ℕ) (call : Call) (hook name v : Text) (args : List Text) (fs fs' : List Frame) → w.depth < 32
+      → inside ≡ record w { depth = w.depth + 1 } → name ≡ hook → fs' ≡ frame.Invocation (record { callback = k; call = call; pending = ForText }) ∷ fs
+      → (r : Result Move RunFault) (s : World) (gs : List Frame) → Moves engine (then_rest engine (filter_pass (invoke engine) inside name v args) fs') r s gs
+      → Moves engine (then_rest engine (pending_left engine w k call (Next (next.Ask (Apply hook v args)))) fs) r s gs
   apply_moves w inside k call hook name v args fs fs' d e n f r s gs m =
-      moves_onto engine (pending_left engine w k call (Next (next.Ask (Apply hook v args)))) (filter_pass (invoke engine) inside name v args) (frame.Invocation (record { callback = k; call = call; pending = ForText })) fs fs' (rw (e, n) (ask_apply engine w k call hook v args d)) f r s gs m
+      moves_onto engine (pending_left engine w k call (Next (next.Ask (Apply hook v args)))) (filter_pass (invoke engine) inside name v args)
+      (frame.Invocation (record { callback = k; call = call; pending = ForText })) fs fs' (rw (e, n) (ask_apply engine w k call hook v args d)) f r s gs m
 
-  pub act_moves : (w inside : World) (k : ℕ) (call : Call) (hook name : Text) (args : List Text) (fs fs' : List Frame) → w.depth < 32 → inside ≡ record w { depth = w.depth + 1 } → name ≡ hook → fs' ≡ frame.Invocation (record { callback = k; call = call; pending = ForNothing }) ∷ fs
-      → (r : Result Move RunFault) (s : World) (gs : List Frame) → Moves engine (then_rest engine (action_pass (invoke engine) inside name args) fs') r s gs → Moves engine (then_rest engine (pending_left engine w k call (Next (next.Ask (Act hook args)))) fs) r s gs
+  pub act_moves : (w inside : World) (k : ℕ) (call : Call) (hook name : Text) (args : List Text) (fs fs' : List Frame) → w.depth < 32
+      → inside ≡ record w { depth = w.depth + 1 } → name ≡ hook → fs' ≡ frame.Invocation (record { callback = k; call = call; pending = ForNothing }) ∷ fs
+      → (r : Result Move RunFault) (s : World) (gs : List Frame) → Moves engine (then_rest engine (action_pass (invoke engine) inside name args) fs') r s gs
+      → Moves engine (then_rest engine (pending_left engine w k call (Next (next.Ask (Act hook args)))) fs) r s gs
   act_moves w inside k call hook name args fs fs' d e n f r s gs m =
-      moves_onto engine (pending_left engine w k call (Next (next.Ask (Act hook args)))) (action_pass (invoke engine) inside name args) (frame.Invocation (record { callback = k; call = call; pending = ForNothing })) fs fs' (rw (e, n) (ask_act engine w k call hook args d)) f r s gs m
+      moves_onto engine (pending_left engine w k call (Next (next.Ask (Act hook args)))) (action_pass (invoke engine) inside name args)
+      (frame.Invocation (record { callback = k; call = call; pending = ForNothing })) fs fs' (rw (e, n) (ask_act engine w k call hook args d)) f r s gs m
 
-  pub shortcodes_moves : (w inside : World) (k : ℕ) (call : Call) (text : Text) (fs fs' : List Frame) → w.depth < 32 → inside ≡ record w { depth = w.depth + 1 } → fs' ≡ frame.Invocation (record { callback = k; call = call; pending = ForText }) ∷ fs
-      → (r : Result Move RunFault) (s : World) (gs : List Frame) → Moves engine (then_rest engine (shortcodes_pass (invoke engine) inside text) fs') r s gs → Moves engine (then_rest engine (pending_left engine w k call (Next (next.Ask (Shortcodes text)))) fs) r s gs
+  pub shortcodes_moves : (w inside : World) (k : ℕ) (call : Call) (text : Text) (fs fs' : List Frame) → w.depth < 32
+      → inside ≡ record w { depth = w.depth + 1 } → fs' ≡ frame.Invocation (record { callback = k; call = call; pending = ForText }) ∷ fs
+      → (r : Result Move RunFault) (s : World) (gs : List Frame) → Moves engine (then_rest engine (shortcodes_pass (invoke engine) inside text) fs') r s gs
+      → Moves engine (then_rest engine (pending_left engine w k call (Next (next.Ask (Shortcodes text)))) fs) r s gs
   shortcodes_moves w inside k call text fs fs' d e f r s gs m =
-      moves_onto engine (pending_left engine w k call (Next (next.Ask (Shortcodes text)))) (shortcodes_pass (invoke engine) inside text) (frame.Invocation (record { callback = k; call = call; pending = ForText })) fs fs' (rw e (ask_shortcodes engine w k call text d)) f r s gs m
+      moves_onto engine (pending_left engine w k call (Next (next.Ask (Shortcodes text)))) (shortcodes_pass (invoke engine) inside text)
+      (frame.Invocation (record { callback = k; call = call; pending = ForText })) fs fs' (rw e (ask_shortcodes engine w k call text d)) f r s gs m
 
-  pub core_moves : (w inside : World) (k : ℕ) (call kept : Call) (text : Text) (fs fs' : List Frame) → w.depth < 32 → inside ≡ record w { depth = w.depth + 1 } → text ≡ first_or_empty call.args → fs' ≡ frame.Invocation (record { callback = k; call = kept; pending = ForCore }) ∷ fs
-      → (r : Result Move RunFault) (s : World) (gs : List Frame) → Moves engine (then_rest engine (shortcodes_pass (invoke engine) inside text) fs') r s gs → Moves engine (then_rest engine (pending_left engine w k call Core) fs) r s gs
+  pub core_moves : (w inside : World) (k : ℕ) (call kept : Call) (text : Text) (fs fs' : List Frame) → w.depth < 32
+      → inside ≡ record w { depth = w.depth + 1 } → text ≡ first_or_empty call.args
+      → fs' ≡ frame.Invocation (record { callback = k; call = kept; pending = ForCore }) ∷ fs
+      → (r : Result Move RunFault) (s : World) (gs : List Frame) → Moves engine (then_rest engine (shortcodes_pass (invoke engine) inside text) fs') r s gs
+      → Moves engine (then_rest engine (pending_left engine w k call Core) fs) r s gs
   core_moves w inside k call kept text fs fs' d e t f r s gs m =
-      moves_onto engine (pending_left engine w k call Core) (shortcodes_pass (invoke engine) inside text) (frame.Invocation (record { callback = k; call = kept; pending = ForCore })) fs fs' (rw (e, t) (core_goes engine w k call kept d)) f r s gs m
+      moves_onto engine (pending_left engine w k call Core) (shortcodes_pass (invoke engine) inside text)
+      (frame.Invocation (record { callback = k; call = kept; pending = ForCore })) fs fs' (rw (e, t) (core_goes engine w k call kept d)) f r s gs m
 
   pub plain_moves : (w : World) (k : ℕ) (call : Call) (ask : Ask) (reply : Answer) (fs : List Frame) → answered (invoke engine) w ask ≡ Done w reply
-      → (r : Result Move RunFault) (s : World) (gs : List Frame) → Moves engine (then_rest engine (invoke engine w k (with_answer call reply)) fs) r s gs → Moves engine (then_rest engine (pending_left engine w k call (Next (next.Ask ask))) fs) r s gs
+      → (r : Result Move RunFault) (s : World) (gs : List Frame) → Moves engine (then_rest engine (invoke engine w k (with_answer call reply)) fs) r s gs
+      → Moves engine (then_rest engine (pending_left engine w k call (Next (next.Ask ask))) fs) r s gs
   plain_moves w k call ask reply fs h r s gs m =
-      moves_same engine (pending_left engine w k call (Next (next.Ask ask))) (invoke engine w k (with_answer call reply)) fs (ask_plain engine w k call ask reply h) r s gs m
+      moves_same engine (pending_left engine w k call (Next (next.Ask ask))) (invoke engine w k (with_answer call reply)) fs
+      (ask_plain engine w k call ask reply h) r s gs m
 
   pub did_is : (w : World) (hook : Text) → answered (invoke engine) w (Did hook) ≡ Done w (answer.Number (pos (times_fired w.counts hook)))
   unfolding answered
@@ -173,33 +208,46 @@ module _ (engine : Engine) where
 
   -- ---- the answers that take no call
 
-  pub did_moves : (w : World) (k : ℕ) (call : Call) (hook name : Text) (reply : Answer) (fs : List Frame) → name ≡ hook → reply ≡ answer.Number (pos (times_fired w.counts name))
-      → (r : Result Move RunFault) (s : World) (gs : List Frame) → Moves engine (then_rest engine (invoke engine w k (with_answer call reply)) fs) r s gs → Moves engine (then_rest engine (pending_left engine w k call (Next (next.Ask (Did hook)))) fs) r s gs
+  pub did_moves : (w : World) (k : ℕ) (call : Call) (hook name : Text) (reply : Answer) (fs : List Frame) → name ≡ hook
+      → reply ≡ answer.Number (pos (times_fired w.counts name))
+      → (r : Result Move RunFault) (s : World) (gs : List Frame) → Moves engine (then_rest engine (invoke engine w k (with_answer call reply)) fs) r s gs
+      → Moves engine (then_rest engine (pending_left engine w k call (Next (next.Ask (Did hook)))) fs) r s gs
   did_moves w k call hook name reply fs n e r s gs m = plain_moves w k call (Did hook) reply fs (rw (e, n) (did_is w hook)) r s gs m
 
-  pub doing_moves : (w : World) (k : ℕ) (call : Call) (hook name : Text) (reply : Answer) (fs : List Frame) → name ≡ hook → reply ≡ answer.Flag (list_any (bytes_eq name) w.running)
-      → (r : Result Move RunFault) (s : World) (gs : List Frame) → Moves engine (then_rest engine (invoke engine w k (with_answer call reply)) fs) r s gs → Moves engine (then_rest engine (pending_left engine w k call (Next (next.Ask (Doing hook)))) fs) r s gs
+  pub doing_moves : (w : World) (k : ℕ) (call : Call) (hook name : Text) (reply : Answer) (fs : List Frame) → name ≡ hook
+      → reply ≡ answer.Flag (list_any (bytes_eq name) w.running)
+      → (r : Result Move RunFault) (s : World) (gs : List Frame) → Moves engine (then_rest engine (invoke engine w k (with_answer call reply)) fs) r s gs
+      → Moves engine (then_rest engine (pending_left engine w k call (Next (next.Ask (Doing hook)))) fs) r s gs
   doing_moves w k call hook name reply fs n e r s gs m = plain_moves w k call (Doing hook) reply fs (rw (e, n) (doing_is w hook)) r s gs m
 
-  pub tag_moves : (w : World) (k : ℕ) (call : Call) (hook name : Text) (reply : Answer) (fs : List Frame) → name ≡ hook → reply ≡ answer.Flag (is_some (value_of w.tags name))
-      → (r : Result Move RunFault) (s : World) (gs : List Frame) → Moves engine (then_rest engine (invoke engine w k (with_answer call reply)) fs) r s gs → Moves engine (then_rest engine (pending_left engine w k call (Next (next.Ask (TagExists hook)))) fs) r s gs
+  pub tag_moves : (w : World) (k : ℕ) (call : Call) (hook name : Text) (reply : Answer) (fs : List Frame) → name ≡ hook
+      → reply ≡ answer.Flag (is_some (value_of w.tags name))
+      → (r : Result Move RunFault) (s : World) (gs : List Frame) → Moves engine (then_rest engine (invoke engine w k (with_answer call reply)) fs) r s gs
+      → Moves engine (then_rest engine (pending_left engine w k call (Next (next.Ask (TagExists hook)))) fs) r s gs
   tag_moves w k call hook name reply fs n e r s gs m = plain_moves w k call (TagExists hook) reply fs (rw (e, n) (tag_is w hook)) r s gs m
 
-  pub option_moves : (w : World) (k : ℕ) (call : Call) (hook name : Text) (reply : Answer) (fs : List Frame) → name ≡ hook → reply ≡ text_or_false (value_of w.options name)
-      → (r : Result Move RunFault) (s : World) (gs : List Frame) → Moves engine (then_rest engine (invoke engine w k (with_answer call reply)) fs) r s gs → Moves engine (then_rest engine (pending_left engine w k call (Next (next.Ask (GetOption hook)))) fs) r s gs
+  pub option_moves : (w : World) (k : ℕ) (call : Call) (hook name : Text) (reply : Answer) (fs : List Frame) → name ≡ hook
+      → reply ≡ text_or_false (value_of w.options name)
+      → (r : Result Move RunFault) (s : World) (gs : List Frame) → Moves engine (then_rest engine (invoke engine w k (with_answer call reply)) fs) r s gs
+      → Moves engine (then_rest engine (pending_left engine w k call (Next (next.Ask (GetOption hook)))) fs) r s gs
   option_moves w k call hook name reply fs n e r s gs m = plain_moves w k call (GetOption hook) reply fs (rw (e, n) (option_is w hook)) r s gs m
 
-  pub has_moves : (w : World) (k : ℕ) (call : Call) (hook name : Text) (other : Option ℕ) (reply : Answer) (fs : List Frame) → name ≡ hook → reply ≡ has_answer w name other
-      → (r : Result Move RunFault) (s : World) (gs : List Frame) → Moves engine (then_rest engine (invoke engine w k (with_answer call reply)) fs) r s gs → Moves engine (then_rest engine (pending_left engine w k call (Next (next.Ask (Has hook other)))) fs) r s gs
+  pub has_moves : (w : World) (k : ℕ) (call : Call) (hook name : Text) (other : Option ℕ) (reply : Answer) (fs : List Frame) → name ≡ hook
+      → reply ≡ has_answer w name other
+      → (r : Result Move RunFault) (s : World) (gs : List Frame) → Moves engine (then_rest engine (invoke engine w k (with_answer call reply)) fs) r s gs
+      → Moves engine (then_rest engine (pending_left engine w k call (Next (next.Ask (Has hook other)))) fs) r s gs
   has_moves w k call hook name other reply fs n e r s gs m = plain_moves w k call (Has hook other) reply fs (rw (e, n) (has_is w hook other)) r s gs m
 
   pub current_moves : (w : World) (k : ℕ) (call : Call) (reply : Answer) (fs : List Frame) → reply ≡ answer.Text (last_or_empty w.running)
-      → (r : Result Move RunFault) (s : World) (gs : List Frame) → Moves engine (then_rest engine (invoke engine w k (with_answer call reply)) fs) r s gs → Moves engine (then_rest engine (pending_left engine w k call (Next (next.Ask Current))) fs) r s gs
+      → (r : Result Move RunFault) (s : World) (gs : List Frame) → Moves engine (then_rest engine (invoke engine w k (with_answer call reply)) fs) r s gs
+      → Moves engine (then_rest engine (pending_left engine w k call (Next (next.Ask Current))) fs) r s gs
   current_moves w k call reply fs e r s gs m = plain_moves w k call Current reply fs (rw e (current_is w)) r s gs m
 
   -- ---- by the pending step
 
-  pub waits_moves : (w : World) (k : ℕ) (call : Call) (nothing : Text) (fs : List Frame) (pending : Pending) → pending_left engine w k call pending ≡ Done w [] → nothing ≡ [] → Moves engine (then_rest engine (pending_left engine w k call pending) fs) (Ok (Handed nothing)) w fs
+  pub waits_moves : (w : World) (k : ℕ) (call : Call) (nothing : Text) (fs : List Frame) (pending : Pending)
+      → pending_left engine w k call pending ≡ Done w [] → nothing ≡ []
+      → Moves engine (then_rest engine (pending_left engine w k call pending) fs) (Ok (Handed nothing)) w fs
   waits_moves w k call nothing fs pending e n = rw n (handed_moves (pending_left engine w k call pending) w [] fs e)
 
   pub text_waits : (w : World) (k : ℕ) (call : Call) → pending_left engine w k call ForText ≡ Done w []
@@ -216,79 +264,108 @@ module _ (engine : Engine) where
 
   -- a result that is handed to an invocation
   pub text_handed : (w up : World) (k : ℕ) (call : Call) (text : Text) (fs : List Frame) → up ≡ risen w
-      → (r : Result Move RunFault) (s : World) (gs : List Frame) → Moves engine (then_rest engine (invoke engine up k (with_answer call (answer.Text text))) fs) r s gs → Moves engine (then_rest engine (pending_handed engine w k call ForText text) fs) r s gs
+      → (r : Result Move RunFault) (s : World) (gs : List Frame) → Moves engine
+      (then_rest engine (invoke engine up k (with_answer call (answer.Text text))) fs) r s gs
+      → Moves engine (then_rest engine (pending_handed engine w k call ForText text) fs) r s gs
   unfolding pending_handed
-  text_handed w up k call text fs e r s gs m = moves_same engine (invoke engine (risen w) k (with_answer call (answer.Text text))) (invoke engine up k (with_answer call (answer.Text text))) fs (ap (λ (v : World). invoke engine v k (with_answer call (answer.Text text))) (sym e)) r s gs m
+  text_handed w up k call text fs e r s gs m = moves_same engine (invoke engine (risen w) k (with_answer call (answer.Text text)))
+      (invoke engine up k (with_answer call (answer.Text text))) fs (ap (λ (v : World). invoke engine v k (with_answer call (answer.Text text))) (sym e)) r s
+      gs m
 
   pub nothing_handed : (w up : World) (k : ℕ) (call : Call) (text : Text) (fs : List Frame) → up ≡ risen w
-      → (r : Result Move RunFault) (s : World) (gs : List Frame) → Moves engine (then_rest engine (invoke engine up k (with_answer call answer.Nothing)) fs) r s gs → Moves engine (then_rest engine (pending_handed engine w k call ForNothing text) fs) r s gs
+      → (r : Result Move RunFault) (s : World) (gs : List Frame) → Moves engine (then_rest engine (invoke engine up k (with_answer call answer.Nothing)) fs) r
+      s gs → Moves engine (then_rest engine (pending_handed engine w k call ForNothing text) fs) r s gs
   unfolding pending_handed
-  nothing_handed w up k call text fs e r s gs m = moves_same engine (invoke engine (risen w) k (with_answer call answer.Nothing)) (invoke engine up k (with_answer call answer.Nothing)) fs (ap (λ (v : World). invoke engine v k (with_answer call answer.Nothing)) (sym e)) r s gs m
+  nothing_handed w up k call text fs e r s gs m = moves_same engine (invoke engine (risen w) k (with_answer call answer.Nothing))
+      (invoke engine up k (with_answer call answer.Nothing)) fs (ap (λ (v : World). invoke engine v k (with_answer call answer.Nothing)) (sym e)) r s gs m
 
-  pub core_handed : (w up : World) (k : ℕ) (call : Call) (text : Text) (fs : List Frame) → up ≡ risen w → Moves engine (then_rest engine (pending_handed engine w k call ForCore text) fs) (Ok (Handed text)) up fs
+  pub core_handed : (w up : World) (k : ℕ) (call : Call) (text : Text) (fs : List Frame) → up ≡ risen w
+      → Moves engine (then_rest engine (pending_handed engine w k call ForCore text) fs) (Ok (Handed text)) up fs
   unfolding pending_handed
   core_handed w up k call text fs e = handed_moves (Done (risen w) text) up text fs (ap (λ (v : World). Done v text) (sym e))
 
-  pub next_handed : (w : World) (k : ℕ) (call : Call) (n : Then) (text : Text) (fs : List Frame) → Moves engine (then_rest engine (pending_handed engine w k call (Next n) text) fs) (Ok (Handed text)) w fs
+  pub next_handed : (w : World) (k : ℕ) (call : Call) (n : Then) (text : Text) (fs : List Frame)
+      → Moves engine (then_rest engine (pending_handed engine w k call (Next n) text) fs) (Ok (Handed text)) w fs
   unfolding pending_handed
   next_handed w k call n text fs = refl
 
-  pub begun_handed : (w : World) (k : ℕ) (call : Call) (text : Text) (fs : List Frame) → Moves engine (then_rest engine (pending_handed engine w k call Core text) fs) (Ok (Handed text)) w fs
+  pub begun_handed : (w : World) (k : ℕ) (call : Call) (text : Text) (fs : List Frame)
+      → Moves engine (then_rest engine (pending_handed engine w k call Core text) fs) (Ok (Handed text)) w fs
   unfolding pending_handed
   begun_handed w k call text fs = refl
 
   -- ---- shortcodes
 
   pub text_moves : (w : World) (p : TextPass) (found : Option Handling) (h : Handling) (cut : CutText) (so_far : Text) (fs fs' : List Frame)
-      → ((inv : Invocation) → pieces_pass inv p.cut.text w p.so_far p.cut.pieces ≡ handling_pass inv p.cut.text w found so_far cut.pieces) → found ≡ Some h → cut.text ≡ p.cut.text
+      → ((inv : Invocation) → pieces_pass inv p.cut.text w p.so_far p.cut.pieces ≡ handling_pass inv p.cut.text w found so_far cut.pieces) → found ≡ Some h
+      → cut.text ≡ p.cut.text
       → fs' ≡ frame.Shortcodes (record { cut = cut; so_far = so_far; hand = Some h.extras }) ∷ fs
-      → (r : Result Move RunFault) (s : World) (gs : List Frame) → Moves engine (then_rest engine (invoke engine w h.handler h.call) fs') r s gs → Moves engine (then_rest engine (text_left engine w p) fs) r s gs
+      → (r : Result Move RunFault) (s : World) (gs : List Frame) → Moves engine (then_rest engine (invoke engine w h.handler h.call) fs') r s gs
+      → Moves engine (then_rest engine (text_left engine w p) fs) r s gs
   unfolding handed
   text_moves w p found h cut so_far fs fs' e q t f r s gs m =
-      moves_onto engine (text_left engine w p) (invoke engine w h.handler h.call) (frame.Shortcodes (record { cut = cut; so_far = so_far; hand = Some h.extras })) fs fs'
+      moves_onto engine (text_left engine w p) (invoke engine w h.handler h.call)
+      (frame.Shortcodes (record { cut = cut; so_far = so_far; hand = Some h.extras })) fs fs'
       (e (invoke engine)
       ∙ ap (λ (o : Option Handling). handling_pass (invoke engine) p.cut.text w o so_far cut.pieces) q
-      ∙ ap (λ (z : Text). and_then (invoke engine w h.handler h.call) (λ later x. pieces_pass (invoke engine) z later (so_far ++ in_place (Some h.extras) x) cut.pieces)) (sym t))
+      ∙ ap (λ (z : Text). and_then (invoke engine w h.handler h.call)
+      (λ later x. pieces_pass (invoke engine) z later (so_far ++ in_place (Some h.extras) x) cut.pieces)) (sym t))
       f r s gs m
 
-  pub text_begin : (w : World) (text shown so_far : Text) (ps : List Piece) (cut : CutText) (fs : List Frame) → shown ≡ text → ps ≡ pieces_of (live (map (λ p. p.0) w.tags) shown) shown → cut ≡ record { text = text; pieces = ps } → so_far ≡ []
-      → (r : Result Move RunFault) (s : World) (gs : List Frame) → Moves engine (then_rest engine (text_left engine w (record { cut = cut; so_far = so_far; hand = None })) fs) r s gs
+  pub text_begin : (w : World) (text shown so_far : Text) (ps : List Piece) (cut : CutText) (fs : List Frame) → shown ≡ text
+      → ps ≡ pieces_of (live (map (λ p. p.0) w.tags) shown) shown → cut ≡ record { text = text; pieces = ps } → so_far ≡ []
+      → (r : Result Move RunFault) (s : World) (gs : List Frame) → Moves engine
+      (then_rest engine (text_left engine w (record { cut = cut; so_far = so_far; hand = None })) fs) r s gs
       → Moves engine (then_rest engine (shortcodes_pass (invoke engine) w text) fs) r s gs
   text_begin w text shown so_far ps cut fs t e c n r s gs m =
-      moves_same engine (shortcodes_pass (invoke engine) w text) (text_left engine w (record { cut = cut; so_far = so_far; hand = None })) fs (rw (c, n, e, t) (text_begins engine w text)) r s gs m
+      moves_same engine (shortcodes_pass (invoke engine) w text) (text_left engine w (record { cut = cut; so_far = so_far; hand = None })) fs
+      (rw (c, n, e, t) (text_begins engine w text)) r s gs m
 
   -- a text without shortcodes
-  pub text_back : (w : World) (text shown : Text) (ps : List Piece) (fs : List Frame) → shown ≡ text → ps ≡ pieces_of (live (map (λ p. p.0) w.tags) shown) shown → pieces_pass (invoke engine) text w [] ps ≡ Done w text
+  pub text_back : (w : World) (text shown : Text) (ps : List Piece) (fs : List Frame) → shown ≡ text
+      → ps ≡ pieces_of (live (map (λ p. p.0) w.tags) shown) shown → pieces_pass (invoke engine) text w [] ps ≡ Done w text
       → Moves engine (then_rest engine (shortcodes_pass (invoke engine) w text) fs) (Ok (Handed text)) w fs
   text_back w text shown ps fs t e d = handed_moves (shortcodes_pass (invoke engine) w text) w text fs (text_begins engine w text ∙ (rw (e, t) at d))
 
   -- ---- the innermost frame
 
-  pub pass_first : (w : World) (p : HookPass) (fs : List Frame) (r : Result Move RunFault) (s : World) (gs : List Frame) → Moves engine (then_rest engine (pass_left engine w p) fs) r s gs → Moves engine (rest engine w (frame.Pass p ∷ fs)) r s gs
+  pub pass_first : (w : World) (p : HookPass) (fs : List Frame) (r : Result Move RunFault) (s : World) (gs : List Frame)
+      → Moves engine (then_rest engine (pass_left engine w p) fs) r s gs → Moves engine (rest engine w (frame.Pass p ∷ fs)) r s gs
   unfolding rest goes_on
   pass_first w p fs r s gs m = m
 
-  pub invocation_first : (w : World) (i : Invoked) (fs : List Frame) (r : Result Move RunFault) (s : World) (gs : List Frame) → Moves engine (then_rest engine (pending_left engine w i.callback i.call i.pending) fs) r s gs → Moves engine (rest engine w (frame.Invocation i ∷ fs)) r s gs
+  pub invocation_first : (w : World) (i : Invoked) (fs : List Frame) (r : Result Move RunFault) (s : World) (gs : List Frame)
+      → Moves engine (then_rest engine (pending_left engine w i.callback i.call i.pending) fs) r s gs
+      → Moves engine (rest engine w (frame.Invocation i ∷ fs)) r s gs
   unfolding rest goes_on
   invocation_first w i fs r s gs m = m
 
-  pub text_first : (w : World) (p : TextPass) (fs : List Frame) (r : Result Move RunFault) (s : World) (gs : List Frame) → Moves engine (then_rest engine (text_left engine w p) fs) r s gs → Moves engine (rest engine w (frame.Shortcodes p ∷ fs)) r s gs
+  pub text_first : (w : World) (p : TextPass) (fs : List Frame) (r : Result Move RunFault) (s : World) (gs : List Frame)
+      → Moves engine (then_rest engine (text_left engine w p) fs) r s gs → Moves engine (rest engine w (frame.Shortcodes p ∷ fs)) r s gs
   unfolding rest goes_on
   text_first w p fs r s gs m = m
 
   -- once it is handed a result
 
-  pub pass_next : (w : World) (p q : HookPass) (x : Text) (fs : List Frame) → q ≡ record p { value = value_after p.kind p.value x } → (r : Result Move RunFault) (s : World) (gs : List Frame) → Moves engine (then_rest engine (pass_left engine w q) fs) r s gs → Moves engine (rest_with engine w (frame.Pass p ∷ fs) x) r s gs
+  pub pass_next : (w : World) (p q : HookPass) (x : Text) (fs : List Frame) → q ≡ record p { value = value_after p.kind p.value x }
+      → (r : Result Move RunFault) (s : World) (gs : List Frame) → Moves engine (then_rest engine (pass_left engine w q) fs) r s gs
+      → Moves engine (rest_with engine w (frame.Pass p ∷ fs) x) r s gs
   unfolding rest_with handed
-  pass_next w p q x fs e r s gs m = moves_same engine (pass_left engine w (record p { value = value_after p.kind p.value x })) (pass_left engine w q) fs (ap (λ (z : HookPass). pass_left engine w z) (sym e)) r s gs m
+  pass_next w p q x fs e r s gs m = moves_same engine (pass_left engine w (record p { value = value_after p.kind p.value x })) (pass_left engine w q) fs
+      (ap (λ (z : HookPass). pass_left engine w z) (sym e)) r s gs m
 
-  pub invocation_next : (w : World) (i : Invoked) (x : Text) (fs : List Frame) (r : Result Move RunFault) (s : World) (gs : List Frame) → Moves engine (then_rest engine (pending_handed engine w i.callback i.call i.pending x) fs) r s gs → Moves engine (rest_with engine w (frame.Invocation i ∷ fs) x) r s gs
+  pub invocation_next : (w : World) (i : Invoked) (x : Text) (fs : List Frame) (r : Result Move RunFault) (s : World) (gs : List Frame)
+      → Moves engine (then_rest engine (pending_handed engine w i.callback i.call i.pending x) fs) r s gs
+      → Moves engine (rest_with engine w (frame.Invocation i ∷ fs) x) r s gs
   unfolding rest_with handed
   invocation_next w i x fs r s gs m = m
 
-  pub text_next : (w : World) (p q : TextPass) (x : Text) (fs : List Frame) → q ≡ record p { so_far = p.so_far ++ in_place p.hand x } → (r : Result Move RunFault) (s : World) (gs : List Frame) → Moves engine (then_rest engine (text_left engine w q) fs) r s gs → Moves engine (rest_with engine w (frame.Shortcodes p ∷ fs) x) r s gs
+  pub text_next : (w : World) (p q : TextPass) (x : Text) (fs : List Frame) → q ≡ record p { so_far = p.so_far ++ in_place p.hand x }
+      → (r : Result Move RunFault) (s : World) (gs : List Frame) → Moves engine (then_rest engine (text_left engine w q) fs) r s gs
+      → Moves engine (rest_with engine w (frame.Shortcodes p ∷ fs) x) r s gs
   unfolding rest_with handed
-  text_next w p q x fs e r s gs m = moves_same engine (text_left engine w (record p { so_far = p.so_far ++ in_place p.hand x })) (text_left engine w q) fs (ap (λ (z : TextPass). text_left engine w z) (sym e)) r s gs m
+  text_next w p q x fs e r s gs m = moves_same engine (text_left engine w (record p { so_far = p.so_far ++ in_place p.hand x })) (text_left engine w q) fs
+      (ap (λ (z : TextPass). text_left engine w z) (sym e)) r s gs m
 
   -- ---- no frame
 
@@ -296,7 +373,8 @@ module _ (engine : Engine) where
   unfolding rest_with
   none_next w fs x e = rw e refl
 
-  pub nothing_left : (w : World) (job : Option Job) (fs gs : List Frame) (x : Text) → job ≡ None → fs ≡ [] → gs ≡ [] → x ≡ [] → left_from engine w job fs ≡ rest_with engine w gs x
+  pub nothing_left : (w : World) (job : Option Job) (fs gs : List Frame) (x : Text) → job ≡ None → fs ≡ [] → gs ≡ [] → x ≡ []
+      → left_from engine w job fs ≡ rest_with engine w gs x
   unfolding rest rest_with
   nothing_left w job fs gs x j e f n = rw (j, e, f, n) refl
 

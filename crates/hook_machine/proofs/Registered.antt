@@ -33,7 +33,8 @@ module _ {X : Type 0} (test : X → Bool) where
   all-set (p ∷ ps) name v h t =
       elim (bytes_eq name p.0) as (λ b. all_values (if b then (p.0, v) ∷ ps else p ∷ set_value ps name v) ≡ true) [
         | true ↦ and_both (test v) (all_values ps) t (and_right (test p.1) (all_values ps) h)
-        | false ↦ and_both (test p.1) (all_values (set_value ps name v)) (and_left (test p.1) (all_values ps) h) (all-set ps name v (and_right (test p.1) (all_values ps) h) t)
+        | false ↦ and_both (test p.1) (all_values (set_value ps name v)) (and_left (test p.1) (all_values ps) h)
+            (all-set ps name v (and_right (test p.1) (all_values ps) h) t)
       ]
 
   all-remove : (pairs : List (List ℕ × X)) (name : List ℕ) → all_values pairs ≡ true → all_values (remove_value pairs name) ≡ true
@@ -41,7 +42,8 @@ module _ {X : Type 0} (test : X → Bool) where
   all-remove (p ∷ ps) name h =
       elim (bytes_eq name p.0) as (λ b. all_values (cond b ps (p ∷ remove_value ps name)) ≡ true) [
         | true ↦ and_right (test p.1) (all_values ps) h
-        | false ↦ and_both (test p.1) (all_values (remove_value ps name)) (and_left (test p.1) (all_values ps) h) (all-remove ps name (and_right (test p.1) (all_values ps) h))
+        | false ↦ and_both (test p.1) (all_values (remove_value ps name)) (and_left (test p.1) (all_values ps) h)
+            (all-remove ps name (and_right (test p.1) (all_values ps) h))
       ]
 
   all-value : (pairs : List (List ℕ × X)) (name : List ℕ) (d : X) → test d ≡ true → all_values pairs ≡ true → test (unwrap_or (value_of pairs name) d) ≡ true
@@ -56,7 +58,8 @@ module _ {X : Type 0} (test : X → Bool) where
   all-filter passes [] h = h
   all-filter passes (x ∷ xs) h =
       elim (passes x) as (λ b. list_all test (cond b (x ∷ filter passes xs) (filter passes xs)) ≡ true) [
-        | true ↦ and_both (test x) (list_all test (filter passes xs)) (and_left (test x) (list_all test xs) h) (all-filter passes xs (and_right (test x) (list_all test xs) h))
+        | true ↦ and_both (test x) (list_all test (filter passes xs)) (and_left (test x) (list_all test xs) h)
+            (all-filter passes xs (and_right (test x) (list_all test xs) h))
         | false ↦ all-filter passes xs (and_right (test x) (list_all test xs) h)
       ]
 
@@ -70,11 +73,13 @@ module _ (test : ℕ → Bool) where
   all-added : (rs : List Registration) (new : Registration) → all_passing rs ≡ true → test new.callback ≡ true → all_passing (with_added rs new) ≡ true
   all-added [] new h t = and_both (test new.callback) true t refl
   all-added (r ∷ rs) new h t =
-      elim (is_of new.priority new.callback r) as (λ b. all_passing (if b then record r { accepted = new.accepted } ∷ rs else if int_lt new.priority r.priority then new ∷ r ∷ rs else r ∷ with_added rs new) ≡ true) [
+      elim (is_of new.priority new.callback r) as (λ b. all_passing
+      (if b then record r { accepted = new.accepted } ∷ rs else if int_lt new.priority r.priority then new ∷ r ∷ rs else r ∷ with_added rs new) ≡ true) [
         | true ↦ h
         | false ↦ elim (int_lt new.priority r.priority) as (λ b. all_passing (if b then new ∷ r ∷ rs else r ∷ with_added rs new) ≡ true) [
           | true ↦ and_both (test new.callback) (all_passing (r ∷ rs)) t h
-          | false ↦ and_both (test r.callback) (all_passing (with_added rs new)) (and_left (test r.callback) (all_passing rs) h) (all-added rs new (and_right (test r.callback) (all_passing rs) h) t)
+          | false ↦ and_both (test r.callback) (all_passing (with_added rs new)) (and_left (test r.callback) (all_passing rs) h)
+              (all-added rs new (and_right (test r.callback) (all_passing rs) h) t)
         ]
       ]
 
@@ -88,8 +93,10 @@ module _ (test : ℕ → Bool) where
   all-keeping passes [] hook h = h
   all-keeping passes (p ∷ ps) hook h =
       elim (bytes_eq hook p.0) as (λ b. all_in (if b then (p.0, filter passes p.1) ∷ ps else p ∷ keeping passes ps hook) ≡ true) [
-        | true ↦ and_both (all_passing (filter passes p.1)) (all_in ps) (all-filter passing passes p.1 (and_left (all_passing p.1) (all_in ps) h)) (and_right (all_passing p.1) (all_in ps) h)
-        | false ↦ and_both (all_passing p.1) (all_in (keeping passes ps hook)) (and_left (all_passing p.1) (all_in ps) h) (all-keeping passes ps hook (and_right (all_passing p.1) (all_in ps) h))
+        | true ↦ and_both (all_passing (filter passes p.1)) (all_in ps) (all-filter passing passes p.1 (and_left (all_passing p.1) (all_in ps) h))
+            (and_right (all_passing p.1) (all_in ps) h)
+        | false ↦ and_both (all_passing p.1) (all_in (keeping passes ps hook)) (and_left (all_passing p.1) (all_in ps) h)
+            (all-keeping passes ps hook (and_right (all_passing p.1) (all_in ps) h))
       ]
 
 -- what holds of both holds of what is chosen
@@ -110,11 +117,13 @@ module _ (plugins : List Shape) where
   old_tags : (w : World) → names_active plugins w ≡ true → tags_ok w w.tags ≡ true
   old_tags w i = and_right (table_ok w w.table) (tags_ok w w.tags) i
 
-  with_table : (w : World) (b : Bool) (table : Table) → names_active plugins w ≡ true → (b ≡ true → table_ok w table ≡ true) → names_active plugins (record w { table = if b then table else w.table }) ≡ true
+  with_table : (w : World) (b : Bool) (table : Table) → names_active plugins w ≡ true → (b ≡ true → table_ok w table ≡ true)
+      → names_active plugins (record w { table = if b then table else w.table }) ≡ true
   with_table w b table i h =
       and_both (table_ok w (if b then table else w.table)) (tags_ok w w.tags) (either (table_ok w) b table w.table h (old_table w i)) (old_tags w i)
 
-  with_tags : (w : World) (tags : List (Text × ℕ)) → names_active plugins w ≡ true → tags_ok w tags ≡ true → names_active plugins (record w { tags = tags }) ≡ true
+  with_tags : (w : World) (tags : List (Text × ℕ)) → names_active plugins w ≡ true → tags_ok w tags ≡ true
+      → names_active plugins (record w { tags = tags }) ≡ true
   with_tags w tags i h = and_both (table_ok w w.table) (tags_ok w tags) (old_table w i) h
 
   of_three : (a b c : Bool) → (a && b && c) ≡ true → b ≡ true
@@ -143,7 +152,8 @@ module _ (plugins : List Shape) where
       let b = is_tag_name tag && is_active plugins w callback && not (callback == 0) in
       with_tags w (if b then set_value w.tags tag callback else w.tags) i
       (either (tags_ok w) b (set_value w.tags tag callback) w.tags
-      (λ e. all-set (is_held_by plugins w.active) w.tags tag callback (old_tags w i) (of_tag (is_tag_name tag) (callback == 0) (is_held_by plugins w.active callback) e))
+      (λ e. all-set (is_held_by plugins w.active) w.tags tag callback (old_tags w i)
+      (of_tag (is_tag_name tag) (callback == 0) (is_held_by plugins w.active callback) e))
       (old_tags w i))
   names_changed w (RemoveTag tag) i = with_tags w (remove_value w.tags tag) i (all-remove (is_held_by plugins w.active) w.tags tag (old_tags w i))
   names_changed w RemoveAllTags i = with_tags w [] i refl
@@ -162,4 +172,5 @@ module _ (plugins : List Shape) where
   -- once everything has loaded
   pub names-loaded : (calls : ℕ) (options : List (Text × Text)) (active : List Text) → names_active plugins (loaded plugins (fresh calls options active)) ≡ true
   unfolding loaded
-  names-loaded calls options active = keeps_all plugins (λ w. names_active plugins w ≡ true) keeps_names (fresh calls options active) (core_changes ++ load_changes plugins active) refl
+  names-loaded calls options active = keeps_all plugins (λ w. names_active plugins w ≡ true) keeps_names (fresh calls options active)
+      (core_changes ++ load_changes plugins active) refl

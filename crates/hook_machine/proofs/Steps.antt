@@ -49,30 +49,39 @@ some_is a b e = cc
 -- ---- the pieces of a text
 
 module _ (inv : Invocation) where
-  piece_first : (w : World) (text so_far : Text) (p : Piece) (ps : List Piece) → pieces_pass inv text w so_far (p ∷ ps) ≡ and_then (piece_pass inv text w p) (λ later result. pieces_pass inv text later (so_far ++ result) ps)
+  piece_first : (w : World) (text so_far : Text) (p : Piece) (ps : List Piece)
+      → pieces_pass inv text w so_far (p ∷ ps) ≡ and_then (piece_pass inv text w p) (λ later result. pieces_pass inv text later (so_far ++ result) ps)
   unfolding pieces_pass
   piece_first w text so_far p ps = refl
 
   -- a piece by its work
   piece_by : (w : World) (text so_far : Text) (p : Piece) (ps : List Piece) (t : Trace Text) → piece_pass inv text w p ≡ t
       → pieces_pass inv text w so_far (p ∷ ps) ≡ and_then t (λ later result. pieces_pass inv text later (so_far ++ result) ps)
-  piece_by w text so_far p ps t h = piece_first w text so_far p ps ∙ ap (λ (t : Trace Text). and_then t (λ later result. pieces_pass inv text later (so_far ++ result) ps)) h
+  piece_by w text so_far p ps t h = piece_first w text so_far p ps
+      ∙ ap (λ (t : Trace Text). and_then t (λ later result. pieces_pass inv text later (so_far ++ result) ps)) h
 
   -- a piece that stands as it is
-  pub piece_shown : (w : World) (text cut so_far : Text) (all ps : List Piece) (p : Piece) (todo : Work) (span : Span) (more : Text) → cut ≡ text → all ≡ p ∷ ps → piece_pass inv cut w p ≡ work_pass inv cut w todo → todo ≡ work.Shown span → more ≡ so_far ++ text_at cut span
+  pub piece_shown : (w : World) (text cut so_far : Text) (all ps : List Piece) (p : Piece) (todo : Work) (span : Span) (more : Text) → cut ≡ text
+      → all ≡ p ∷ ps → piece_pass inv cut w p ≡ work_pass inv cut w todo → todo ≡ work.Shown span → more ≡ so_far ++ text_at cut span
       → pieces_pass inv text w so_far all ≡ pieces_pass inv text w more ps
   piece_shown w text cut so_far all ps p todo span more c a h k m =
       ap (λ (l : List Piece). pieces_pass inv text w so_far l) a
-      ∙ piece_by w text so_far p ps (Done w (text_at cut span)) (ap (λ (t : Text). piece_pass inv t w p) (sym c) ∙ h ∙ ap (λ (x : Work). work_pass inv cut w x) k)
+      ∙ piece_by w text so_far p ps (Done w (text_at cut span)) (ap (λ (t : Text). piece_pass inv t w p) (sym c) ∙ h
+      ∙ ap (λ (x : Work). work_pass inv cut w x) k)
       ∙ ap (λ (t : Text). pieces_pass inv text w t ps) (sym m)
 
   -- a piece whose handler is invoked
-  pub piece_handled : (w : World) (text cut so_far : Text) (all ps : List Piece) (p : Piece) (todo : Work) (handler : ℕ) (call : Call) (opening closing : Bool) → cut ≡ text → all ≡ p ∷ ps → piece_pass inv cut w p ≡ work_pass inv cut w todo → todo ≡ work.Handled handler call opening closing
-      → pieces_pass inv text w so_far all ≡ and_then (inv w handler call) (λ later result. pieces_pass inv text later (so_far ++ (bracket opening 91 ++ result ++ bracket closing 93)) ps)
+  pub piece_handled : (w : World) (text cut so_far : Text) (all ps : List Piece) (p : Piece) (todo : Work) (handler : ℕ) (call : Call)
+      (opening closing : Bool) → cut ≡ text → all ≡ p ∷ ps → piece_pass inv cut w p ≡ work_pass inv cut w todo
+      → todo ≡ work.Handled handler call opening closing
+      → pieces_pass inv text w so_far all ≡ and_then (inv w handler call)
+      (λ later result. pieces_pass inv text later (so_far ++ (bracket opening 91 ++ result ++ bracket closing 93)) ps)
   piece_handled w text cut so_far all ps p todo handler call opening closing c a h k =
       ap (λ (l : List Piece). pieces_pass inv text w so_far l) a
-      ∙ piece_by w text so_far p ps (work_pass inv cut w (work.Handled handler call opening closing)) (ap (λ (t : Text). piece_pass inv t w p) (sym c) ∙ h ∙ ap (λ (x : Work). work_pass inv cut w x) k)
-      ∙ then_then (inv w handler call) (λ later result. Done later (bracket opening 91 ++ result ++ bracket closing 93)) (λ later result. pieces_pass inv text later (so_far ++ result) ps)
+      ∙ piece_by w text so_far p ps (work_pass inv cut w (work.Handled handler call opening closing))
+      (ap (λ (t : Text). piece_pass inv t w p) (sym c) ∙ h ∙ ap (λ (x : Work). work_pass inv cut w x) k)
+      ∙ then_then (inv w handler call) (λ later result. Done later (bracket opening 91 ++ result ++ bracket closing 93))
+      (λ later result. pieces_pass inv text later (so_far ++ result) ps)
 
   -- no piece is left
   pub pieces_end : (w : World) (text so_far : Text) (all : List Piece) → all ≡ [] → pieces_pass inv text w so_far all ≡ Done w so_far
@@ -81,7 +90,8 @@ module _ (inv : Invocation) where
 
 module _ (engine : Engine) where
   -- work whose result is handed to a frame, and then to the others
-  pub onto_frame : (t : Trace Text) (f : Frame) (fs : List Frame) → then_rest engine (and_then t (λ later x. handed engine later f x)) fs ≡ then_rest engine t (f ∷ fs)
+  pub onto_frame : (t : Trace Text) (f : Frame) (fs : List Frame)
+      → then_rest engine (and_then t (λ later x. handed engine later f x)) fs ≡ then_rest engine t (f ∷ fs)
   unfolding rest_with
   onto_frame t f fs = then_then t (λ later x. handed engine later f x) (λ later x. rest_with engine later fs x)
 
@@ -89,10 +99,12 @@ module _ (engine : Engine) where
 
   pass_cons : (w : World) (kind : PassKind) (hook : Text) (args : List Text) (v : Text) (at : Option ℤ) (e : Entry) (es : List Entry)
       → pass_from engine w kind hook args v at (e ∷ es)
-      ≡ and_then (invoke engine w e.callback (hook_call hook (take e.accepted (arguments kind v args)))) (λ later r. pass_from engine later kind hook args (value_after kind v r) at es)
+      ≡ and_then (invoke engine w e.callback (hook_call hook (take e.accepted (arguments kind v args))))
+      (λ later r. pass_from engine later kind hook args (value_after kind v r) at es)
   unfolding pass_from group_pass
   pass_cons w kind hook args v at e es =
-      then_then (invoke engine w e.callback (hook_call hook (take e.accepted (arguments kind v args)))) (λ later r. group_pass (invoke engine) kind hook args later (value_after kind v r) es) (λ later kept. above_left engine later kind hook args kept at)
+      then_then (invoke engine w e.callback (hook_call hook (take e.accepted (arguments kind v args))))
+      (λ later r. group_pass (invoke engine) kind hook args later (value_after kind v r) es) (λ later kept. above_left engine later kind hook args kept at)
 
   pass_above : (w : World) (kind : PassKind) (hook : Text) (args : List Text) (v : Text) (at : Option ℤ) (p : ℤ) → next_priority w.table hook at ≡ Some p
       → pass_from engine w kind hook args v at [] ≡ pass_from engine w kind hook args v (Some p) (group w.table hook p)
@@ -100,19 +112,22 @@ module _ (engine : Engine) where
   pass_above w kind hook args v at p h =
       ap (λ (o : Option ℤ). and_then (priorities_pass (invoke engine) kind hook args w.calls w v o) (λ last x. Done (left_hook last) x)) h
       ∙ ap (λ (t : Trace Text). and_then t (λ last x. Done (left_hook last) x)) (walk-some engine kind hook args w v p at h)
-      ∙ then_then (group_pass (invoke engine) kind hook args w v (group w.table hook p)) (λ later kept. priorities_pass (invoke engine) kind hook args later.calls later kept (next_priority later.table hook (Some p))) (λ last x. Done (left_hook last) x)
+      ∙ then_then (group_pass (invoke engine) kind hook args w v (group w.table hook p))
+      (λ later kept. priorities_pass (invoke engine) kind hook args later.calls later kept (next_priority later.table hook (Some p)))
+      (λ last x. Done (left_hook last) x)
 
   pass_none : (w : World) (kind : PassKind) (hook : Text) (args : List Text) (v : Text) (at : Option ℤ) → next_priority w.table hook at ≡ None
       → pass_from engine w kind hook args v at [] ≡ Done (left_hook w) v
   unfolding pass_from group_pass above_left priorities_pass
   pass_none w kind hook args v at h = rw h refl
 
-  -- the pass goes on with an entry, where it has one
+  -- the pass goes on with an entry, if it has one
   abbrev GoesTo : World → PassKind → Text → List Text → Text → Option ℤ → List Entry → Option Entry × Position → Type 0
   GoesTo w kind hook args v at es found =
       (e : Entry) → Some e ≡ found.0
       → pass_from engine w kind hook args v at es
-      ≡ and_then (invoke engine w e.callback (hook_call hook (take e.accepted (arguments kind v args)))) (λ later r. pass_from engine later kind found.1.hook args (value_after kind v r) found.1.reached found.1.entries)
+      ≡ and_then (invoke engine w e.callback (hook_call hook (take e.accepted (arguments kind v args))))
+      (λ later r. pass_from engine later kind found.1.hook args (value_after kind v r) found.1.reached found.1.entries)
 
   goes_cons : (w : World) (kind : PassKind) (hook : Text) (args : List Text) (v : Text) (at : Option ℤ) (x : Entry) (es : List Entry)
       → GoesTo w kind hook args v at (x ∷ es) (Some x, record { hook = hook; reached = at; entries = es })
@@ -135,11 +150,12 @@ module _ (engine : Engine) where
 
   -- a pass invokes its next entry, and waits for the result
   pub pass_goes : (w : World) (p : HookPass) (e : Entry) → Some e ≡ (next_entry w.table p.position).0
-      → pass_left engine w p ≡ and_then (invoke engine w e.callback (hook_call p.position.hook (take e.accepted (arguments p.kind p.value p.args)))) (λ later r. handed engine later (frame.Pass (record p { position = (next_entry w.table p.position).1 })) r)
+      → pass_left engine w p ≡ and_then (invoke engine w e.callback (hook_call p.position.hook (take e.accepted (arguments p.kind p.value p.args))))
+      (λ later r. handed engine later (frame.Pass (record p { position = (next_entry w.table p.position).1 })) r)
   unfolding handed
   pass_goes w p e h = goes_from w p.kind p.position.hook p.args p.value p.position.reached p.position.entries e h
 
-  -- and leaves its hook where it has none
+  -- and leaves its hook if it has none
   abbrev EndsAt : World → PassKind → Text → List Text → Text → Option ℤ → List Entry → Option Entry × Position → Type 0
   EndsAt w kind hook args v at es found = None ≡ found.0 → pass_from engine w kind hook args v at es ≡ Done (left_hook w) v
 
@@ -175,7 +191,8 @@ module _ (engine : Engine) where
   pub turn_refused : (w : World) (k : ℕ) (call : Call) (fs : List Frame) → w.calls ≡ 0 → then_rest engine (invoke engine w k call) fs ≡ Refused TooManyCalls
   turn_refused w k call fs h = ap (λ (t : Trace Text). then_rest engine t fs) (invoke_none w k call h)
 
-  invoked_core : (w : World) (k : ℕ) (call : Call) → (k == 0) ≡ true → invoked engine (invoke engine) w k call ≡ Turn w (deeper w (λ inside. shortcodes_pass (invoke engine) inside (first_or_empty call.args)))
+  invoked_core : (w : World) (k : ℕ) (call : Call) → (k == 0) ≡ true
+      → invoked engine (invoke engine) w k call ≡ Turn w (deeper w (λ inside. shortcodes_pass (invoke engine) inside (first_or_empty call.args)))
   unfolding invoked
   invoked_core w k call h = rw h refl
 
@@ -196,11 +213,14 @@ module _ (engine : Engine) where
   turn_other : (w : World) (k : ℕ) (call : Call) (fs : List Frame) → 0 < w.calls → (k == 0) ≡ false
       → then_rest engine (invoke engine w k call) fs
       ≡ Turn (replied engine (record w { calls = w.calls - 1 }) (said engine k call))
-      (rest engine (replied engine (record w { calls = w.calls - 1 }) (said engine k call)) (frame.Invocation (record { callback = k; call = call; pending = Next (said engine k call).next }) ∷ fs))
+      (rest engine (replied engine (record w { calls = w.calls - 1 }) (said engine k call))
+      (frame.Invocation (record { callback = k; call = call; pending = Next (said engine k call).next }) ∷ fs))
   unfolding rest goes_on pending_left
-  turn_other w k call fs h n = ap (λ (t : Trace Text). then_rest engine t fs) (invoke_some engine w k call h ∙ invoked_other (record w { calls = w.calls - 1 }) k call n)
+  turn_other w k call fs h n = ap (λ (t : Trace Text). then_rest engine t fs)
+      (invoke_some engine w k call h ∙ invoked_other (record w { calls = w.calls - 1 }) k call n)
 
-  pub turn_on : (w taken : World) (k : ℕ) (call : Call) (reply : Reply) (w' : World) (fs fs' : List Frame) → 0 < w.calls → (k == 0) ≡ false → taken ≡ record w { calls = w.calls - 1 } → reply ≡ said engine k call
+  pub turn_on : (w taken : World) (k : ℕ) (call : Call) (reply : Reply) (w' : World) (fs fs' : List Frame) → 0 < w.calls → (k == 0) ≡ false
+      → taken ≡ record w { calls = w.calls - 1 } → reply ≡ said engine k call
       → w' ≡ replied engine taken reply → fs' ≡ frame.Invocation (record { callback = k; call = call; pending = Next reply.next }) ∷ fs
       → then_rest engine (invoke engine w k call) fs ≡ Turn w' (rest engine w' fs')
   turn_on w taken k call reply w' fs fs' h n t r e f = rw (f, e, t, r) (turn_other w k call fs h n)
@@ -216,7 +236,8 @@ module _ (engine : Engine) where
   again : World → ℕ → Call → Answer → Trace Text
   again later k call reply = invoke engine later k (with_answer call reply)
 
-  ask_is : (w : World) (k : ℕ) (call : Call) (ask : Ask) → pending_left engine w k call (Next (next.Ask ask)) ≡ and_then (answered (invoke engine) w ask) (λ later reply. invoke engine later k (with_answer call reply))
+  ask_is : (w : World) (k : ℕ) (call : Call) (ask : Ask) → pending_left engine w k call (Next (next.Ask ask))
+      ≡ and_then (answered (invoke engine) w ask) (λ later reply. invoke engine later k (with_answer call reply))
   unfolding pending_left follow
   ask_is w k call ask = refl
 
@@ -226,7 +247,8 @@ module _ (engine : Engine) where
   ask_plain w k call ask reply h = ask_is w k call ask ∙ ap (λ (t : Trace Answer). and_then t (λ later r. invoke engine later k (with_answer call r))) h
 
   -- an ask that is refused
-  ask_refused : (w : World) (k : ℕ) (call : Call) (ask : Ask) (f : RunFault) → answered (invoke engine) w ask ≡ Refused f → pending_left engine w k call (Next (next.Ask ask)) ≡ Refused f
+  ask_refused : (w : World) (k : ℕ) (call : Call) (ask : Ask) (f : RunFault) → answered (invoke engine) w ask ≡ Refused f
+      → pending_left engine w k call (Next (next.Ask ask)) ≡ Refused f
   ask_refused w k call ask f h = ask_is w k call ask ∙ ap (λ (t : Trace Answer). and_then t (λ later r. invoke engine later k (with_answer call r))) h
 
   -- work that is done one level deeper, its result made an answer, and then the callback again
@@ -234,44 +256,55 @@ module _ (engine : Engine) where
       → and_then (deeper w (λ inside. and_then (made inside) (λ later x. Done later (to x)))) (λ later reply. invoke engine later k (with_answer call reply))
       ≡ and_then (made (record w { depth = w.depth + 1 })) (λ later x. invoke engine (risen later) k (with_answer call (to x)))
   deep_ask w k call made to h =
-      ap (λ (t : Trace Answer). and_then t (λ later reply. invoke engine later k (with_answer call reply))) (deeper_within w (λ inside. and_then (made inside) (λ later x. Done later (to x))) h
+      ap (λ (t : Trace Answer). and_then t (λ later reply. invoke engine later k (with_answer call reply)))
+      (deeper_within w (λ inside. and_then (made inside) (λ later x. Done later (to x))) h
       ∙ then_then (made (record w { depth = w.depth + 1 })) (λ later x. Done later (to x)) (λ later x. Done (risen later) x))
-      ∙ then_then (made (record w { depth = w.depth + 1 })) (λ later x. Done (risen later) (to x)) (λ later reply. invoke engine later k (with_answer call reply))
+      ∙ then_then (made (record w { depth = w.depth + 1 })) (λ later x. Done (risen later) (to x))
+      (λ later reply. invoke engine later k (with_answer call reply))
 
   pub ask_apply : (w : World) (k : ℕ) (call : Call) (hook v : Text) (args : List Text) → w.depth < 32
       → pending_left engine w k call (Next (next.Ask (Apply hook v args)))
-      ≡ and_then (filter_pass (invoke engine) (record w { depth = w.depth + 1 }) hook v args) (λ later x. handed engine later (frame.Invocation (record { callback = k; call = call; pending = ForText })) x)
+      ≡ and_then (filter_pass (invoke engine) (record w { depth = w.depth + 1 }) hook v args)
+      (λ later x. handed engine later (frame.Invocation (record { callback = k; call = call; pending = ForText })) x)
   unfolding answered handed pending_handed
-  ask_apply w k call hook v args h = ask_is w k call (Apply hook v args) ∙ deep_ask w k call (λ inside. filter_pass (invoke engine) inside hook v args) answer.Text h
+  ask_apply w k call hook v args h = ask_is w k call (Apply hook v args)
+      ∙ deep_ask w k call (λ inside. filter_pass (invoke engine) inside hook v args) answer.Text h
 
   pub ask_act : (w : World) (k : ℕ) (call : Call) (hook : Text) (args : List Text) → w.depth < 32
       → pending_left engine w k call (Next (next.Ask (Act hook args)))
-      ≡ and_then (action_pass (invoke engine) (record w { depth = w.depth + 1 }) hook args) (λ later x. handed engine later (frame.Invocation (record { callback = k; call = call; pending = ForNothing })) x)
+      ≡ and_then (action_pass (invoke engine) (record w { depth = w.depth + 1 }) hook args)
+      (λ later x. handed engine later (frame.Invocation (record { callback = k; call = call; pending = ForNothing })) x)
   unfolding answered handed pending_handed
-  ask_act w k call hook args h = ask_is w k call (Act hook args) ∙ deep_ask w k call (λ inside. action_pass (invoke engine) inside hook args) (λ text. answer.Nothing) h
+  ask_act w k call hook args h = ask_is w k call (Act hook args)
+      ∙ deep_ask w k call (λ inside. action_pass (invoke engine) inside hook args) (λ text. answer.Nothing) h
 
   pub ask_shortcodes : (w : World) (k : ℕ) (call : Call) (text : Text) → w.depth < 32
       → pending_left engine w k call (Next (next.Ask (Shortcodes text)))
-      ≡ and_then (shortcodes_pass (invoke engine) (record w { depth = w.depth + 1 }) text) (λ later x. handed engine later (frame.Invocation (record { callback = k; call = call; pending = ForText })) x)
+      ≡ and_then (shortcodes_pass (invoke engine) (record w { depth = w.depth + 1 }) text)
+      (λ later x. handed engine later (frame.Invocation (record { callback = k; call = call; pending = ForText })) x)
   unfolding answered handed pending_handed
   ask_shortcodes w k call text h = ask_is w k call (Shortcodes text) ∙ deep_ask w k call (λ inside. shortcodes_pass (invoke engine) inside text) answer.Text h
 
-  pub apply_deep : (w : World) (k : ℕ) (call : Call) (hook v : Text) (args : List Text) → 32 ≤ w.depth → pending_left engine w k call (Next (next.Ask (Apply hook v args))) ≡ Refused TooDeep
+  pub apply_deep : (w : World) (k : ℕ) (call : Call) (hook v : Text) (args : List Text) → 32 ≤ w.depth
+      → pending_left engine w k call (Next (next.Ask (Apply hook v args))) ≡ Refused TooDeep
   unfolding answered
   apply_deep w k call hook v args h = ask_refused w k call (Apply hook v args) TooDeep (deeper_beyond w _ h)
 
-  pub act_deep : (w : World) (k : ℕ) (call : Call) (hook : Text) (args : List Text) → 32 ≤ w.depth → pending_left engine w k call (Next (next.Ask (Act hook args))) ≡ Refused TooDeep
+  pub act_deep : (w : World) (k : ℕ) (call : Call) (hook : Text) (args : List Text) → 32 ≤ w.depth
+      → pending_left engine w k call (Next (next.Ask (Act hook args))) ≡ Refused TooDeep
   unfolding answered
   act_deep w k call hook args h = ask_refused w k call (Act hook args) TooDeep (deeper_beyond w _ h)
 
-  pub shortcodes_deep : (w : World) (k : ℕ) (call : Call) (text : Text) → 32 ≤ w.depth → pending_left engine w k call (Next (next.Ask (Shortcodes text))) ≡ Refused TooDeep
+  pub shortcodes_deep : (w : World) (k : ℕ) (call : Call) (text : Text) → 32 ≤ w.depth
+      → pending_left engine w k call (Next (next.Ask (Shortcodes text))) ≡ Refused TooDeep
   unfolding answered
   shortcodes_deep w k call text h = ask_refused w k call (Shortcodes text) TooDeep (deeper_beyond w _ h)
 
   -- core's callback: what its call keeps is not read
   pub core_goes : (w : World) (k : ℕ) (call kept : Call) → w.depth < 32
       → pending_left engine w k call Core
-      ≡ and_then (shortcodes_pass (invoke engine) (record w { depth = w.depth + 1 }) (first_or_empty call.args)) (λ later x. handed engine later (frame.Invocation (record { callback = k; call = kept; pending = ForCore })) x)
+      ≡ and_then (shortcodes_pass (invoke engine) (record w { depth = w.depth + 1 }) (first_or_empty call.args))
+      (λ later x. handed engine later (frame.Invocation (record { callback = k; call = kept; pending = ForCore })) x)
   unfolding pending_left handed pending_handed
   core_goes w k call kept h = deeper_within w (λ inside. shortcodes_pass (invoke engine) inside (first_or_empty call.args)) h
 
@@ -281,7 +314,8 @@ module _ (engine : Engine) where
 
   -- ---- shortcodes
 
-  pub text_begins : (w : World) (text : Text) → shortcodes_pass (invoke engine) w text ≡ pieces_pass (invoke engine) text w [] (pieces_of (live (map (λ p. p.0) w.tags) text) text)
+  pub text_begins : (w : World) (text : Text) → shortcodes_pass (invoke engine) w text
+      ≡ pieces_pass (invoke engine) text w [] (pieces_of (live (map (λ p. p.0) w.tags) text) text)
   unfolding shortcodes_pass
   text_begins w text = refl
 
@@ -305,7 +339,8 @@ module _ (engine : Engine) where
       (ap (λ (t : Trace Text). then_rest engine t fs) e ∙ onto_frame u f fs ∙ ap (λ (l : List Frame). then_rest engine u l) (sym q)) m
 
   -- work that is done at once
-  pub moves_same : (t u : Trace Text) (fs : List Frame) → t ≡ u → (r : Result Move RunFault) (w : World) (gs : List Frame) → Moves engine (then_rest engine u fs) r w gs → Moves engine (then_rest engine t fs) r w gs
+  pub moves_same : (t u : Trace Text) (fs : List Frame) → t ≡ u → (r : Result Move RunFault) (w : World) (gs : List Frame)
+      → Moves engine (then_rest engine u fs) r w gs → Moves engine (then_rest engine t fs) r w gs
   moves_same t u fs e r w gs m = moves_via (then_rest engine t fs) (then_rest engine u fs) r w gs (ap (λ (t : Trace Text). then_rest engine t fs) e) m
 
   -- ---- from turn to turn

@@ -26,18 +26,22 @@ agree-turns agree_refused = omega arith
 agree-turns (agree_turn i r) = omega (arith, agree-turns r)
 
 module _ (engine : Engine) (I : World → Type 0) (keep : Keeps engine.plugins I) where
-  pub kept-filtered : (w : World) (hook value : Text) (args : List Text) → I w → Agree I w.calls (filtered engine w hook value args) (filtered engine w hook value args)
+  pub kept-filtered : (w : World) (hook value : Text) (args : List Text) → I w
+      → Agree I w.calls (filtered engine w hook value args) (filtered engine w hook value args)
   unfolding filtered
-  kept-filtered w hook value args i = agree_filter engine.plugins I keep w.calls (invoke engine) (invoke engine) (same engine I keep w.calls) w.calls (omega arith) w hook value args (omega arith, i)
+  kept-filtered w hook value args i = agree_filter engine.plugins I keep w.calls (invoke engine) (invoke engine) (same engine I keep w.calls) w.calls
+      (omega arith) w hook value args (omega arith, i)
 
   pub kept-acted : (w : World) (hook : Text) (args : List Text) → I w → Agree I w.calls (acted engine w hook args) (acted engine w hook args)
   unfolding acted
   kept-acted w hook args i =
-      agree_then _ _ (agree_action engine.plugins I keep w.calls (invoke engine) (invoke engine) (same engine I keep w.calls) w.calls (omega arith) w hook args (omega arith, i)) (λ d l v x e. agree_done e)
+      agree_then _ _ (agree_action engine.plugins I keep w.calls (invoke engine) (invoke engine) (same engine I keep w.calls) w.calls (omega arith) w hook
+      args (omega arith, i)) (λ d l v x e. agree_done e)
 
   pub kept-replaced : (w : World) (text : Text) → I w → Agree I w.calls (replaced engine w text) (replaced engine w text)
   unfolding replaced
-  kept-replaced w text i = agree_shortcodes engine.plugins I keep w.calls (invoke engine) (invoke engine) (same engine I keep w.calls) w.calls (omega arith) w text (omega arith, i)
+  kept-replaced w text i = agree_shortcodes engine.plugins I keep w.calls (invoke engine) (invoke engine) (same engine I keep w.calls) w.calls (omega arith) w
+      text (omega arith, i)
 
 abbrev pub IsShallow : World → Type 0
 IsShallow w = w.depth ≤ 32
@@ -62,10 +66,12 @@ keeps_shallow plugins = record {
 }
 
 module _ (engine : Engine) where
-  pub names-filtered : (w : World) (hook value : Text) (args : List Text) → names_active engine.plugins w ≡ true → KeepsOutInactive engine.plugins (filtered engine w hook value args)
+  pub names-filtered : (w : World) (hook value : Text) (args : List Text) → names_active engine.plugins w ≡ true
+      → KeepsOutInactive engine.plugins (filtered engine w hook value args)
   names-filtered w hook value args i = agree-worlds (kept-filtered engine _ (keeps_names engine.plugins) w hook value args i)
 
-  pub names-acted : (w : World) (hook : Text) (args : List Text) → names_active engine.plugins w ≡ true → KeepsOutInactive engine.plugins (acted engine w hook args)
+  pub names-acted : (w : World) (hook : Text) (args : List Text) → names_active engine.plugins w ≡ true
+      → KeepsOutInactive engine.plugins (acted engine w hook args)
   names-acted w hook args i = agree-worlds (kept-acted engine _ (keeps_names engine.plugins) w hook args i)
 
   pub names-replaced : (w : World) (text : Text) → names_active engine.plugins w ≡ true → KeepsOutInactive engine.plugins (replaced engine w text)
@@ -91,8 +97,11 @@ module _ (engine : Engine) where
 
   pub turns-within : (w : World) (j : Job) → TurnsWithin engine w j
   turns-within w (job.Filters hook value args) =
-      agree-turns (agree_filter engine.plugins Any (keeps_any engine.plugins) w.calls (invoke engine) (invoke engine) (same engine Any (keeps_any engine.plugins) w.calls) w.calls (omega arith) w hook value args (omega arith, tt))
+      agree-turns (agree_filter engine.plugins Any (keeps_any engine.plugins) w.calls (invoke engine) (invoke engine)
+      (same engine Any (keeps_any engine.plugins) w.calls) w.calls (omega arith) w hook value args (omega arith, tt))
   turns-within w (job.Action hook args) =
-      agree-turns (agree_action engine.plugins Any (keeps_any engine.plugins) w.calls (invoke engine) (invoke engine) (same engine Any (keeps_any engine.plugins) w.calls) w.calls (omega arith) w hook args (omega arith, tt))
+      agree-turns (agree_action engine.plugins Any (keeps_any engine.plugins) w.calls (invoke engine) (invoke engine)
+      (same engine Any (keeps_any engine.plugins) w.calls) w.calls (omega arith) w hook args (omega arith, tt))
   turns-within w (job.Shortcodes text) =
-      agree-turns (agree_shortcodes engine.plugins Any (keeps_any engine.plugins) w.calls (invoke engine) (invoke engine) (same engine Any (keeps_any engine.plugins) w.calls) w.calls (omega arith) w text (omega arith, tt))
+      agree-turns (agree_shortcodes engine.plugins Any (keeps_any engine.plugins) w.calls (invoke engine) (invoke engine)
+      (same engine Any (keeps_any engine.plugins) w.calls) w.calls (omega arith) w text (omega arith, tt))

@@ -1,7 +1,7 @@
 pub mod World
 pub mod Trace
 pub mod Meaning
-pub mod Ends
+pub mod Outcomes
 pub mod Works
 pub mod Cuts
 pub mod Rest

@@ -28,7 +28,7 @@ Moves engine left (Err OutOfMemory) world frames = ⊤
 abbrev pub Does : Engine → (Engine → Trace Text) → List Frame → Result Move RunFault → World → List Frame → Type 0
 Does engine work frames result world now = Moves engine (then_rest engine (work engine) frames) result world now
 
--- where a result is handed on, no frame has come, or at most so many
+-- if a result is handed on, no frame has come, or at most that many
 abbrev pub Shrinks : ℕ → Result Move RunFault → List Frame → List Frame → Type 0
 Shrinks more (Ok Turned) olds news = ⊤
 Shrinks more (Ok (Handed x)) olds news = length news ≤ length olds + more

@@ -11,7 +11,7 @@ use Rattle.hook_machine.specs.World.{Text, World}
 use Rattle.hook_machine.specs.Trace.{Trace}
 use Rattle.hook_machine.specs.Jobs.{left_from}
 use Rattle.hook_machine.specs.Meaning.{Engine}
-use Rattle.hook_machine.specs.Ends.{engine_with}
+use Rattle.hook_machine.specs.Outcomes.{engine_with}
 
 module _ {S : Type 0} where
   -- what the request has
@@ -38,7 +38,7 @@ module _ {S : Type 0} where
   abbrev pub left_of : Engine → Run S → Trace Text
   left_of engine run = left_from engine run.state run.job run.stack
 
-  -- where the turn is the last one, no job is under way
+  -- if the turn is the last one, no job is under way
   abbrev pub IsIdleAtEnd : Result Turn RunFault → Run S → Type 0
   IsIdleAtEnd (Ok turn.More) run = ⊤
   IsIdleAtEnd (Ok (turn.Done x)) run = IsIdle run

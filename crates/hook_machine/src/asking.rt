@@ -1,10 +1,10 @@
-// How an invocation goes on: by its answer, by what it asks, or by what was answered to it.
+//! How an invocation goes on: by its answer, by what it asks, or by what was answered to it.
 ghost use Rattle.std.specs.Prelude.{◌≡◌, ◌∷◌, IfErr, OnOk};
 ghost use Rattle.hook_changes.specs.declared.reply.Then.TheVariants as next;
 ghost use Rattle.hook_changes.specs.declared.reply.Ask.TheVariants.{Apply, Act, Shortcodes};
 ghost use Rattle.hook_machine.specs.declared.frame.Pending.TheVariants.{Next, Core};
 ghost use Rattle.hook_machine.specs.Meaning.{invoke};
-ghost use Rattle.hook_machine.specs.Ends.{engine_over};
+ghost use Rattle.hook_machine.specs.Outcomes.{engine_over};
 ghost use Rattle.hook_machine.specs.Rest.{pending_left, pending_handed, with_answer};
 ghost use Rattle.hook_machine.specs.Moves.{Does, Shrinks, Invokes};
 
@@ -136,7 +136,7 @@ fn core_turn<S: Stated>(
     begin_text(plugins, state, stack, text, cache)
 }
 
-/// Goes on behind an ask.
+/// Goes on after an ask.
 fn ask_turn<S: Stated>(
     plugins: &Plugins<S>,
     state: &mut State,

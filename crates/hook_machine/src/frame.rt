@@ -1,4 +1,4 @@
-// The frames of a stopped run.
+//! The frames of a stopped run.
 use crate::left::Left;
 use crate::pass::PassKind;
 use crate::replacing::TextPass;
@@ -10,7 +10,7 @@ use hook_changes::{Call, CallbackId, Listed, Text, Then};
 pub struct HookPass {
     pub kind: PassKind,
     pub args: Listed<Text>,
-    /// In a filter the value behind the callbacks so far.
+    /// In a filter the value after the callbacks so far.
     pub value: Text,
     pub position: Position,
 }

@@ -18,7 +18,7 @@ ghost use Rattle.hook_machine.specs.Jobs.{TurnsWithin, GivesNothing};
 
 /// A law: callbacks that neither change anything nor ask, whatever they are called with, make of a value what their
 /// answers make of it one after another, by ascending priority and then in the order of adding (Plugin Handbook,
-/// Filters), where there is a call for each of them.
+/// Filters), if there is a call for each of them.
 pub fn plain_callbacks_fold()
     ensures { (engine : Engine) (world : World) (hook value : Text) (args : List Text)
         → PlainFold engine world hook value args }

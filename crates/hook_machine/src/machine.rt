@@ -1,7 +1,7 @@
-// What an invocation takes: the reply of a callback, and what stands in its call.
+//! What an invocation takes: the reply of a callback, and what stands in its call.
 ghost use Rattle.std.specs.Prelude.{◌≡◌, ◌++◌, ◌∷◌, [], IfOk, OnOk};
 ghost use Rattle.hook_machine.specs.Meaning.{first_or_empty, said};
-ghost use Rattle.hook_machine.specs.Ends.{engine_over};
+ghost use Rattle.hook_machine.specs.Outcomes.{engine_over};
 
 use callback_store::{Plugins, Stated};
 use hook_changes::{Answer, Call, CallbackId, Listed, Reply, Text, Then};
@@ -26,7 +26,7 @@ pub fn reply_of<S: Stated>(
     }
 }
 
-/// Takes the first argument out of a call, or empty text where there is none.
+/// Takes the first argument out of a call, or empty text if there is none.
 pub fn take_first_argument(alloc: Global, call: &mut Call) -> Text
     ensures { result ≡ first_or_empty call.old.args }
 {

@@ -1,4 +1,4 @@
-// What is registered, in the registry and in the plans of passes.
+//! What is registered, in the registry and in the plans of passes.
 ghost use Rattle.std.specs.Prelude.{◌≡◌, ◌≤◌, IfOk, OnOk, OnErr};
 
 use crate::state::State;
@@ -60,7 +60,7 @@ impl State {
         Ok(())
     }
 
-    /// Takes all registrations of a hook away, or those of one priority.
+    /// Removes all registrations of a hook, or those of one priority.
     pub fn deregister_all(
         &mut self,
         hook: &HookName,

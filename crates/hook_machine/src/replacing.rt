@@ -1,9 +1,9 @@
-// Shortcode passes.
+//! Shortcode passes.
 ghost use Rattle.std.specs.Prelude.{◌≡◌, ◌++◌, [], IsTrue, IfOk, OnOk};
 ghost use Rattle.hook_machine.specs.World.{World};
 ghost use Rattle.hook_machine.specs.Trace.{Done};
 ghost use Rattle.hook_machine.specs.Meaning.{Invocation, invoke, pieces_pass, shortcodes_pass};
-ghost use Rattle.hook_machine.specs.Ends.{engine_over};
+ghost use Rattle.hook_machine.specs.Outcomes.{engine_over};
 ghost use Rattle.hook_machine.specs.Rest.{text_left, in_place};
 ghost use Rattle.hook_machine.specs.Handling.{handling_pass};
 ghost use Rattle.hook_machine.specs.Moves.{Does, Shrinks};
@@ -43,7 +43,7 @@ pub struct Handling {
     pub extras: Extras,
 }
 
-/// Takes pieces up to the first one that has a handler, and appends those before it. None is left where there is none.
+/// Takes pieces up to the first one that has a handler, and appends those before it. None is left if there is none.
 fn next_handling(
     state: &State,
     cut: &mut Cut,

@@ -1,7 +1,7 @@
-// Going on with a stopped run, frame by frame, until a callback was invoked or nothing is left.
+//! Going on with a stopped run, frame by frame, until a callback was invoked or nothing is left.
 ghost use Rattle.std.specs.Prelude.{◌≡◌, ◌∷◌, [], OnOk};
 ghost use Rattle.hook_machine.specs.Meaning.{value_after};
-ghost use Rattle.hook_machine.specs.Ends.{Ends, engine_over};
+ghost use Rattle.hook_machine.specs.Outcomes.{RunsAs, engine_over};
 ghost use Rattle.hook_machine.specs.Rest.{rest, rest_with};
 ghost use Rattle.hook_machine.specs.Jobs.{job_left, left_from};
 ghost use Rattle.hook_machine.specs.Moves.{Does, Moves, Shrinks, still_left, Turns, IsOver};
@@ -196,7 +196,8 @@ pub fn all_turns<S: Stated>(
     job: Option<Job>,
     cache: &mut PieceCache,
 ) -> Result<Text, RunFault>
-    ensures ends { Ends (left_from (engine_over S.says S.number plugins.now) state.old job stack.old) result state.new }
+    ensures ends { RunsAs
+        (left_from (engine_over S.says S.number plugins.now) state.old job stack.old) result state.new }
     ensures over { OnOk result (stack.new ≡ []) }
 {
     let mut turned = next_turn(plugins, state, stack, job, cache)?;
@@ -217,7 +218,7 @@ pub fn run_job<S: Stated>(
     cache: &mut PieceCache,
 ) -> Result<Text, RunFault>
     requires { stack.old ≡ [] }
-    ensures ends { Ends (job_left (engine_over S.says S.number plugins.now) state.old job) result state.new }
+    ensures ends { RunsAs (job_left (engine_over S.says S.number plugins.now) state.old job) result state.new }
     ensures over { OnOk result (stack.new ≡ []) }
 {
     all_turns(plugins, state, stack, Some(job), cache)

@@ -1,7 +1,7 @@
-// A request's run, as its page sees it.
+//! A request's run, as its page sees it.
 ghost use Rattle.std.specs.Prelude.{◌≡◌, [], None, IfOk, OnOk};
 ghost use Rattle.hook_machine.specs.Meaning.{filtered, action_pass, replaced, invoke};
-ghost use Rattle.hook_machine.specs.Ends.{Ends, engine_over};
+ghost use Rattle.hook_machine.specs.Outcomes.{RunsAs, engine_over};
 ghost use Rattle.hook_machine.specs.Runs.{fault_in};
 
 use crate::fault::RunFault;
@@ -69,7 +69,7 @@ fn run_filters<S: Stated>(
     cache: &mut PieceCache,
 ) -> Result<Text, RunFault>
     requires { stack.old ≡ [] }
-    ensures ends { Ends
+    ensures ends { RunsAs
         (filtered (engine_over S.says S.number plugins.now) state.old hook.now value args.now) result state.new }
     ensures over { OnOk result (stack.new ≡ []) }
 {
@@ -87,7 +87,7 @@ fn run_action<S: Stated>(
     cache: &mut PieceCache,
 ) -> Result<Text, RunFault>
     requires { stack.old ≡ [] }
-    ensures ends { Ends
+    ensures ends { RunsAs
         (action_pass (invoke (engine_over S.says S.number plugins.now)) state.old hook.now args.now) result state.new }
     ensures over { OnOk result (stack.new ≡ []) }
 {
@@ -104,7 +104,7 @@ fn run_shortcodes<S: Stated>(
     cache: &mut PieceCache,
 ) -> Result<Text, RunFault>
     requires { stack.old ≡ [] }
-    ensures ends { Ends
+    ensures ends { RunsAs
         (replaced (engine_over S.says S.number plugins.now) state.old text.now) result state.new }
     ensures over { OnOk result (stack.new ≡ []) }
 {
@@ -139,13 +139,13 @@ impl<'a, S: Stated> Run<'a, S> {
     ghost use Rattle.callback_store.specs.Shape.{shapes_of};
     ghost use Rattle.hook_machine.specs.World.{fresh, loaded};
     ghost use Rattle.hook_machine.specs.Meaning.{filtered, acted, replaced};
-    ghost use Rattle.hook_machine.specs.Ends.{Ends, engine_with};
+    ghost use Rattle.hook_machine.specs.Outcomes.{RunsAs, engine_with};
     ghost use Rattle.hook_machine.specs.Moves.{Turns};
     ghost use Rattle.hook_machine.specs.Jobs.{job_left};
     ghost use Rattle.hook_machine.specs.Runs.{world_of, fault_of, engine_of, left_of, CanBegin, IsIdle, IsIdleAtEnd};
 
     /// A run with nothing registered and nothing printed, of a site with these active plugins and options, that may
-    /// make so many invocations. Where an option has two values, the first counts.
+    /// make that many invocations. If an option has two values, the first counts.
     pub fn new(
         alloc: Global,
         plugins: &'a Plugins<S>,
@@ -197,7 +197,7 @@ impl<'a, S: Stated> Run<'a, S> {
         }
     }
 
-    /// The value behind the callbacks of a filter (Code Reference, apply_filters). A text that is no hook's name gives
+    /// The value after the callbacks of a filter (Code Reference, apply_filters). A text that is no hook's name gives
     /// the value back.
     pub fn apply_filters(
         &mut self,
@@ -209,7 +209,7 @@ impl<'a, S: Stated> Run<'a, S> {
         requires idle { CanBegin self.old }
         ensures idle { OnOk result (IsIdle self.new) }
         ensures filtered { fault_of self.old ≡ None →
-            Ends (filtered (engine_of S.says S.number self.old) (world_of self.old) hook.now value args.now) result
+            RunsAs (filtered (engine_of S.says S.number self.old) (world_of self.old) hook.now value args.now) result
             (world_of self.new) }
         ensures sound { OnOk result (fault_of self.new ≡ None) }
         ensures fault { IfErr result (λ fault. fault_of self.new ≡ Some fault) }
@@ -242,7 +242,7 @@ impl<'a, S: Stated> Run<'a, S> {
         requires idle { CanBegin self.old }
         ensures idle { OnOk result (IsIdle self.new) }
         ensures acted { fault_of self.old ≡ None →
-            Ends (acted (engine_of S.says S.number self.old) (world_of self.old) hook.now args.now) result
+            RunsAs (acted (engine_of S.says S.number self.old) (world_of self.old) hook.now args.now) result
             (world_of self.new) }
         ensures sound { OnOk result (fault_of self.new ≡ None) }
         ensures fault { IfErr result (λ fault. fault_of self.new ≡ Some fault) }
@@ -273,7 +273,7 @@ impl<'a, S: Stated> Run<'a, S> {
         requires idle { CanBegin self.old }
         ensures idle { OnOk result (IsIdle self.new) }
         ensures replaced { fault_of self.old ≡ None →
-            Ends (replaced (engine_of S.says S.number self.old) (world_of self.old) text.now) result
+            RunsAs (replaced (engine_of S.says S.number self.old) (world_of self.old) text.now) result
             (world_of self.new) }
         ensures sound { OnOk result (fault_of self.new ≡ None) }
         ensures fault { IfErr result (λ fault. fault_of self.new ≡ Some fault) }
@@ -295,7 +295,7 @@ impl<'a, S: Stated> Run<'a, S> {
         self.fault
     }
 
-    /// Begins a job, of which nothing is done before the first turn. It takes no memory.
+    /// Begins a job, of which nothing is done before the first turn. It does not allocate.
     pub fn start(&mut self, job: Job) -> Result<(), RunFault>
         requires idle { CanBegin self.old }
         ensures started { OnOk result (left_of (engine_of S.says S.number self.old) self.new ≡ job_left
@@ -335,7 +335,7 @@ impl<'a, S: Stated> Run<'a, S> {
         result
     }
 
-    /// Prints a text of the page's own, behind what was printed so far.
+    /// Prints a text of the page's own, after what was printed so far.
     pub fn print(&mut self, text: &str) -> Result<(), RunFault>
         requires idle { CanBegin self.old }
         ensures idle { OnOk result (IsIdle self.new) }
@@ -360,7 +360,7 @@ impl<'a, S: Stated> Run<'a, S> {
         }
     }
 
-    /// Takes what was printed so far, which leaves nothing printed. It takes no memory.
+    /// Takes what was printed so far, which leaves nothing printed. It does not allocate.
     pub fn take_output(&mut self) -> Result<Text, RunFault>
         requires idle { CanBegin self.old }
         ensures idle { OnOk result (IsIdle self.new) }
@@ -379,7 +379,7 @@ impl<'a, S: Stated> Run<'a, S> {
         Ok(self.state.take_output())
     }
 
-    /// Ends the run. All that a run owns is dropped here, for every page that ends one, so that what dropping does is
+    /// RunsAs the run. All that a run owns is dropped here, for every page that ends one, so that what dropping does is
     /// proved once.
     pub fn end(self) {
         drop(self);

@@ -1,6 +1,6 @@
-// How a stopped run goes on, from one invocation to the next.
+//! How a stopped run goes on, from one invocation to the next.
 ghost use Rattle.hook_machine.specs.Meaning.{pass, filter_pass, action_pass, invoke};
-ghost use Rattle.hook_machine.specs.Ends.{engine_over};
+ghost use Rattle.hook_machine.specs.Outcomes.{engine_over};
 ghost use Rattle.hook_machine.specs.Rest.{pass_left};
 ghost use Rattle.hook_machine.specs.Moves.{Does, Shrinks, Invokes};
 

@@ -33,7 +33,7 @@ ascending-filter passes (r ∷ rs) h =
     elim (passes r) as (λ b. IsAscending (cond b (r ∷ filter passes rs) (filter passes rs)))
     [ true ↦ (none_below-filter r.priority passes rs h.0, ascending-filter passes rs h.1) | false ↦ ascending-filter passes rs h.1 ]
 
--- nothing passes where all go
+-- nothing passes if all go
 pub filter_other-none : (rs : List Registration) → [] ≡ filter (is_other None) rs
 filter_other-none [] = refl
 filter_other-none (r ∷ rs) = filter_other-none rs
@@ -41,7 +41,8 @@ filter_other-none (r ∷ rs) = filter_other-none rs
 none_below-added : (p : ℤ) (rs : List Registration) (new : Registration) → p ≤ℤ new.priority → NoneBelow p rs → NoneBelow p (with_added rs new)
 none_below-added p [] new l h = (l, tt)
 none_below-added p (r ∷ rs) new l h =
-    elim (is_of new.priority new.callback r) as (λ b. NoneBelow p (cond b (record r { accepted = new.accepted } ∷ rs) (cond (int_lt new.priority r.priority) (new ∷ r ∷ rs) (r ∷ with_added rs new)))) [
+    elim (is_of new.priority new.callback r) as (λ b. NoneBelow p
+    (cond b (record r { accepted = new.accepted } ∷ rs) (cond (int_lt new.priority r.priority) (new ∷ r ∷ rs) (r ∷ with_added rs new)))) [
       | true ↦ h
       | false ↦
           elim (int_lt new.priority r.priority) as (λ b. NoneBelow p (cond b (new ∷ r ∷ rs) (r ∷ with_added rs new)))
@@ -51,7 +52,8 @@ none_below-added p (r ∷ rs) new l h =
 pub ascending-added : (rs : List Registration) (new : Registration) → IsAscending rs → IsAscending (with_added rs new)
 ascending-added [] new h = (tt, tt)
 ascending-added (r ∷ rs) new h =
-    elim (is_of new.priority new.callback r) as (λ b. IsAscending (cond b (record r { accepted = new.accepted } ∷ rs) (cond (int_lt new.priority r.priority) (new ∷ r ∷ rs) (r ∷ with_added rs new)))) [
+    elim (is_of new.priority new.callback r) as (λ b. IsAscending
+    (cond b (record r { accepted = new.accepted } ∷ rs) (cond (int_lt new.priority r.priority) (new ∷ r ∷ rs) (r ∷ with_added rs new)))) [
       | true ↦ h
       | false ↦
           elim (int_lt new.priority r.priority) as (λ b. int_lt new.priority r.priority ≡ b → IsAscending (cond b (new ∷ r ∷ rs) (r ∷ with_added rs new))) [
@@ -77,9 +79,10 @@ still_not_above p a b l h = let low : int_lt p a ≡ false = lower (not_true (in
     lower : int_lt p b ≡ false → int_lt p a ≡ false
     lower k = grind (arith, ints)
 
--- a test of priorities that every lesser one passes too
+-- a test of priorities that every smaller one passes too
 module _ (test : ℤ → Bool) (lesser : (p q : ℤ) → p ≤ℤ q → test q ≡ true → test p ≡ true) where
-  first_passes : (p : ℤ) (rs : List Registration) (j : ℕ) (d : Registration) → NoneBelow p rs → j < length rs → test (get_or rs j d).priority ≡ true → test p ≡ true
+  first_passes : (p : ℤ) (rs : List Registration) (j : ℕ) (d : Registration) → NoneBelow p rs → j < length rs → test (get_or rs j d).priority ≡ true
+      → test p ≡ true
   first_passes p [] j d h l t = absurd (omega arith)
   first_passes p (r ∷ rs) zero d h l t = lesser p r.priority h.0 t
   first_passes p (r ∷ rs) (suc j) d h l t = first_passes p rs j d h.1 (omega arith) t
@@ -91,10 +94,11 @@ module _ (test : ℤ → Bool) (lesser : (p q : ℤ) → p ≤ℤ q → test q �
   is_partitioned (r ∷ rs) h (suc i) zero d o l t = absurd (omega arith)
   is_partitioned (r ∷ rs) h (suc i) (suc j) d o l t = is_partitioned rs h.1 i j d (omega arith) (omega arith) t
 
--- the least of some priorities that come by ascending order is the first
+-- the smallest of some priorities that come by ascending order is the first
 least_first : (p : ℤ) (rs : List Registration) → NoneBelow p rs → fold int_min p (map (λ r. r.priority) rs) ≡ p
 least_first p [] h = refl
-least_first p (r ∷ rs) h = let same : int_min p r.priority ≡ p = lesser_of p r.priority h.0 in ap (λ q. fold int_min q (map (λ s. s.priority) rs)) same ∙ least_first p rs h.1
+least_first p (r ∷ rs) h = let same : int_min p r.priority ≡ p = lesser_of p r.priority h.0 in ap (λ q. fold int_min q (map (λ s. s.priority) rs)) same
+    ∙ least_first p rs h.1
   where
     lesser_of : (p q : ℤ) → p ≤ℤ q → int_min p q ≡ p
     lesser_of p q l = grind (arith, ints)
@@ -103,7 +107,8 @@ pub least-ascending : (rs : List Registration) → IsAscending rs → least (map
 least-ascending [] h = refl
 least-ascending (r ∷ rs) h = ap Some (least_first r.priority rs h.0)
 
-pub least_priority-ascending : (passes : Registration → Bool) (rs : List Registration) → IsAscending rs → least_priority passes rs ≡ option_map (λ r. r.priority) (slice_get (filter passes rs) 0)
+pub least_priority-ascending : (passes : Registration → Bool) (rs : List Registration) → IsAscending rs
+    → least_priority passes rs ≡ option_map (λ r. r.priority) (slice_get (filter passes rs) 0)
 least_priority-ascending passes rs h = least-ascending (filter passes rs) (ascending-filter passes rs h)
 
 pub above-none : (rs : List Registration) → filter (is_above None) rs ≡ rs

@@ -20,8 +20,9 @@ module _ (test : ℤ → Bool) where
   fails_at : (q : ℤ) (r : Registration) → test q ≡ false → is_at q r ≡ true → test r.priority ≡ false
   fails_at q r f e = subst (λ z. test z ≡ false) (sym ((Decides-int_eq r.priority q).0 e)) f
 
-  -- before r, or behind it
-  passing-placed : (new r : Registration) (rs behind : List Registration) → test new.priority ≡ false → passing behind ≡ passing rs → passing (cond (int_lt new.priority r.priority) (new ∷ r ∷ rs) (r ∷ behind)) ≡ passing (r ∷ rs)
+  -- before r, or after it
+  passing-placed : (new r : Registration) (rs behind : List Registration) → test new.priority ≡ false → passing behind ≡ passing rs
+      → passing (cond (int_lt new.priority r.priority) (new ∷ r ∷ rs) (r ∷ behind)) ≡ passing (r ∷ rs)
   passing-placed new r rs behind f e =
       elim (int_lt new.priority r.priority) as (λ b. passing (cond b (new ∷ r ∷ rs) (r ∷ behind)) ≡ passing (r ∷ rs))
       [ true ↦ rw f refl | false ↦ ap (λ rest. cond (test r.priority) (r ∷ rest) rest) e ]
@@ -30,14 +31,18 @@ module _ (test : ℤ → Bool) where
   passing-with_added [] new f = rw f refl
   passing-with_added (r ∷ rs) new f =
       let further = passing-placed new r rs (with_added rs new) f (passing-with_added rs new f) in
-      elim (is_at new.priority r) as (λ b. is_at new.priority r ≡ b → passing (cond (b && (r.callback == new.callback)) (record r { accepted = new.accepted } ∷ rs) (cond (int_lt new.priority r.priority) (new ∷ r ∷ rs) (r ∷ with_added rs new))) ≡ passing (r ∷ rs)) [
+      elim (is_at new.priority r) as (λ b. is_at new.priority r ≡ b
+      → passing (cond (b && (r.callback == new.callback)) (record r { accepted = new.accepted } ∷ rs)
+      (cond (int_lt new.priority r.priority) (new ∷ r ∷ rs) (r ∷ with_added rs new))) ≡ passing (r ∷ rs)) [
         | true ↦ λ e.
-            elim (r.callback == new.callback) as (λ b. passing (cond b (record r { accepted = new.accepted } ∷ rs) (cond (int_lt new.priority r.priority) (new ∷ r ∷ rs) (r ∷ with_added rs new))) ≡ passing (r ∷ rs))
+            elim (r.callback == new.callback) as (λ b. passing (cond b (record r { accepted = new.accepted } ∷ rs)
+            (cond (int_lt new.priority r.priority) (new ∷ r ∷ rs) (r ∷ with_added rs new))) ≡ passing (r ∷ rs))
             [ true ↦ rw (fails_at new.priority r f e) refl | false ↦ further ]
         | false ↦ λ e. further
       ] refl
 
-  passing-filter : (passes : Registration → Bool) → ((r : Registration) → test r.priority ≡ true → passes r ≡ true) → (rs : List Registration) → passing (filter passes rs) ≡ passing rs
+  passing-filter : (passes : Registration → Bool) → ((r : Registration) → test r.priority ≡ true → passes r ≡ true) → (rs : List Registration)
+      → passing (filter passes rs) ≡ passing rs
   passing-filter passes stays [] = refl
   passing-filter passes stays (r ∷ rs) =
       elim (test r.priority) as (λ b. test r.priority ≡ b → passing (filter passes (r ∷ rs)) ≡ cond b (r ∷ passing rs) (passing rs)) [
@@ -62,7 +67,8 @@ module _ (test : ℤ → Bool) where
         | false ↦ λ n. ap passing (registrations-keeping_other passes t hook other n)
       ] refl
 
-  in_add : (t : Table) (hook other : List ℕ) (new : Registration) → test new.priority ≡ false → passing (registrations (table.add t hook new) other) ≡ passing (registrations t other)
+  in_add : (t : Table) (hook other : List ℕ) (new : Registration) → test new.priority ≡ false
+      → passing (registrations (table.add t hook new) other) ≡ passing (registrations t other)
   in_add t hook other new f =
       elim (bytes_eq other hook) as (λ b. bytes_eq other hook ≡ b → passing (registrations (table.add t hook new) other) ≡ passing (registrations t other)) [
         | true ↦ λ e.
@@ -84,13 +90,16 @@ module _ (test : ℤ → Bool) where
       in_keeping (is_other (Some p)) (λ r s. rw (not_at p r (rw same f) s) refl) t at hook
 
 not_equal : (q r : ℤ) → q <ℤ r → int_eq q r ≡ false
-not_equal q r h = elim (int_eq q r) as (λ b. int_eq q r ≡ b → b ≡ false) [ true ↦ λ e. let same : q ≡ r = (Decides-int_eq q r).0 e in absurd (omega (arith, ints)) | false ↦ λ e. refl ] refl
+not_equal q r h = elim (int_eq q r) as (λ b. int_eq q r ≡ b → b ≡ false)
+    [ true ↦ λ e. let same : q ≡ r = (Decides-int_eq q r).0 e in absurd (omega (arith, ints)) | false ↦ λ e. refl ] refl
 
 not_less : (q r : ℤ) → q ≤ℤ r → int_lt r q ≡ false
 not_less q r h = grind (arith, ints)
 
-pub group-changed : (t : Table) (change : TableChange) (hook : List ℕ) (q r : ℤ) → priority_changed change ≡ Some q → q <ℤ r → group (changed t change) hook r ≡ group t hook r
+pub group-changed : (t : Table) (change : TableChange) (hook : List ℕ) (q r : ℤ) → priority_changed change ≡ Some q → q <ℤ r
+    → group (changed t change) hook r ≡ group t hook r
 group-changed t change hook q r e h = ap (map entry_of) (passing-changed (λ z. int_eq z r) t change hook q e (not_equal q r h))
 
-pub after-changed : (t : Table) (change : TableChange) (hook : List ℕ) (q r : ℤ) → priority_changed change ≡ Some q → q ≤ℤ r → after (changed t change) hook r ≡ after t hook r
+pub after-changed : (t : Table) (change : TableChange) (hook : List ℕ) (q r : ℤ) → priority_changed change ≡ Some q → q ≤ℤ r
+    → after (changed t change) hook r ≡ after t hook r
 after-changed t change hook q r e h = ap (λ rs. least (map (λ x. x.priority) rs)) (passing-changed (λ z. int_lt r z) t change hook q e (not_less q r h))

@@ -14,7 +14,8 @@ one_more : (n : ℕ) → 1 + n ≡ suc n
 one_more n = omega arith
 
 module _ {Y : Type 0} where
-  pub registrations-found : (hook : List ℕ) (es : List (String Y × List Registration)) (v : List Registration) → Some v ≡ lookup (named hook) es → v ≡ registrations (pairs es) hook
+  pub registrations-found : (hook : List ℕ) (es : List (String Y × List Registration)) (v : List Registration) → Some v ≡ lookup (named hook) es
+      → v ≡ registrations (pairs es) hook
   registrations-found hook es v e = ap (λ o. unwrap_or o []) (e ∙ lookup-pairs hook es)
 
   pub registrations-missing : (hook : List ℕ) (es : List (String Y × List Registration)) → None ≡ lookup (named hook) es → [] ≡ registrations (pairs es) hook
@@ -26,7 +27,8 @@ module _ {Y : Type 0} where
   IsFirstAt hook (e ∷ es) zero = named hook e.0 ≡ true
   IsFirstAt hook (e ∷ es) (suc i) = (named hook e.0 ≡ false) × IsFirstAt hook es i
 
-  first_from : (hook : List ℕ) (es : List (String Y × List Registration)) (i : ℕ) → position_or_len (named hook) (keys_of es) ≡ i → i < length es → IsFirstAt hook es i
+  first_from : (hook : List ℕ) (es : List (String Y × List Registration)) (i : ℕ) → position_or_len (named hook) (keys_of es) ≡ i → i < length es
+      → IsFirstAt hook es i
   first_from hook [] i p h = absurd (omega arith)
   first_from hook (e ∷ es) i p h =
       elim (named hook e.0) as (λ b. named hook e.0 ≡ b → cond (not b) (1 + position_or_len (named hook) (keys_of es)) 0 ≡ i → IsFirstAt hook (e ∷ es) i) [
@@ -42,12 +44,14 @@ module _ {Y : Type 0} where
   is_first_at hook es i e = let f = Found-position (named hook) es i e in first_from hook es i f.or_len f.within
 
   -- a list written at the hook's place
-  set_value-at : (hook : List ℕ) (es : List (String Y × List Registration)) (i : ℕ) (w : List Registration) → IsFirstAt hook es i → pairs (set_value_at es i w) ≡ set_value (pairs es) hook w
+  set_value-at : (hook : List ℕ) (es : List (String Y × List Registration)) (i : ℕ) (w : List Registration) → IsFirstAt hook es i
+      → pairs (set_value_at es i w) ≡ set_value (pairs es) hook w
   set_value-at hook [] i w h = absurd h
   set_value-at hook (e ∷ es) zero w h = rw h refl
   set_value-at hook (e ∷ es) (suc i) w h = rw h.0 (ap (λ ps. (string_bytes e.0, e.1) ∷ ps) (set_value-at hook es i w h.1))
 
-  pub keeping-at : (passes : Registration → Bool) (hook : List ℕ) (es : List (String Y × List Registration)) (i : ℕ) (w v : List Registration) → IsFirstAt hook es i
+  pub keeping-at : (passes : Registration → Bool) (hook : List ℕ) (es : List (String Y × List Registration)) (i : ℕ) (w v : List Registration)
+      → IsFirstAt hook es i
       → slice_get (values_of es) i ≡ Some v → w ≡ filter passes v → pairs (set_value_at es i w) ≡ keeping passes (pairs es) hook
   keeping-at passes hook [] i w v h g f = absurd h
   keeping-at passes hook (e ∷ es) zero w v h g f =
@@ -55,13 +59,16 @@ module _ {Y : Type 0} where
       rw h (ap (λ rs. (string_bytes e.0, rs) ∷ pairs es) (f ∙ ap (filter passes) (sym same)))
   keeping-at passes hook (e ∷ es) (suc i) w v h g f = rw h.0 (ap (λ ps. (string_bytes e.0, e.1) ∷ ps) (keeping-at passes hook es i w v h.1 g f))
 
-  pub keeping-missing : (passes : Registration → Bool) (hook : List ℕ) (es : List (String Y × List Registration)) → None ≡ lookup (named hook) es → pairs es ≡ keeping passes (pairs es) hook
+  pub keeping-missing : (passes : Registration → Bool) (hook : List ℕ) (es : List (String Y × List Registration)) → None ≡ lookup (named hook) es
+      → pairs es ≡ keeping passes (pairs es) hook
   keeping-missing passes hook [] n = refl
   keeping-missing passes hook (e ∷ es) n =
-      elim (bytes_eq hook (string_bytes e.0)) as (λ b. None ≡ cond b (Some e.1) (lookup (named hook) es) → pairs (e ∷ es) ≡ cond b ((string_bytes e.0, filter passes e.1) ∷ pairs es) ((string_bytes e.0, e.1) ∷ keeping passes (pairs es) hook))
+      elim (bytes_eq hook (string_bytes e.0)) as (λ b. None ≡ cond b (Some e.1) (lookup (named hook) es)
+      → pairs (e ∷ es) ≡ cond b ((string_bytes e.0, filter passes e.1) ∷ pairs es) ((string_bytes e.0, e.1) ∷ keeping passes (pairs es) hook))
       [ true ↦ λ q. cc | false ↦ λ q. ap (λ ps. (string_bytes e.0, e.1) ∷ ps) (keeping-missing passes hook es q) ] n
 
-  pub found_at : (hook : List ℕ) (es : List (String Y × List Registration)) (i : ℕ) (v : List Registration) → Some i ≡ position (named hook) (keys_of es) → Some v ≡ slice_get (values_of es) i → Some v ≡ lookup (named hook) es
+  pub found_at : (hook : List ℕ) (es : List (String Y × List Registration)) (i : ℕ) (v : List Registration) → Some i ≡ position (named hook) (keys_of es)
+      → Some v ≡ slice_get (values_of es) i → Some v ≡ lookup (named hook) es
   found_at hook es i v p g = g ∙ sym (Found-position (named hook) es i (sym p)).value
 
   pub not_found : (hook : List ℕ) (es : List (String Y × List Registration)) → None ≡ position (named hook) (keys_of es) → None ≡ lookup (named hook) es
@@ -76,7 +83,8 @@ module _ {Y : Type 0} where
       ∙ ap (set_value (pairs es) hook) (e ∙ ap (λ rs. with_added rs new) (registrations-found hook es v (found_at hook es i v p g)))
 
   -- a list written back as it was
-  pub unwritten : (es : List (String Y × List Registration)) (i : ℕ) (w v : List Registration) → Some v ≡ slice_get (values_of es) i → w ≡ v → pairs (set_value_at es i w) ≡ pairs es
+  pub unwritten : (es : List (String Y × List Registration)) (i : ℕ) (w v : List Registration) → Some v ≡ slice_get (values_of es) i → w ≡ v
+      → pairs (set_value_at es i w) ≡ pairs es
   unwritten [] i w v g e = refl
   unwritten (x ∷ es) zero w v g e = let same : v ≡ x.1 = cc in ap (λ rs. (string_bytes x.0, rs) ∷ pairs es) (e ∙ same)
   unwritten (x ∷ es) (suc i) w v g e = ap (λ ps. (string_bytes x.0, x.1) ∷ ps) (unwritten es i w v g e)

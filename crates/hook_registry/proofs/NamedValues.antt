@@ -29,10 +29,12 @@ module _ {Y X : Type 0} where
   pub remove_entry-pairs : (name : List ℕ) (es : List (String Y × X)) → pairs (shift_remove_entry (named name) es) ≡ remove_value (pairs es) name
   remove_entry-pairs name [] = refl
   remove_entry-pairs name (e ∷ es) =
-      elim (bytes_eq name (string_bytes e.0)) as (λ b. pairs (cond b es (e ∷ shift_remove_entry (named name) es)) ≡ cond b (pairs es) ((string_bytes e.0, e.1) ∷ remove_value (pairs es) name))
+      elim (bytes_eq name (string_bytes e.0)) as (λ b. pairs (cond b es (e ∷ shift_remove_entry (named name) es))
+      ≡ cond b (pairs es) ((string_bytes e.0, e.1) ∷ remove_value (pairs es) name))
       [ true ↦ refl | false ↦ ap (λ ps. (string_bytes e.0, e.1) ∷ ps) (remove_entry-pairs name es) ]
 
-  pub name-at : (es : List (String Y × X)) (at : ℕ) (key : String Y) (value : X) → Some (key, value) ≡ slice_get es at → slice_get (map (λ p. p.0) (pairs es)) at ≡ Some (string_bytes key)
+  pub name-at : (es : List (String Y × X)) (at : ℕ) (key : String Y) (value : X) → Some (key, value) ≡ slice_get es at
+      → slice_get (map (λ p. p.0) (pairs es)) at ≡ Some (string_bytes key)
   name-at [] at key value e = cc
   name-at (x ∷ es) zero key value e = let same : x ≡ (key, value) = cc in ap (λ y. Some (string_bytes y.0)) same
   name-at (x ∷ es) (suc at) key value e = name-at es at key value e

@@ -1,4 +1,4 @@
--- The places of a list, and what stands before and behind them.
+-- The places of a list, and what stands before and after them.
 use Rattle.std.proofs.Common.{◌≡◌, ℕ, zero, suc, ◌<◌, ◌≤◌, ◌+◌, ◌-◌, ℤ, Bool, true, false, ◌&&◌, List, [], ◌∷◌, filter, set, length, take, drop, get_or, Some, refl, ap, sym, subst, arith}
 use Rattle.std.specs.Prelude.{◌==◌, nat_lt, int_lt, slice_get}
 use Rattle.std.specs.Ordering.{int_eq}
@@ -13,10 +13,12 @@ pub at_between : (p z : ℤ) → int_lt z p ≡ false → int_lt p z ≡ false �
 at_between p z h k = (Decides-int_eq z p).1 (grind (arith, ints))
 
 pub below_away : (p z : ℤ) → int_lt z p ≡ true → int_eq z p ≡ false
-below_away p z h = elim (int_eq z p) as (λ b. int_eq z p ≡ b → b ≡ false) [ true ↦ λ e. let same : z ≡ p = (Decides-int_eq z p).0 e in grind (arith, ints) | false ↦ λ e. refl ] refl
+below_away p z h = elim (int_eq z p) as (λ b. int_eq z p ≡ b → b ≡ false)
+    [ true ↦ λ e. let same : z ≡ p = (Decides-int_eq z p).0 e in grind (arith, ints) | false ↦ λ e. refl ] refl
 
 pub above_away : (p z : ℤ) → int_lt p z ≡ true → int_eq z p ≡ false
-above_away p z h = elim (int_eq z p) as (λ b. int_eq z p ≡ b → b ≡ false) [ true ↦ λ e. let same : z ≡ p = (Decides-int_eq z p).0 e in grind (arith, ints) | false ↦ λ e. refl ] refl
+above_away p z h = elim (int_eq z p) as (λ b. int_eq z p ≡ b → b ≡ false)
+    [ true ↦ λ e. let same : z ≡ p = (Decides-int_eq z p).0 e in grind (arith, ints) | false ↦ λ e. refl ] refl
 
 -- ---- a test that fails up to a place
 
@@ -48,17 +50,21 @@ module _ {X : Type 0} where
     filter-none (x ∷ xs) f = rw (f 0 x (omega arith) (omega arith)) (filter-none xs (rest_all (λ y. passes y ≡ false) x xs f))
 
     -- what passes from a place on, and not before
-    pub filter-from : (xs : List X) (i : ℕ) → i ≤ length xs → AllWithin (λ x. passes x ≡ false) xs 0 i → AllWithin (λ x. passes x ≡ true) xs i (length xs) → drop i xs ≡ filter passes xs
+    pub filter-from : (xs : List X) (i : ℕ) → i ≤ length xs → AllWithin (λ x. passes x ≡ false) xs 0 i → AllWithin (λ x. passes x ≡ true) xs i (length xs)
+        → drop i xs ≡ filter passes xs
     filter-from [] zero h f g = refl
     filter-from [] (suc i) h f g = absurd (omega arith)
     filter-from (x ∷ xs) zero h f g = sym (filter-all (x ∷ xs) g)
-    filter-from (x ∷ xs) (suc i) h f g = rw (f 0 x (omega arith) (omega arith)) (filter-from xs i (omega arith) (later (λ y. passes y ≡ false) x xs i f) (rest (λ y. passes y ≡ true) x xs i g))
+    filter-from (x ∷ xs) (suc i) h f g = rw (f 0 x (omega arith) (omega arith))
+        (filter-from xs i (omega arith) (later (λ y. passes y ≡ false) x xs i f) (rest (λ y. passes y ≡ true) x xs i g))
 
     -- the first that passes
-    pub filter-first : (xs : List X) (i : ℕ) (d : X) → i < length xs → AllWithin (λ x. passes x ≡ false) xs 0 i → passes (get_or xs i d) ≡ true → slice_get (filter passes xs) 0 ≡ Some (get_or xs i d)
+    pub filter-first : (xs : List X) (i : ℕ) (d : X) → i < length xs → AllWithin (λ x. passes x ≡ false) xs 0 i → passes (get_or xs i d) ≡ true
+        → slice_get (filter passes xs) 0 ≡ Some (get_or xs i d)
     filter-first [] i d h f t = absurd (omega arith)
     filter-first (x ∷ xs) zero d h f t = rw t refl
-    filter-first (x ∷ xs) (suc i) d h f t = rw (f 0 x (omega arith) (omega arith)) (filter-first xs i d (omega arith) (later (λ y. passes y ≡ false) x xs i f) t)
+    filter-first (x ∷ xs) (suc i) d h f t = rw (f 0 x (omega arith) (omega arith))
+        (filter-first xs i d (omega arith) (later (λ y. passes y ≡ false) x xs i f) t)
 
     -- what passes from one place up to another
     pub filter-between : (xs : List X) (i j : ℕ) → i ≤ j → j ≤ length xs
@@ -72,14 +78,16 @@ module _ {X : Type 0} where
         let whole : suc j - 0 ≡ suc j = omega arith in
         let less : j - 0 ≡ j = omega arith in
         rw (whole, g 0 x (omega arith) (omega arith))
-        (ap (λ ys. x ∷ ys) (rw less at (filter-between xs zero j (omega arith) (omega arith) (λ k d l m. absurd (omega (arith, m))) (later (λ y. passes y ≡ true) x xs j g) (rest (λ y. passes y ≡ false) x xs j e))))
+        (ap (λ ys. x ∷ ys) (rw less at (filter-between xs zero j (omega arith) (omega arith) (λ k d l m. absurd (omega (arith, m)))
+        (later (λ y. passes y ≡ true) x xs j g) (rest (λ y. passes y ≡ false) x xs j e))))
     filter-between (x ∷ xs) (suc i) zero o h f g e = absurd (omega arith)
     filter-between (x ∷ xs) (suc i) (suc j) o h f g e =
         let same : suc j - suc i ≡ j - i = omega arith in
         rw (same, f 0 x (omega arith) (omega arith))
-        (filter-between xs i j (omega arith) (omega arith) (later (λ y. passes y ≡ false) x xs i f) (λ k d l m. g (suc k) d (omega arith) (omega arith)) (rest (λ y. passes y ≡ false) x xs j e))
+        (filter-between xs i j (omega arith) (omega arith) (later (λ y. passes y ≡ false) x xs i f) (λ k d l m. g (suc k) d (omega arith) (omega arith))
+        (rest (λ y. passes y ≡ false) x xs j e))
 
--- the place behind those below a priority comes before that of those above it
+-- the place after those below a priority comes before that of those above it
 pub in_order : (priority : ℤ) (rs : List Registration) (i j : ℕ) → i ≤ length rs
     → IsPartitionPoint (λ r. is_below priority r ≡ true) (λ r. is_below priority r ≡ false) rs i
     → IsPartitionPoint (λ r. is_above (Some priority) r ≡ false) (λ r. is_above (Some priority) r ≡ true) rs j
@@ -108,15 +116,16 @@ module _ (priority : ℤ) (callback : ℕ) (r : Registration) where
   pub of-between : int_lt r.priority priority ≡ false → int_lt priority r.priority ≡ false → (r.callback == callback) ≡ true → is_of priority callback r ≡ true
   of-between h k e = rw (at_between priority r.priority h k) e
 
--- ---- where a registration is added
+-- ---- if a registration is added
 
 module _ (new : Registration) where
   -- neither that registration nor above it
   abbrev pub Before : Registration → Type 0
   Before r = (is_of new.priority new.callback r ≡ false) × (int_lt new.priority r.priority ≡ false)
 
-  -- one that is there, behind others, takes the count
-  pub added-there : (xs : List Registration) (i : ℕ) (r m : Registration) → i < length xs → AllWithin Before xs 0 i → r ≡ get_or xs i r → m ≡ get_or xs i m → is_of new.priority new.callback r ≡ true
+  -- one that is there, after others, takes the count
+  pub added-there : (xs : List Registration) (i : ℕ) (r m : Registration) → i < length xs → AllWithin Before xs 0 i → r ≡ get_or xs i r → m ≡ get_or xs i m
+      → is_of new.priority new.callback r ≡ true
       → with_added xs new ≡ set xs i (record m { accepted = new.accepted })
   added-there [] i r m h f e g t = absurd (omega arith)
   added-there (x ∷ xs) zero r m h f e g t =
@@ -127,7 +136,8 @@ module _ (new : Registration) where
       rw (first.0, first.1) (ap (λ ys. x ∷ ys) (added-there xs i r m (omega arith) (later Before x xs i f) e g t))
 
   -- one that isn't there goes before those above it
-  pub added-new : (xs : List Registration) (i : ℕ) → i ≤ length xs → AllWithin Before xs 0 i → AllWithin (λ r. int_lt new.priority r.priority ≡ true) xs i (length xs) → with_added xs new ≡ insert xs i new
+  pub added-new : (xs : List Registration) (i : ℕ) → i ≤ length xs → AllWithin Before xs 0 i
+      → AllWithin (λ r. int_lt new.priority r.priority ≡ true) xs i (length xs) → with_added xs new ≡ insert xs i new
   added-new [] zero h f g = refl
   added-new [] (suc i) h f g = absurd (omega arith)
   added-new (x ∷ xs) zero h f g =
@@ -135,4 +145,5 @@ module _ (new : Registration) where
       rw (above_away new.priority x.priority above, above) refl
   added-new (x ∷ xs) (suc i) h f g =
       let first : Before x = f 0 x (omega arith) (omega arith) in
-      rw (first.0, first.1) (ap (λ ys. x ∷ ys) (added-new xs i (omega arith) (later Before x xs i f) (rest (λ r. int_lt new.priority r.priority ≡ true) x xs i g)))
+      rw (first.0, first.1) (ap (λ ys. x ∷ ys) (added-new xs i (omega arith) (later Before x xs i f)
+      (rest (λ r. int_lt new.priority r.priority ≡ true) x xs i g)))

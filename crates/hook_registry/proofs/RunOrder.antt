@@ -63,24 +63,28 @@ module _ (new : Registration) where
   not_lower : (p q : ℤ) → int_lt q p ≡ true → int_lt p q ≡ false
   not_lower p q h = grind (arith, ints)
 
-  -- another one stays behind those of lesser priority, and before the others
+  -- another one stays after those of smaller priority, and before the others
   added-placed : (r : Registration) (ss : List Registration) → is_same r ≡ false → with_added (placed r ss) new ≡ placed r (with_added ss new)
   added-placed r [] n = rw n refl
   added-placed r (s ∷ ss) n =
-      elim (int_lt s.priority r.priority) as (λ b. int_lt s.priority r.priority ≡ b → with_added (cond b (s ∷ placed r ss) (r ∷ s ∷ ss)) new ≡ placed r (with_added (s ∷ ss) new)) [
+      elim (int_lt s.priority r.priority) as (λ b. int_lt s.priority r.priority ≡ b
+      → with_added (cond b (s ∷ placed r ss) (r ∷ s ∷ ss)) new ≡ placed r (with_added (s ∷ ss) new)) [
         | true ↦ λ e.
-            elim (is_same s) as (λ b. cond b (counted s ∷ placed r ss) (cond (int_lt new.priority s.priority) (new ∷ s ∷ placed r ss) (s ∷ with_added (placed r ss) new))
+            elim (is_same s) as (λ b. cond b (counted s ∷ placed r ss) (cond (int_lt new.priority s.priority) (new ∷ s ∷ placed r ss)
+            (s ∷ with_added (placed r ss) new))
             ≡ placed r (cond b (counted s ∷ ss) (cond (int_lt new.priority s.priority) (new ∷ s ∷ ss) (s ∷ with_added ss new)))) [
               | true ↦ rw e refl
               | false ↦
-                  elim (int_lt new.priority s.priority) as (λ b. int_lt new.priority s.priority ≡ b → cond b (new ∷ s ∷ placed r ss) (s ∷ with_added (placed r ss) new) ≡ placed r (cond b (new ∷ s ∷ ss) (s ∷ with_added ss new))) [
+                  elim (int_lt new.priority s.priority) as (λ b. int_lt new.priority s.priority ≡ b
+                  → cond b (new ∷ s ∷ placed r ss) (s ∷ with_added (placed r ss) new) ≡ placed r (cond b (new ∷ s ∷ ss) (s ∷ with_added ss new))) [
                     | true ↦ λ k. rw (lower new.priority s.priority r.priority k e, e) refl
                     | false ↦ λ k. rw e (ap (λ rest. s ∷ rest) (added-placed r ss n))
                   ] refl
             ]
         | false ↦ λ e.
             rw n
-            (elim (int_lt new.priority r.priority) as (λ b. int_lt new.priority r.priority ≡ b → cond b (new ∷ r ∷ s ∷ ss) (r ∷ with_added (s ∷ ss) new) ≡ placed r (with_added (s ∷ ss) new)) [
+            (elim (int_lt new.priority r.priority) as (λ b. int_lt new.priority r.priority ≡ b
+            → cond b (new ∷ r ∷ s ∷ ss) (r ∷ with_added (s ∷ ss) new) ≡ placed r (with_added (s ∷ ss) new)) [
               | true ↦ λ k.
                   let low : int_lt new.priority s.priority ≡ true = lower_than new.priority r.priority s.priority k e in
                   rw (above_away new.priority s.priority low, low, k, e) refl
@@ -89,17 +93,20 @@ module _ (new : Registration) where
                   ≡ placed r (cond b (counted s ∷ ss) (cond (int_lt new.priority s.priority) (new ∷ s ∷ ss) (s ∷ with_added ss new)))) [
                     | true ↦ rw e refl
                     | false ↦
-                        elim (int_lt new.priority s.priority) as (λ b. r ∷ cond b (new ∷ s ∷ ss) (s ∷ with_added ss new) ≡ placed r (cond b (new ∷ s ∷ ss) (s ∷ with_added ss new)))
+                        elim (int_lt new.priority s.priority) as (λ b. r ∷ cond b (new ∷ s ∷ ss) (s ∷ with_added ss new)
+                        ≡ placed r (cond b (new ∷ s ∷ ss) (s ∷ with_added ss new)))
                         [ true ↦ rw k refl | false ↦ rw e refl ]
                   ]
             ] refl)
       ] refl
 
   -- the same one takes the count in its place
-  counted-placed : (r : Registration) (ss : List Registration) → is_same r ≡ true → r.priority ≡ new.priority → with_added (placed r ss) new ≡ placed (counted r) ss
+  counted-placed : (r : Registration) (ss : List Registration) → is_same r ≡ true → r.priority ≡ new.priority
+      → with_added (placed r ss) new ≡ placed (counted r) ss
   counted-placed r [] t p = rw t refl
   counted-placed r (s ∷ ss) t p =
-      elim (int_lt s.priority r.priority) as (λ b. int_lt s.priority r.priority ≡ b → with_added (cond b (s ∷ placed r ss) (r ∷ s ∷ ss)) new ≡ cond b (s ∷ placed (counted r) ss) (counted r ∷ s ∷ ss)) [
+      elim (int_lt s.priority r.priority) as (λ b. int_lt s.priority r.priority ≡ b
+      → with_added (cond b (s ∷ placed r ss) (r ∷ s ∷ ss)) new ≡ cond b (s ∷ placed (counted r) ss) (counted r ∷ s ∷ ss)) [
         | true ↦ λ e.
             let low : int_lt s.priority new.priority ≡ true = subst (λ z. int_lt s.priority z ≡ true) p e in
             rw (below_away new.priority s.priority low, not_lower new.priority s.priority low) (ap (λ rest. s ∷ rest) (counted-placed r ss t p))
@@ -131,13 +138,16 @@ module _ (passes : Registration → Bool) where
   kept_in : (r : Registration) (ss : List Registration) → IsAscending ss → passes r ≡ true → filter passes (placed r ss) ≡ placed r (filter passes ss)
   kept_in r [] h t = rw t refl
   kept_in r (s ∷ ss) h t =
-      elim (int_lt s.priority r.priority) as (λ b. int_lt s.priority r.priority ≡ b → filter passes (cond b (s ∷ placed r ss) (r ∷ s ∷ ss)) ≡ placed r (filter passes (s ∷ ss))) [
+      elim (int_lt s.priority r.priority) as (λ b. int_lt s.priority r.priority ≡ b
+      → filter passes (cond b (s ∷ placed r ss) (r ∷ s ∷ ss)) ≡ placed r (filter passes (s ∷ ss))) [
         | true ↦ λ e.
-            elim (passes s) as (λ b. cond b (s ∷ filter passes (placed r ss)) (filter passes (placed r ss)) ≡ placed r (cond b (s ∷ filter passes ss) (filter passes ss)))
+            elim (passes s) as (λ b. cond b (s ∷ filter passes (placed r ss)) (filter passes (placed r ss))
+            ≡ placed r (cond b (s ∷ filter passes ss) (filter passes ss)))
             [ true ↦ rw e (ap (λ rest. s ∷ rest) (kept_in r ss h.1 t)) | false ↦ kept_in r ss h.1 t ]
         | false ↦ λ e.
             let l = not_above r.priority s.priority e in
-            rw t (sym (placed_first r (filter passes (s ∷ ss)) (none_below-filter r.priority passes (s ∷ ss) (l, none_below_less r.priority s.priority ss l h.0))))
+            rw t (sym (placed_first r (filter passes (s ∷ ss)) (none_below-filter r.priority passes (s ∷ ss)
+            (l, none_below_less r.priority s.priority ss l h.0))))
       ] refl
 
   pub filter-by_priority : (rs : List Registration) → filter passes (by_priority rs) ≡ by_priority (filter passes rs)
@@ -148,7 +158,7 @@ module _ (passes : Registration → Bool) where
         | false ↦ λ f. left_out r (by_priority rs) f ∙ filter-by_priority rs
       ] refl
 
--- ---- those at a priority, and the least priority
+-- ---- those at a priority, and the smallest priority
 
 each_at : (p : ℤ) (rs : List Registration) → NoneBelow p (filter (is_at p) rs)
 each_at p [] = tt
@@ -162,7 +172,8 @@ each_at p (r ∷ rs) =
 one_priority : (p : ℤ) (rs : List Registration) → by_priority (filter (is_at p) rs) ≡ filter (is_at p) rs
 one_priority p [] = refl
 one_priority p (r ∷ rs) =
-    elim (is_at p r) as (λ b. is_at p r ≡ b → by_priority (cond b (r ∷ filter (is_at p) rs) (filter (is_at p) rs)) ≡ cond b (r ∷ filter (is_at p) rs) (filter (is_at p) rs)) [
+    elim (is_at p r) as (λ b. is_at p r ≡ b → by_priority (cond b (r ∷ filter (is_at p) rs) (filter (is_at p) rs))
+    ≡ cond b (r ∷ filter (is_at p) rs) (filter (is_at p) rs)) [
       | true ↦ λ e.
           let same : r.priority ≡ p = (Decides-int_eq r.priority p).0 e in
           ap (placed r) (one_priority p rs) ∙ placed_first r (filter (is_at p) rs) (subst (λ z. NoneBelow z (filter (is_at p) rs)) (sym same) (each_at p rs))
@@ -181,10 +192,12 @@ swapped a b c = grind (arith, ints)
 either_first : (a b : ℤ) → int_min a b ≡ int_min b a
 either_first a b = grind (arith, ints)
 
-fold-placed : (a : ℤ) (r : Registration) (ss : List Registration) → fold int_min a (priorities (placed r ss)) ≡ fold int_min (int_min a r.priority) (priorities ss)
+fold-placed : (a : ℤ) (r : Registration) (ss : List Registration)
+    → fold int_min a (priorities (placed r ss)) ≡ fold int_min (int_min a r.priority) (priorities ss)
 fold-placed a r [] = refl
 fold-placed a r (s ∷ ss) =
-    elim (int_lt s.priority r.priority) as (λ b. fold int_min a (priorities (cond b (s ∷ placed r ss) (r ∷ s ∷ ss))) ≡ fold int_min (int_min a r.priority) (priorities (s ∷ ss)))
+    elim (int_lt s.priority r.priority) as (λ b. fold int_min a (priorities (cond b (s ∷ placed r ss) (r ∷ s ∷ ss)))
+    ≡ fold int_min (int_min a r.priority) (priorities (s ∷ ss)))
     [ true ↦ fold-placed (int_min a s.priority) r ss ∙ ap (λ z. fold int_min z (priorities ss)) (swapped a s.priority r.priority) | false ↦ refl ]
 
 fold-by_priority : (a : ℤ) (rs : List Registration) → fold int_min a (priorities (by_priority rs)) ≡ fold int_min a (priorities rs)
@@ -194,7 +207,8 @@ fold-by_priority a (r ∷ rs) = fold-placed a r (by_priority rs) ∙ fold-by_pri
 least-placed : (r : Registration) (ss : List Registration) → least (priorities (placed r ss)) ≡ Some (fold int_min r.priority (priorities ss))
 least-placed r [] = refl
 least-placed r (s ∷ ss) =
-    elim (int_lt s.priority r.priority) as (λ b. least (priorities (cond b (s ∷ placed r ss) (r ∷ s ∷ ss))) ≡ Some (fold int_min r.priority (priorities (s ∷ ss))))
+    elim (int_lt s.priority r.priority) as (λ b. least (priorities (cond b (s ∷ placed r ss) (r ∷ s ∷ ss)))
+    ≡ Some (fold int_min r.priority (priorities (s ∷ ss))))
     [ true ↦ ap Some (fold-placed s.priority r ss ∙ ap (λ z. fold int_min z (priorities ss)) (either_first s.priority r.priority)) | false ↦ refl ]
 
 least-by_priority : (rs : List Registration) → least (priorities (by_priority rs)) ≡ least (priorities rs)

@@ -21,12 +21,14 @@ module _ {X : Type 0} where
   abbrev pub are_tags : List (List ℕ × X) → Bool
   are_tags pairs = list_all (λ p. is_tag_name p.0) pairs
 
-  pub are_tags-set : (pairs : List (List ℕ × X)) (name : List ℕ) (value : X) → is_tag_name name ≡ true → are_tags pairs ≡ true → are_tags (set_value pairs name value) ≡ true
+  pub are_tags-set : (pairs : List (List ℕ × X)) (name : List ℕ) (value : X) → is_tag_name name ≡ true → are_tags pairs ≡ true
+      → are_tags (set_value pairs name value) ≡ true
   are_tags-set [] name value n h = and_both (is_tag_name name) true n refl
   are_tags-set (p ∷ ps) name value n h =
       elim (bytes_eq name p.0) as (λ b. are_tags (if b then (p.0, value) ∷ ps else p ∷ set_value ps name value) ≡ true) [
         | true ↦ h
-        | false ↦ and_both (is_tag_name p.0) (are_tags (set_value ps name value)) (and_left (is_tag_name p.0) (are_tags ps) h) (are_tags-set ps name value n (and_right (is_tag_name p.0) (are_tags ps) h))
+        | false ↦ and_both (is_tag_name p.0) (are_tags (set_value ps name value)) (and_left (is_tag_name p.0) (are_tags ps) h)
+            (are_tags-set ps name value n (and_right (is_tag_name p.0) (are_tags ps) h))
       ]
 
   pub are_tags-remove : (pairs : List (List ℕ × X)) (name : List ℕ) → are_tags pairs ≡ true → are_tags (remove_value pairs name) ≡ true
@@ -34,20 +36,24 @@ module _ {X : Type 0} where
   are_tags-remove (p ∷ ps) name h =
       elim (bytes_eq name p.0) as (λ b. are_tags (cond b ps (p ∷ remove_value ps name)) ≡ true) [
         | true ↦ and_right (is_tag_name p.0) (are_tags ps) h
-        | false ↦ and_both (is_tag_name p.0) (are_tags (remove_value ps name)) (and_left (is_tag_name p.0) (are_tags ps) h) (are_tags-remove ps name (and_right (is_tag_name p.0) (are_tags ps) h))
+        | false ↦ and_both (is_tag_name p.0) (are_tags (remove_value ps name)) (and_left (is_tag_name p.0) (are_tags ps) h)
+            (are_tags-remove ps name (and_right (is_tag_name p.0) (are_tags ps) h))
       ]
 
   -- the name at a place is a tag's
-  pub is_tag-at : (pairs : List (List ℕ × X)) (at : ℕ) (name : List ℕ) → are_tags pairs ≡ true → slice_get (map (λ p. p.0) pairs) at ≡ Some name → is_tag_name name ≡ true
+  pub is_tag-at : (pairs : List (List ℕ × X)) (at : ℕ) (name : List ℕ) → are_tags pairs ≡ true → slice_get (map (λ p. p.0) pairs) at ≡ Some name
+      → is_tag_name name ≡ true
   is_tag-at [] at name h e = cc
   is_tag-at (p ∷ ps) zero name h e = let same : p.0 ≡ name = cc in rw (← same) (and_left (is_tag_name p.0) (are_tags ps) h)
   is_tag-at (p ∷ ps) (suc at) name h e = is_tag-at ps at name (and_right (is_tag_name p.0) (are_tags ps) h) e
 
-  names-suc : (pairs : List (List ℕ × X)) (at : ℕ) (name : List ℕ) → slice_get (map (λ p. p.0) pairs) at ≡ Some name → map (λ p. p.0) (take at pairs) ++ name ∷ [] ≡ map (λ p. p.0) (take (suc at) pairs)
+  names-suc : (pairs : List (List ℕ × X)) (at : ℕ) (name : List ℕ) → slice_get (map (λ p. p.0) pairs) at ≡ Some name
+      → map (λ p. p.0) (take at pairs) ++ name ∷ [] ≡ map (λ p. p.0) (take (suc at) pairs)
   names-suc [] at name e = cc
   names-suc (p ∷ ps) zero name e = let same : p.0 ≡ name = cc in ap (λ n. n ∷ []) (sym same)
   names-suc (p ∷ ps) (suc at) name e = ap (λ ns. p.0 ∷ ns) (names-suc ps at name e)
 
   -- one more name
-  pub names-more : (pairs : List (List ℕ × X)) (at : ℕ) (name : List ℕ) → slice_get (map (λ p. p.0) pairs) at ≡ Some name → map (λ p. p.0) (take at pairs) ++ name ∷ [] ≡ map (λ p. p.0) (take (at + 1) pairs)
+  pub names-more : (pairs : List (List ℕ × X)) (at : ℕ) (name : List ℕ) → slice_get (map (λ p. p.0) pairs) at ≡ Some name
+      → map (λ p. p.0) (take at pairs) ++ name ∷ [] ≡ map (λ p. p.0) (take (at + 1) pairs)
   names-more pairs at name e = rw add-one (names-suc pairs at name e)

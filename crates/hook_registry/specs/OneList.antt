@@ -50,7 +50,7 @@ list_changed list (Added hook new) = add list hook new
 list_changed list (Removed hook priority callback) = remove list hook priority callback
 list_changed list (RemovedAll hook priority) = remove_all list hook priority
 
--- the table, and the list, after some changes, where nothing was registered before
+-- the table, and the list, after some changes, if nothing was registered before
 abbrev pub table_after : List TableChange → Table
 table_after changes = fold changed [] changes
 

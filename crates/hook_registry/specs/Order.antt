@@ -12,12 +12,12 @@ abbrev pub IsAscending : List Registration → Type 0
 IsAscending [] = Unit {0}
 IsAscending (r ∷ rs) = NoneBelow r.priority rs × IsAscending rs
 
--- a registration in its place: behind those of lesser priority, and before the others
+-- a registration in its place: after those of smaller priority, and before the others
 abbrev pub placed : Registration → List Registration → List Registration
 placed r [] = r ∷ []
 placed r (s ∷ ss) = if int_lt s.priority r.priority then s ∷ placed r ss else r ∷ s ∷ ss
 
--- a list by ascending priority, where those of one priority stay in their order
+-- a list by ascending priority; those of one priority stay in their order
 abbrev pub by_priority : List Registration → List Registration
 by_priority [] = []
 by_priority (r ∷ rs) = placed r (by_priority rs)

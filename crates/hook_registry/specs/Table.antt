@@ -58,7 +58,7 @@ entry_of r = record { callback = r.callback; accepted = r.accepted }
 abbrev pub group : Table → List ℕ → ℤ → List Entry
 group table hook priority = map entry_of (filter (is_at priority) (registrations table hook))
 
--- the least of some numbers
+-- the smallest of some numbers
 abbrev pub least : List ℤ → Option ℤ
 least xs = reduce int_min xs
 
@@ -72,15 +72,15 @@ is_below other r = int_lt r.priority other
 abbrev pub least_priority : (Registration → Bool) → List Registration → Option ℤ
 least_priority passes rs = least (map (λ r. r.priority) (filter passes rs))
 
--- the least priority of a hook, above another one where that is given
+-- the smallest priority of a hook, above another one if that is given
 abbrev pub next_priority : Table → List ℕ → Option ℤ → Option ℤ
 next_priority table hook above = least_priority (is_above above) (registrations table hook)
 
--- the least priority of a hook
+-- the smallest priority of a hook
 abbrev pub first : Table → List ℕ → Option ℤ
 first table hook = next_priority table hook None
 
--- the least priority of a hook that is greater than one
+-- the smallest priority of a hook that is greater than one
 abbrev pub after : Table → List ℕ → ℤ → Option ℤ
 after table hook priority = next_priority table hook (Some priority)
 
@@ -92,7 +92,7 @@ has table hook = has_some (registrations table hook)
     has_some [] = not true
     has_some (r ∷ rs) = true
 
--- the least priority of the callback there
+-- the smallest priority of the callback there
 abbrev pub priority_of : Table → List ℕ → ℕ → Option ℤ
 priority_of table hook callback = least_priority (λ r. r.callback == callback) (registrations table hook)
 

@@ -10,11 +10,11 @@ the_title = codes "the_title"
 abbrev pub at : ℤ → ℕ → ℕ → Registration
 at priority callback accepted = record { priority = priority; callback = callback; accepted = accepted }
 
--- registrations added in turn under one hook, where nothing was registered
+-- registrations added in turn under one hook, if nothing was registered
 abbrev pub with_title : List Registration → Table
 with_title new = fold (λ table r. add table the_title r) [] new
 
--- callbacks at the greatest priority, at 0 and at the least
+-- callbacks at the largest priority, at 0 and at the smallest
 abbrev pub far_apart : Table
 far_apart = with_title (at (pos 2147483647) 1 1 ∷ at (pos 0) 2 1 ∷ at (negsuc 2147483647) 3 1 ∷ [])
 

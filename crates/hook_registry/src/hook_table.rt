@@ -1,4 +1,4 @@
-// The registrations of every hook.
+//! The registrations of every hook.
 ghost use Rattle.std.specs.Prelude.{◌≡◌, ◌≤◌, [], List, IfOk, IfErr, OnOk};
 ghost use Rattle.std.specs.Prelude.{OnErr, unwrap_or, map, min, ◌+◌, Option, None};
 ghost use Rattle.std.specs.List.{list_any};
@@ -31,7 +31,7 @@ impl Model for HookTable {
 }
 
 impl HookTable {
-    /// Nothing registered. It takes no memory.
+    /// Nothing registered. It does not allocate.
     pub fn new(alloc: Global) -> Self
         ensures { result ≡ [] }
     {
@@ -51,7 +51,7 @@ impl HookTable {
         }
     }
 
-    /// Registers a callback under a hook and a priority. One that is there keeps its place and takes the count; where
+    /// Registers a callback under a hook and a priority. One that is there keeps its place and takes the count; if
     /// there is no memory, nothing is registered.
     pub fn add(
         &mut self,
@@ -94,7 +94,7 @@ impl HookTable {
         Ok(())
     }
 
-    /// Takes one registration away, and says whether it was there. It takes no memory.
+    /// Removes one registration, and says whether it was there. It does not allocate.
     pub fn remove(&mut self, hook: &HookName, priority: i32, callback: CallbackId) -> bool
         ensures removed { self.new ≡ remove self.old hook.now priority callback }
         ensures there { result ≡ list_any (is_of priority callback) (registrations self.old hook.now) }
@@ -108,7 +108,7 @@ impl HookTable {
         }
     }
 
-    /// Takes all registrations of a hook away, or those of one priority. It takes no memory.
+    /// Removes all registrations of a hook, or those of one priority. It does not allocate.
     pub fn remove_all(&mut self, hook: &HookName, priority: Option<i32>)
         ensures { self.new ≡ remove_all self.old hook.now priority }
     {
@@ -128,7 +128,7 @@ impl HookTable {
         !self.list(hook).is_empty()
     }
 
-    /// The least priority of a callback under a hook.
+    /// The smallest priority of a callback under a hook.
     pub fn priority_of(&self, hook: &str, callback: CallbackId) -> Option<i32>
         ensures { result ≡ priority_of self.now hook.now callback }
     {
@@ -146,7 +146,7 @@ impl HookTable {
         )
     }
 
-    /// The least priority of a hook, above another where that is given.
+    /// The smallest priority of a hook, above another if that is given.
     pub fn next_priority(&self, hook: &HookName, after: Option<i32>) -> Option<i32>
         ensures { result ≡ next_priority self.now hook.now after }
     {
@@ -154,7 +154,7 @@ impl HookTable {
     }
 }
 
-/// The number of a priority, where there is one.
+/// The number of a priority, if there is one.
 fn number_of(priority: Option<Priority>) -> Option<i32>
     ensures { result ≡ priority }
 {

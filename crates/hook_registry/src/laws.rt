@@ -21,8 +21,8 @@ ghost use Rattle.hook_registry.specs.OneList.{is_in, is_same, registrations_in, 
 
 /// A law: after any changes from an empty registry, the table has under each hook what one list of all registrations,
 /// in the order of adding, has of that hook, by ascending priority and those of one priority in their order. So at each
-/// priority it has the callbacks of the one list, and the least priority above any is the one list's. A hook has a
-/// registration, and a callback its least priority under it, as in the one list; and `Registry::remove` says whether
+/// priority it has the callbacks of the one list, and the smallest priority above any is the one list's. A hook has a
+/// registration, and a callback its smallest priority under it, as in the one list; and `Registry::remove` says whether
 /// the one list has the registration.
 pub fn one_list()
     ensures registrations { (changes : List TableChange) (hook : List ℕ)

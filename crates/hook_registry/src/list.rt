@@ -1,4 +1,4 @@
-// The registrations of one hook.
+//! The registrations of one hook.
 ghost use Rattle.std.specs.Prelude.{◌≡◌, ◌≤◌, ◌==◌, true, false, not, length, []};
 ghost use Rattle.std.specs.Prelude.{List, Option, Some, IfOk, OnOk, OnErr, map, filter};
 ghost use Rattle.std.specs.List.{list_any};
@@ -32,7 +32,7 @@ impl Model for HookList {
 }
 
 impl HookList {
-    /// No registrations. It takes no memory.
+    /// No registrations. It does not allocate.
     pub fn new(alloc: Global) -> Self
         ensures { result ≡ [] }
     {
@@ -49,7 +49,7 @@ impl HookList {
         self.registrations.as_slice()
     }
 
-    /// Adds a registration behind the others of its priority, where one of that callback there keeps its place and
+    /// Adds a registration after the others of its priority. One of that callback that is there keeps its place and
     /// takes the count.
     pub fn add(
         &mut self,
@@ -123,11 +123,12 @@ fn remove_at(list: &mut Vec<Registration>, priority: Priority)
     list.retain(|r| !r.is_at(priority));
 }
 
-/// The place behind those of lesser priority, where the callbacks at a priority begin.
+/// The place after those of smaller priority, where the callbacks at a priority begin.
 fn start_of(list: &[Registration], priority: Priority) -> usize
     requires { IsAscending list.now }
     ensures within { result ≤ length list.now }
-    ensures point { IsPartitionPoint (λ r. is_below priority r ≡ true) (λ r. is_below priority r ≡ false) list.now result }
+    ensures point { IsPartitionPoint
+        (λ r. is_below priority r ≡ true) (λ r. is_below priority r ≡ false) list.now result }
 {
     list.partition_point(|r| r.is_below(priority))
 }
@@ -136,7 +137,8 @@ fn start_of(list: &[Registration], priority: Priority) -> usize
 fn end_of(list: &[Registration], priority: Priority) -> usize
     requires { IsAscending list.now }
     ensures within { result ≤ length list.now }
-    ensures point { IsPartitionPoint (λ r. is_above (Some priority) r ≡ false) (λ r. is_above (Some priority) r ≡ true) list.now result }
+    ensures point { IsPartitionPoint
+        (λ r. is_above (Some priority) r ≡ false) (λ r. is_above (Some priority) r ≡ true) list.now result }
 {
     list.partition_point(|r| !r.is_above(priority))
 }
@@ -179,7 +181,7 @@ fn first_priority(list: &[Registration]) -> Option<Priority>
     list.first().map(|r| r.priority)
 }
 
-/// The least priority above another, where that is given.
+/// The smallest priority above another, if that is given.
 pub fn least_above(list: &[Registration], above: Option<i32>) -> Option<Priority>
     requires { IsAscending list.now }
     ensures { result ≡ least_priority (is_above above) list.now }
@@ -190,7 +192,7 @@ pub fn least_above(list: &[Registration], above: Option<i32>) -> Option<Priority
     }
 }
 
-/// The least priority of a callback.
+/// The smallest priority of a callback.
 pub fn least_of(list: &[Registration], callback: CallbackId) -> Option<Priority>
     requires { IsAscending list.now }
     ensures { result ≡ least_priority (λ r. r.callback == callback) list.now }

@@ -1,4 +1,4 @@
-// Values under names.
+//! Values under names.
 ghost use Rattle.std.specs.Prelude.{◌≡◌, ◌<◌, [], length, map, slice_get, Some, is_some, OnOk, OnErr};
 ghost use Rattle.hook_registry.specs.Named.{value_of, set_value, remove_value};
 
@@ -22,7 +22,7 @@ impl<V> Model for Named<V> {
 }
 
 impl<V: Copy + Drop> Named<V> {
-    /// No names. It takes no memory.
+    /// No names. It does not allocate.
     pub fn new(alloc: Global) -> Self
         ensures { result ≡ [] }
     {
@@ -39,7 +39,7 @@ impl<V: Copy + Drop> Named<V> {
         self.values.get(name).copied()
     }
 
-    /// Sets the value of a name, which keeps its place where it is there. Where there is no memory, nothing is set.
+    /// Sets the value of a name, which keeps its place if it is there. If there is no memory, nothing is set.
     pub fn set(&mut self, name: &str, value: V) -> Result<(), AllocError>
         ensures ok { OnOk result (self.new ≡ set_value self.old name.now value) }
         ensures err { OnErr result (self.new ≡ self.old) }
@@ -49,7 +49,7 @@ impl<V: Copy + Drop> Named<V> {
         Ok(())
     }
 
-    /// Takes a name away, and says whether it was there. It takes no memory.
+    /// Removes a name, and says whether it was there. It does not allocate.
     pub fn remove(&mut self, name: &str) -> bool
         ensures removed { self.new ≡ remove_value self.old name.now }
         ensures there { result ≡ is_some (value_of self.old name.now) }
@@ -75,7 +75,7 @@ impl<V: Copy + Drop> Named<V> {
         }
     }
 
-    /// Takes all names away. It takes no memory.
+    /// Removes all names. It does not allocate.
     pub fn clear(&mut self)
         ensures { self.new ≡ [] }
     {

@@ -1,4 +1,4 @@
-// One registration, and what a pass takes of it.
+//! One registration, and what a pass takes of it.
 ghost use Rattle.std.specs.Prelude.{◌≡◌, ℤ, Some};
 
 use hook_changes::CallbackId;

@@ -1,4 +1,4 @@
-// The registry.
+//! The registry.
 ghost use Rattle.std.specs.Prelude.{◌≡◌, ◌≤◌, ◌+◌, [], IfOk, OnOk, OnErr, map, is_some, min, unwrap_or};
 ghost use Rattle.std.specs.List.{list_any};
 ghost use Rattle.hook_registry.specs.Named.{value_of, set_value, remove_value};
@@ -36,7 +36,7 @@ impl Model for Registry {
 }
 
 impl Registry {
-    /// Nothing registered, no tags and nothing fired. It takes no memory.
+    /// Nothing registered, no tags and nothing fired. It does not allocate.
     pub fn new(alloc: Global) -> Self
         ensures { result ≡ record { table = []; tags = []; counts = [] } }
     {
@@ -48,10 +48,10 @@ impl Registry {
         }
     }
 
-    /// Registers a callback under a hook and a priority, to be given so many arguments (Code Reference, add_filter).
+    /// Registers a callback under a hook and a priority, for a number of arguments (Code Reference, add_filter).
     ///
     /// Callbacks of one priority run in the order of adding. One that is there keeps its place and takes the count.
-    /// Where there is no memory, nothing is registered.
+    /// If there is no memory, nothing is registered.
     pub fn add(
         &mut self,
         hook: &HookName,
@@ -69,7 +69,7 @@ impl Registry {
         self.hooks.add(hook, priority, callback, accepted)
     }
 
-    /// Takes one registration away, and says whether it was there (Code Reference, remove_filter). It takes no memory.
+    /// Removes one registration, and says whether it was there (Code Reference, remove_filter). It does not allocate.
     pub fn remove(&mut self, hook: &HookName, priority: i32, callback: CallbackId) -> bool
         ensures removed { self.new ≡ record self.old { table = remove self.old.table hook.now priority callback } }
         ensures there { result ≡ list_any (is_of priority callback) (registrations self.old.table hook.now) }
@@ -77,7 +77,7 @@ impl Registry {
         self.hooks.remove(hook, priority, callback)
     }
 
-    /// Takes all registrations of a hook away, or those of one priority (Code Reference, remove_all_filters). It takes
+    /// Removes all registrations of a hook, or those of one priority (Code Reference, remove_all_filters). It takes
     /// no memory.
     pub fn remove_all(&mut self, hook: &HookName, priority: Option<i32>)
         ensures { self.new ≡ record self.old { table = remove_all self.old.table hook.now priority } }
@@ -93,7 +93,7 @@ impl Registry {
         self.hooks.has(hook)
     }
 
-    /// The least priority of a callback under a hook (Code Reference, has_filter with a callback).
+    /// The smallest priority of a callback under a hook (Code Reference, has_filter with a callback).
     pub fn priority_of(&self, hook: &str, callback: CallbackId) -> Option<i32>
         ensures { result ≡ priority_of self.now.table hook.now callback }
     {
@@ -107,7 +107,7 @@ impl Registry {
         self.hooks.group(hook, priority)
     }
 
-    /// The least priority of a hook, above another where that is given.
+    /// The smallest priority of a hook, above another if that is given.
     pub fn next_priority(&self, hook: &HookName, after: Option<i32>) -> Option<i32>
         ensures { result ≡ next_priority self.now.table hook.now after }
     {
@@ -115,7 +115,7 @@ impl Registry {
     }
 
     /// Makes a callback the handler of a tag (Code Reference, add_shortcode). A tag that is there keeps its place and
-    /// takes the new handler; where there is no memory, nothing changes.
+    /// takes the new handler; if there is no memory, nothing changes.
     pub fn add_tag(&mut self, tag: &TagName, callback: CallbackId) -> Result<(), AllocError>
         ensures added { OnOk result
             (self.new ≡ record self.old { tags = set_value self.old.tags tag.now callback }) }
@@ -124,7 +124,7 @@ impl Registry {
         self.tags.set(tag.as_str(), callback)
     }
 
-    /// Takes a tag away, and says whether it was there (Code Reference, remove_shortcode). It takes no memory.
+    /// Removes a tag, and says whether it was there (Code Reference, remove_shortcode). It does not allocate.
     pub fn remove_tag(&mut self, tag: &str) -> bool
         ensures removed { self.new ≡ record self.old { tags = remove_value self.old.tags tag.now } }
         ensures there { result ≡ is_some (value_of self.old.tags tag.now) }
@@ -132,7 +132,7 @@ impl Registry {
         self.tags.remove(tag)
     }
 
-    /// Takes all tags away (Code Reference, remove_all_shortcodes). It takes no memory.
+    /// Removes all tags (Code Reference, remove_all_shortcodes). It does not allocate.
     pub fn remove_all_tags(&mut self)
         ensures { self.new ≡ record self.old { tags = [] } }
     {
@@ -162,7 +162,7 @@ impl Registry {
     }
 
     /// Counts one firing of an action, and gives the new count, which stays at 4,294,967,295 once there (Code
-    /// Reference, did_action). Where there is no memory, nothing is counted.
+    /// Reference, did_action). If there is no memory, nothing is counted.
     pub fn fire(&mut self, hook: &HookName) -> Result<u32, AllocError>
         ensures fired { IfOk result (λ count.
             (count ≡ min (times_fired self.old.counts hook.now + 1) 4294967295)

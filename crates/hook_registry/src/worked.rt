@@ -29,7 +29,7 @@ pub fn worked_table()
         (with_title (at (pos 10) 7 1 ∷ at (pos 10) 3 2 ∷ at (pos 9) 7 5 ∷ [])) the_title
         ≡ at (pos 9) 7 5 ∷ at (pos 10) 7 1 ∷ at (pos 10) 3 2 ∷ [] }
 
-    // Priorities are signed: those below zero come first, from the least number to the greatest.
+    // Priorities are signed: those below zero come first, from the smallest number to the largest.
     ensures least_first { first far_apart the_title ≡ Some (negsuc 2147483647) }
     ensures zero_next { after far_apart the_title (negsuc 2147483647) ≡ Some (pos 0) }
     ensures greatest_next { after far_apart the_title (pos 0) ≡ Some (pos 2147483647) }
@@ -45,7 +45,7 @@ pub fn worked_table()
         ≡ at (pos 9) 7 2 ∷ [] }
     ensures removed_all { registrations (remove_all shared the_title None) the_title ≡ [] }
 
-    // Of several priorities of one callback the least is given.
+    // Of several priorities of one callback the smallest is given.
     ensures least_priority { priority_of (with_title (at (pos 20) 7 1 ∷ at (pos 10) 3 1 ∷ at (pos 5) 7 1 ∷ []))
         the_title 7
         ≡ Some (pos 5) }

@@ -15,7 +15,7 @@ end = codes "]]>"
 abbrev escape : List ℕ
 escape = codes "]]&gt;"
 
--- a byte stays that isn't a `>` behind `]]`
+-- a byte stays that isn't a `>` after `]]`
 stays : (x y b : ℕ) → ((x ≡ 93) × (y ≡ 93) × (b ≡ 62) → ⊥) → (if x == 93 && y == 93 && b == 62 then codes "&gt;" else b ∷ []) ≡ b ∷ []
 stays x y b other = grind (arith, nat_tests, other)
 
@@ -30,7 +30,7 @@ kept x y (b ∷ front) back after lacks escaped =
     let more = kept y b front back after (λ i inside. lacks (suc i) (omega arith)) escaped in
     λ i. first i ++ more i
 
--- behind `]>` a text is escaped as if nothing came before it
+-- after `]>` a text is escaped as if nothing came before it
 afresh : (back : List ℕ) → ends_escaped_behind 93 62 back ≡ ends_escaped back
 afresh [] = refl
 afresh (b ∷ []) = refl
@@ -81,7 +81,7 @@ replaced (suc n) p s out is (a, b, q, rest, found, keeps, on, made) =
     let more = ⊎_elim (λ next. replaced n q (drop b s) rest (keeps ∙ is) next.1) (λ empty. absurd (omega (arith, empty.0, has.ends))) on in
     made ∙ ap (λ l. take a s ++ (escape ++ l)) more ∙ sym (up_to_end s a b lacks has)
 
--- an end stands where a text goes on with one
+-- an end stands if a text goes on with one
 stands : (s rest : List ℕ) (i : ℕ) → drop i s ≡ end ++ rest → OccursAt s end i
 stands s rest i same =
     record {

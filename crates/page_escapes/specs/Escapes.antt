@@ -1,7 +1,7 @@
--- Text that is safe in its place: behind the closing mark of a CDATA section, and in HTML.
+-- Text that is safe in its place: after the closing mark of a CDATA section, and in HTML.
 use Rattle.std.specs.Prelude.{ℕ, ◌==◌, ◌&&◌, List, [], ◌∷◌, ◌++◌, codes, flat_map, if◌then◌else◌}
 
--- a text behind these two bytes, in which each `>` behind `]]` is `&gt;`
+-- a text after these two bytes, in which each `>` after `]]` is `&gt;`
 abbrev pub ends_escaped_behind : ℕ → ℕ → List ℕ → List ℕ
 ends_escaped_behind before last [] = []
 ends_escaped_behind before last (b ∷ rest) =

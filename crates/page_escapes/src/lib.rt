@@ -60,7 +60,7 @@ fn has_no_mark(text: &str) -> bool
     memchr3(b'&', b'<', b'>', bytes).is_none() && memchr2(b'"', b'\'', bytes).is_none()
 }
 
-/// Puts a character behind a text, as its entity where it has one.
+/// Appends a character to a text, as its entity if it has one.
 fn push_escaped(text: &mut String, character: char) -> Result<(), AllocError>
     ensures { OnOk result (string_bytes text.new ≡ string_bytes text.old ++ html_escaped (encode_utf8 character)) }
 {
@@ -76,7 +76,7 @@ fn push_escaped(text: &mut String, character: char) -> Result<(), AllocError>
 
 /// What some texts come to. The call itself does nothing: it carries these facts.
 pub fn worked_escapes()
-    // Only a `>` behind `]]` is escaped, and what follows it is not behind that mark.
+    // Only a `>` after `]]` is escaped, and what follows it is not after that mark.
     ensures end { ends_escaped (codes "]]>") ≡ codes "]]&gt;" }
     ensures end_behind_a_bracket { ends_escaped (codes "]]]>>") ≡ codes "]]]&gt;>" }
     ensures one_bracket { ends_escaped (codes "]>") ≡ codes "]>" }

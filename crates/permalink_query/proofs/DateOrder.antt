@@ -1,4 +1,4 @@
--- Of two dates the earlier one is the lesser text.
+-- Of two dates the earlier one is the smaller text.
 use Rattle.std.proofs.Common.{◌≡◌, inl, inr, ◌<◌, ◌≤◌, ℕ, zero, suc, ◌+◌, ◌-◌, ◌*◌, ◌==◌, ◌&&◌, Bool, true, List, [], ◌∷◌, length, take, drop, codes, pos, Option, Some, None, nat_lt, nat_le, Ordering, Less, Equal, Greater, refl, sym, ap, ◌∙◌, arith, true≢false}
 use Rattle.std.specs.Prelude.{slice_index, slice_range}
 use Rattle.std.specs.Ordering.{nat_cmp, ordering_then, is_ge, is_le}
@@ -15,7 +15,7 @@ use Rattle.permalink_query.proofs.MonthLemmas.{days_bounds}
 abbrev pub by_bytes : List ℕ → List ℕ → Ordering
 by_bytes = slice_cmp nat_cmp
 
--- ---- what comes later decides where all before is equal
+-- ---- what comes later decides if all before is equal
 
 pub then_joined : (o p r : Ordering) → ordering_then (ordering_then o p) r ≡ ordering_then o (ordering_then p r)
 then_joined Less p r = refl
@@ -28,12 +28,14 @@ then_equal Equal = refl
 then_equal Greater = refl
 
 -- two lists are ordered by their first n elements, and then by the others
-cut : (n : ℕ) (xs ys : List ℕ) → n ≤ length xs → n ≤ length ys → by_bytes xs ys ≡ ordering_then (by_bytes (take n xs) (take n ys)) (by_bytes (drop n xs) (drop n ys))
+cut : (n : ℕ) (xs ys : List ℕ) → n ≤ length xs → n ≤ length ys
+    → by_bytes xs ys ≡ ordering_then (by_bytes (take n xs) (take n ys)) (by_bytes (drop n xs) (drop n ys))
 cut zero xs ys h g = refl
 cut (suc n) [] ys h g = absurd (omega arith)
 cut (suc n) (x ∷ xs) [] h g = absurd (omega arith)
 cut (suc n) (x ∷ xs) (y ∷ ys) h g =
-    ap (ordering_then (nat_cmp x y)) (cut n xs ys (omega arith) (omega arith)) ∙ sym (then_joined (nat_cmp x y) (by_bytes (take n xs) (take n ys)) (by_bytes (drop n xs) (drop n ys)))
+    ap (ordering_then (nat_cmp x y)) (cut n xs ys (omega arith) (omega arith))
+    ∙ sym (then_joined (nat_cmp x y) (by_bytes (take n xs) (take n ys)) (by_bytes (drop n xs) (drop n ys)))
 
 -- ---- texts of as many digits are ordered as their numbers
 
@@ -59,7 +61,8 @@ one_more a b x y p q =
     by_last : a ≡ b → nat_le 48 x ≡ true → nat_le 48 y ≡ true → nat_cmp (10 * a + (x - 48)) (10 * b + (y - 48)) ≡ nat_cmp x y
     by_last same low low' = grind (arith, nat_tests)
 
-digits : (a b m n : ℕ) (xs ys : List ℕ) → length xs ≡ length ys → number_from a xs ≡ Some m → number_from b ys ≡ Some n → ordering_then (nat_cmp a b) (by_bytes xs ys) ≡ nat_cmp m n
+digits : (a b m n : ℕ) (xs ys : List ℕ) → length xs ≡ length ys → number_from a xs ≡ Some m → number_from b ys ≡ Some n
+    → ordering_then (nat_cmp a b) (by_bytes xs ys) ≡ nat_cmp m n
 digits a b m n [] [] e f g = let x : a ≡ m = some_is f in let y : b ≡ n = some_is g in rw (x, y) (then_equal (nat_cmp m n))
   where
     some_is : {i j : ℕ} → ◌≡◌ {A = Option ℕ} (Some i) (Some j) → i ≡ j
@@ -110,11 +113,21 @@ abbrev pub IsReal : Moment → Type 0
 IsReal m = (is_day m.year m.month m.day ≡ true) × (is_clock m.hour m.minute m.second ≡ true)
 
 abbrev NumbersOf : (a b c d e f : Option ℕ) → Type 0
-NumbersOf a b c d e f = (m : Moment) × (a ≡ Some m.year) × (b ≡ Some m.month) × (c ≡ Some m.day) × (d ≡ Some m.hour) × (e ≡ Some m.minute) × (f ≡ Some m.second) × IsReal m
+NumbersOf a b c d e f = (m : Moment) × (a ≡ Some m.year) × (b ≡ Some m.month) × (c ≡ Some m.day) × (d ≡ Some m.hour) × (e ≡ Some m.minute)
+    × (f ≡ Some m.second) × IsReal m
 
 numbers : (a b c d e f : Option ℕ) → is_moment a b c d e f ≡ true → NumbersOf a b c d e f
-numbers (Some y) (Some m) (Some d) (Some h) (Some i) (Some s) real =
-    (record { year = y; month = m; day = d; hour = h; minute = i; second = s }, refl, refl, refl, refl, refl, refl, and_parts (is_day y m d) (is_clock h i s) real)
+numbers (Some y) (Some m) (Some d) (Some h) (Some i) (Some s) real = (
+  record { year = y; month = m; day = d; hour = h; minute = i; second = s },
+  refl,
+  refl,
+  refl,
+  refl,
+  refl,
+  refl,
+  and_parts (is_day y m d) (is_clock h i s)
+      real,
+)
 numbers (Some y) (Some m) (Some d) (Some h) (Some i) None real = absurd (true≢false (sym real))
 numbers (Some y) (Some m) (Some d) (Some h) None f real = absurd (true≢false (sym real))
 numbers (Some y) (Some m) (Some d) None e f real = absurd (true≢false (sym real))
@@ -134,7 +147,8 @@ written t h =
     let (dash_2, marks_3) = and_parts (slice_index t 7 == 45) _ marks_2 in
     let (space, marks_4) = and_parts (slice_index t 10 == 32) _ marks_3 in
     let (colon, colon_2) = and_parts (slice_index t 13 == 58) _ marks_4 in
-    let n = numbers (number (slice_range t 0 4)) (number (slice_range t 5 7)) (number (slice_range t 8 10)) (number (slice_range t 11 13)) (number (slice_range t 14 16)) (number (slice_range t 17 19)) numbered in (
+    let n = numbers (number (slice_range t 0 4)) (number (slice_range t 5 7)) (number (slice_range t 8 10)) (number (slice_range t 11 13))
+    (number (slice_range t 14 16)) (number (slice_range t 17 19)) numbered in (
       n.0,
       record {
         long = is_number _ _ long;
@@ -161,7 +175,8 @@ pub field : (i n : ℕ) (t u : List ℕ) (x y : ℕ) → i + n ≤ length t → 
 field i n t u x y h g p q =
     let at = length-drop i t in
     let bt = length-drop i u in
-    let long : length (take n (drop i t)) ≡ length (take n (drop i u)) = length-take-le n (drop i t) (omega (arith, at)) ∙ sym (length-take-le n (drop i u) (omega (arith, bt))) in
+    let long : length (take n (drop i t)) ≡ length (take n (drop i u)) = length-take-le n (drop i t) (omega (arith, at))
+    ∙ sym (length-take-le n (drop i u) (omega (arith, bt))) in
     cut n (drop i t) (drop i u) (omega (arith, at)) (omega (arith, bt))
     ∙ ap (λ o. ordering_then o (by_bytes (drop n (drop i t)) (drop n (drop i u)))) (digits 0 0 x y (take n (drop i t)) (take n (drop i u)) long p q)
     ∙ ap (λ l. ordering_then (nat_cmp x y) (by_bytes l (drop n (drop i u)))) (drop-drop n i t)
@@ -240,7 +255,8 @@ le_all : (o r : Ordering) → is_le o ≡ true → is_le r ≡ true → is_le (o
 le_all o r h g = le_then o r (λ e. g) ∙ h
 
 pub after_day : (a : Moment) (day : ℕ) → day ≤ a.day → is_ge (from_day a day) ≡ true
-after_day a day h = ge_all _ _ (ge a.day day h) (ge_all _ _ (ge a.hour 0 (omega arith)) (ge_all _ _ (ge a.minute 0 (omega arith)) (ge a.second 0 (omega arith))))
+after_day a day h = ge_all _ _ (ge a.day day h) (ge_all _ _ (ge a.hour 0 (omega arith))
+    (ge_all _ _ (ge a.minute 0 (omega arith)) (ge a.second 0 (omega arith))))
 
 pub before_day : (a : Moment) (day : ℕ) → a.day ≤ day → a.hour ≤ 23 → a.minute ≤ 59 → a.second ≤ 59 → is_le (to_day a day) ≡ true
 before_day a day d h m s = le_all _ _ (le a.day day d) (le_all _ _ (le a.hour 23 h) (le_all _ _ (le a.minute 59 m) (le a.second 59 s)))
@@ -318,10 +334,38 @@ abbrev pub last : List ℕ
 last = codes "9999-12-31 23:59:59"
 
 first_written : IsWritten first (record { year = 1; month = 1; day = 1; hour = 0; minute = 0; second = 0 })
-first_written = record { long = refl; dash = refl; dash_2 = refl; space = refl; colon = refl; colon_2 = refl; year = refl; month = refl; day = refl; hour = refl; minute = refl; second = refl }
+first_written = record {
+  long = refl;
+  dash = refl;
+  dash_2 = refl;
+  space = refl;
+  colon = refl;
+  colon_2 = refl;
+  year = refl;
+  month = refl;
+  day = refl;
+  hour =
+      refl;
+  minute = refl;
+  second = refl;
+}
 
 last_written : IsWritten last (record { year = 9999; month = 12; day = 31; hour = 23; minute = 59; second = 59 })
-last_written = record { long = refl; dash = refl; dash_2 = refl; space = refl; colon = refl; colon_2 = refl; year = refl; month = refl; day = refl; hour = refl; minute = refl; second = refl }
+last_written = record {
+  long = refl;
+  dash = refl;
+  dash_2 = refl;
+  space = refl;
+  colon = refl;
+  colon_2 = refl;
+  year = refl;
+  month = refl;
+  day = refl;
+  hour =
+      refl;
+  minute = refl;
+  second = refl;
+}
 
 both_true : (a b : Bool) → a ≡ true → b ≡ true → (a && b) ≡ true
 both_true a b h g = rw (h, g) refl
@@ -334,4 +378,5 @@ any_date t h =
     let days = days_bounds (pos m.year) m.month in
     both_true _ _
     (ap is_ge (in_time t first m _ w first_written) ∙ ge_all _ _ (ge m.year 1 b.year) (ge_all _ _ (ge m.month 1 b.month) (after_day m 1 b.day)))
-    (ap is_le (in_time t last m _ w last_written) ∙ le_all _ _ (le m.year 9999 b.year_high) (le_all _ _ (le m.month 12 b.month_high) (before_day m 31 (omega (arith, b.day_high, days.1)) b.hour b.minute b.second)))
+    (ap is_le (in_time t last m _ w last_written) ∙ le_all _ _ (le m.year 9999 b.year_high)
+    (le_all _ _ (le m.month 12 b.month_high) (before_day m 31 (omega (arith, b.day_high, days.1)) b.hour b.minute b.second)))

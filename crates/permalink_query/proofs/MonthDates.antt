@@ -32,7 +32,15 @@ module _ (year month : ℕ) (is : is_month year month ≡ true) where
     second = refl;
   }
 
-  end_written : IsWritten (month_end year month) (record { year = year; month = month; day = days_in_month (pos year) month; hour = 23; minute = 59; second = 59 })
+  end_written : IsWritten (month_end year month) (record {
+    year = year;
+    month = month;
+    day = days_in_month (pos year) month;
+    hour = 23;
+    minute = 59;
+    second =
+        59;
+  })
   end_written = let b = is_bound in let d = days_bounds (pos year) month in record {
     long = refl;
     dash = refl;
@@ -65,10 +73,12 @@ module _ (year month : ℕ) (is : is_month year month ≡ true) where
     to_end : is_le (by_bytes t (month_end year month)) ≡ is_le (by_month m)
     unfolding by_month
     to_end =
-        ap is_le (in_time t (month_end year month) m _ w end_written ∙ sym (then_joined (nat_cmp m.year year) (nat_cmp m.month month) (to_day m (days_in_month (pos year) month))))
+        ap is_le (in_time t (month_end year month) m _ w end_written
+        ∙ sym (then_joined (nat_cmp m.year year) (nat_cmp m.month month) (to_day m (days_in_month (pos year) month))))
         ∙ le_then (by_month m) (to_day m (days_in_month (pos year) month)) (λ e.
         let (y, mo) = same_month e in
-        let high : m.day ≤ days_in_month (pos year) month = subst (λ n. m.day ≤ days_in_month (pos n) month) y (subst (λ n. m.day ≤ days_in_month (pos m.year) n) mo b.day_high) in
+        let high : m.day ≤ days_in_month (pos year) month = subst (λ n. m.day ≤ days_in_month (pos n) month) y
+        (subst (λ n. m.day ≤ days_in_month (pos m.year) n) mo b.day_high) in
         before_day m _ high b.hour b.minute b.second)
 
     -- the first seven bytes of the date
@@ -79,7 +89,8 @@ module _ (year month : ℕ) (is : is_month year month ≡ true) where
         let seven : length (take 7 t) ≡ 7 = length-take-le 7 t (omega (arith, l)) in
         let y : number (take 4 (drop 0 (take 7 t))) ≡ Some m.year = ap number (take-take 4 7 t (omega arith)) ∙ w.year in
         let d : slice_index (take 7 t) 4 ≡ 45 = get_or-take 7 t 4 0 (omega arith) ∙ w.dash in
-        let mo : number (take 2 (drop 5 (take 7 t))) ≡ Some m.month = ap (λ l. number (take 2 l)) (drop-take 5 2 t) ∙ ap number (take-take 2 2 (drop 5 t) (omega arith)) ∙ w.month in
+        let mo : number (take 2 (drop 5 (take 7 t))) ≡ Some m.month = ap (λ l. number (take 2 l)) (drop-take 5 2 t)
+        ∙ ap number (take-take 2 2 (drop 5 t) (omega arith)) ∙ w.month in
         let s = start_written in
         field 0 4 (take 7 t) (month_text year month) m.year year (omega (arith, seven)) (omega arith) y s.year
         ∙ ap (ordering_then (nat_cmp m.year year)) (mark 4 45 (take 7 t) (month_text year month) (omega (arith, seven)) (omega arith) d refl
@@ -98,5 +109,6 @@ module _ (year month : ℕ) (is : is_month year month ≡ true) where
     within : (is_ge (by_bytes t (month_start year month)) && is_le (by_bytes t (month_end year month))) ≡ is_in_month year month t
     within = rw (from_start, to_end) (between (by_month m) ∙ ap is_eq (sym begins) ∙ is_eq-slice_cmp (take 7 t) (month_text year month))
 
-  pub month_dates : (t : List ℕ) → is_post_date t ≡ true → (is_ge (by_bytes t (month_start year month)) && is_le (by_bytes t (month_end year month))) ≡ is_in_month year month t
+  pub month_dates : (t : List ℕ) → is_post_date t ≡ true → (is_ge (by_bytes t (month_start year month)) && is_le (by_bytes t (month_end year month)))
+      ≡ is_in_month year month t
   month_dates t h = let (m, w, real) = written t h in within t m w (bound t m w real)

@@ -24,7 +24,7 @@ option_value name options = option_map (λ o. o.1) (find (λ o. bytes_eq o.0 nam
 abbrev pub part_size : Text → Option ℕ
 part_size value = option_and_then (λ n. if is_within 1 100 n then Some n else None) (whole_number value)
 
--- how many posts make a part: 10 where the option doesn't say (option posts_per_page)
+-- how many posts make a part: 10 if the option doesn't say (option posts_per_page)
 abbrev pub posts_per_page : List (Text × Text) → ℕ
 posts_per_page options = unwrap_or (option_and_then part_size (option_value (codes "posts_per_page") options)) 10
 
@@ -48,7 +48,7 @@ part_of_posts size part posts = take size (drop ((part - 1) * size) (sorted newe
 abbrev pub published_with : PostKind → ℕ → List Post → List Post
 published_with kind id posts = published kind (option_to_list (post_with id posts))
 
--- posts are shown with status 200, and where nothing is found it is 404 (class WP, handle_404)
+-- posts are shown with status 200, and if nothing is found it is 404 (class WP, handle_404)
 abbrev pub showing : FoundKind → List Post → Found
 showing kind posts = record { kind = kind; posts = posts; status = 200 }
 

@@ -6,7 +6,7 @@ use Rattle.site_records.specs.Dates.{number}
 abbrev pub is_within : (low high n : ℕ) → Bool
 is_within low high n = nat_le low n && nat_le n high
 
--- a number of one to ten digits, and at most the greatest ID, 2,147,483,647
+-- a number of one to ten digits, and at most the largest ID, 2,147,483,647
 abbrev pub whole_number : List ℕ → Option ℕ
 whole_number text =
     option_and_then (λ n. if is_within 1 10 (length text) && nat_le n 2147483647 then Some n else None) (number text)

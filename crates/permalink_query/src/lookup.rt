@@ -46,15 +46,15 @@ use post_tables::Tables;
 use site_records::{Found, FoundKind, Post, PostDate, PostKind, PostStatus};
 use std::alloc::{AllocError, Global};
 
-/// How many posts make a part where the option doesn't say.
+/// How many posts make a part if the option doesn't say.
 const DEFAULT_SIZE: u32 = 10;
 
 /// What a site has for a query: published posts and pages alone, and of a list the part that the
 /// query names, newest first (class WP_Query). A part has as many posts as the first option named
-/// `posts_per_page` says, where that is a number from 1 to 100, and else 10. Nothing is found where
-/// there is no such post or page, and where a part is empty, but for the first part of the front.
+/// `posts_per_page` says, if that is a number from 1 to 100, and else 10. Nothing is found if
+/// there is no such post or page, and if a part is empty, but for the first part of the front.
 /// A month that the calendar doesn't have finds nothing. It is refused on allocation failure, or by the
-/// limit on the steps of a statement, and not at all where there is nothing to look for.
+/// limit on the steps of a statement, and not at all if there is nothing to look for.
 pub fn find(
     alloc: Global,
     tables: &mut Tables,

@@ -3,10 +3,10 @@ ghost use Rattle.std.specs.Prelude.{◌≡◌, ◌<◌, ◌≤◌, ◌^◌, leng
 ghost use Rattle.site_records.specs.Dates.{number};
 ghost use Rattle.permalink_query.specs.Numbers.{whole_number, year_and_month};
 
-/// The greatest number that a query names.
+/// The largest number that a query names.
 const GREATEST: u64 = 2_147_483_647;
 
-/// The number that some digits spell, and nothing where another byte stands among them.
+/// The number that some digits spell, and nothing if another byte stands among them.
 fn number(digits: &[u8]) -> Option<u64>
     requires { length digits.now ≤ 10 }
     ensures value { result ≡ number digits.now }

@@ -39,8 +39,8 @@ pub enum Query {
 /// Reads the path of a request: `/` or `/index.php`, and after its first `?` the pairs of a form
 /// (URL Standard, `application/x-www-form-urlencoded`). The first of `p`, `page_id` and `m` that is
 /// there decides alone, by its last value; `paged` counts with `m` and with the front, which is
-/// asked for where none of the three is there. Any other path asks for nothing, and so does a value
-/// that is not of its form. The one refusal is for want of memory.
+/// asked for if none of the three is there. Any other path asks for nothing, and so does a value
+/// that is not of its form. It fails only if memory runs out.
 pub fn read(alloc: Global, path: &str) -> Result<Query, AllocError>
     ensures { IfOk result (λ query. query ≡ query_of path.now) }
 {
@@ -121,7 +121,7 @@ fn front(part: Option<u32>) -> Query
     }
 }
 
-/// The part that `paged` asks for, or nothing where it is no number.
+/// The part that `paged` asks for, or nothing if it is no number.
 fn read_part(alloc: Global, form: &str) -> Result<Option<u32>, AllocError>
     ensures { IfOk result (λ part. part ≡ part_of (last_value (codes "paged") (parse form.now))) }
 {

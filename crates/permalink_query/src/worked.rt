@@ -100,7 +100,7 @@ pub fn worked_finds()
     ensures next_second { is_in_month 2024 5 (codes "2024-06-01 00:00:00") ≡ false }
     ensures other_year { is_in_month 2024 5 (codes "2023-05-15 10:00:00") ≡ false }
 
-    // The first option of a name counts, where it is a number from 1 to 100.
+    // The first option of a name counts, if it is a number from 1 to 100.
     ensures two_by_two { found some_posts ((codes "posts_per_page", codes "2") ∷ [])
         (Query.Front 2) ≡ showing FoundKind.Front (post 5 monday ∷ post 1 monday ∷ []) }
     ensures first_option { posts_per_page ((codes "posts_per_page", codes "3")

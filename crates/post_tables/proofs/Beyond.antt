@@ -20,7 +20,8 @@ length-put : {X : Type 0} (R : X → X → Ordering) (x : X) (ys : List X) → l
 length-put R x [] = refl
 length-put R x (y ∷ ys) = go (R x y) (length-put R x ys)
   where
-    go : (o : Ordering) → length (put_sorted R x ys) ≡ suc (length ys) → length (match_ordering o (x ∷ y ∷ ys) (x ∷ y ∷ ys) (y ∷ put_sorted R x ys)) ≡ suc (suc (length ys))
+    go : (o : Ordering) → length (put_sorted R x ys) ≡ suc (length ys)
+        → length (match_ordering o (x ∷ y ∷ ys) (x ∷ y ∷ ys) (y ∷ put_sorted R x ys)) ≡ suc (suc (length ys))
     go Less later = refl
     go Equal later = refl
     go Greater later = ap (λ n. suc n) later
@@ -31,7 +32,8 @@ length-sorted R (x ∷ xs) = length-put R x (sorted R xs) ∙ ap (λ n. suc n) (
 
 length-some : {X : Type 0} (p : X → Bool) (xs : List X) → length (filter p xs) ≤ length xs
 length-some p [] = omega arith
-length-some p (x ∷ xs) = let rest = length-some p xs in elim (p x) as (λ b. length (cond b (x ∷ filter p xs) (filter p xs)) ≤ length (x ∷ xs)) [ true ↦ omega arith | false ↦ omega arith ]
+length-some p (x ∷ xs) = let rest = length-some p xs in elim (p x) as (λ b. length (cond b (x ∷ filter p xs) (filter p xs)) ≤ length (x ∷ xs))
+    [ true ↦ omega arith | false ↦ omega arith ]
 
 nothing_taken : (n : ℕ) (none : List Post) → none ≡ [] → take n none ≡ []
 nothing_taken zero none is = refl
@@ -55,7 +57,7 @@ module _ (h : Held MemStore) (is : IsSite h) (kind : PostKind) (from to : List �
       let low : q.id < 2 ^ 32 = subst (λ (p : Post). p.id < 2 ^ 32) (sym r.2) (is.holds.sound.posts.readable r.0 r.1).id in
       omega arith)
 
-  -- nor after the greatest ID
+  -- nor after the largest ID
   pub beyond_given : (rows_of h).largest < offset → page_of kind from to limit offset (rows_of h).posts ≡ []
   beyond_given far = past_all (λ q there.
       let given : q.id ≤ (rows_of h).largest = all_has _ (rows_of h).posts q is.holds.sound.given there in

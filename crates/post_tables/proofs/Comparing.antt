@@ -79,7 +79,8 @@ same_number m n = grind (arith, nat_tests)
 
 pub number_compares : (m n : ℕ) → (is_true (binary (Compare Eq Binary) (Int (pos m)) (Int (pos n))) && true) ≡ (m == n)
 unfolding binary
-number_compares m n = and_true _ ∙ truth_of (is_eq (value_cmp (Int (pos m)) (Int (pos n)))) ∙ ap is_eq (value_cmp-Int (pos m) (pos n) ∙ pos_cmp m n) ∙ same_number m n
+number_compares m n = and_true _ ∙ truth_of (is_eq (value_cmp (Int (pos m)) (Int (pos n)))) ∙ ap is_eq (value_cmp-Int (pos m) (pos n) ∙ pos_cmp m n)
+    ∙ same_number m n
 
 -- ---- lists
 

@@ -72,21 +72,25 @@ lacks_none = (refl, refl, refl)
 
 -- ---- one table
 
-still_empty : (tables : List Table) (old new : Trees) → KeepsRows tables old new → AllByRecursion (λ t. old t.tree ≡ []) tables → AllByRecursion (λ t. new t.tree ≡ []) tables
+still_empty : (tables : List Table) (old new : Trees) → KeepsRows tables old new → AllByRecursion (λ t. old t.tree ≡ []) tables
+    → AllByRecursion (λ t. new t.tree ≡ []) tables
 still_empty [] old new kept none = tt
 still_empty (t ∷ tables) old new kept none = (kept.0 ∙ none.0, still_empty tables old new kept.1 none.1)
 
-one_more : (tables : List Table) (t : Table) (trees : Trees) → AllByRecursion (λ t. trees t.tree ≡ []) tables → trees t.tree ≡ [] → AllByRecursion (λ t. trees t.tree ≡ []) (tables ++ t ∷ [])
+one_more : (tables : List Table) (t : Table) (trees : Trees) → AllByRecursion (λ t. trees t.tree ≡ []) tables → trees t.tree ≡ []
+    → AllByRecursion (λ t. trees t.tree ≡ []) (tables ++ t ∷ [])
 one_more [] t trees none here = (here, tt)
 one_more (x ∷ tables) t trees none here = (none.0, one_more tables t trees none.1 here)
 
 module _ (old new : Held MemStore) (limit : new.step_limit ≡ old.step_limit) (before : Schema) (bare : IsBare before old) where
-  made_table : (text : List ℕ) (table : Table) → table_defined_by text ≡ Ok table → IsRead before text CreateTable → lacks_sequence (created before table) ≡ false
+  made_table : (text : List ℕ) (table : Table) → table_defined_by text ≡ Ok table → IsRead before text CreateTable
+      → lacks_sequence (created before table) ≡ false
       → (count : ℕ) → Executes text [] (state over_memory old) (state over_memory new) (Ok count) → IsBare (created before table) new
   made_table text table is read whole count h =
       let s = state over_memory old in
       let t = state over_memory new in
-      let w = subst (λ x. Writes s t None CreateTable x [] count) read.whole (runs_as text [] s t before bare.schema_is CreateTable read.read read.plain count h) in
+      let w = subst (λ x. Writes s t None CreateTable x [] count) read.whole
+      (runs_as text [] s t before bare.schema_is CreateTable read.read read.plain count h) in
       let all = went w.changed in
       let first = went all.1 in
       let made = first.1 in
@@ -99,19 +103,22 @@ module _ (old new : Held MemStore) (limit : new.step_limit ≡ old.step_limit) (
       record {
         schema_is = ap (λ (d : Database). d.schema) now ∙ schema;
         empty = subst (λ (d : Database). AllByRecursion (λ t. d.trees t.tree ≡ []) (created before table).tables) (sym now)
-            (one_more before.tables (record table { tree = next_tree before }) first.0.trees (still_empty before.tables s.now.trees first.0.trees kept bare.empty) none);
+            (one_more before.tables (record table { tree = next_tree before }) first.0.trees
+            (still_empty before.tables s.now.trees first.0.trees kept bare.empty) none);
         idle = wrote old new bare.idle _ _ _ _ _ w;
         unlimited = limit ∙ bare.unlimited;
       }
 
 -- ---- each in turn
 
-pub post_made : (old new : Held MemStore) → new.step_limit ≡ old.step_limit → (r : Result ℕ Error) → IsBare no_schema old → Executes create_post [] (state over_memory old) (state over_memory new) r → OnOk r (IsBare post_schema new)
+pub post_made : (old new : Held MemStore) → new.step_limit ≡ old.step_limit → (r : Result ℕ Error) → IsBare no_schema old
+    → Executes create_post [] (state over_memory old) (state over_memory new) r → OnOk r (IsBare post_schema new)
 post_made old new limit (Err e) bare h = tt
 post_made old new limit (Ok count) bare h =
     let s = state over_memory old in
     let t = state over_memory new in
-    let w = subst (λ x. Writes s t None CreateTable x [] count) post_read.whole (runs_as create_post [] s t no_schema bare.schema_is CreateTable post_read.read post_read.plain count h) in
+    let w = subst (λ x. Writes s t None CreateTable x [] count) post_read.whole
+    (runs_as create_post [] s t no_schema bare.schema_is CreateTable post_read.read post_read.plain count h) in
     let all = went w.changed in
     let first = went all.1 in
     let made = first.1 in
@@ -133,17 +140,23 @@ post_made old new limit (Ok count) bare h =
       unlimited = limit ∙ bare.unlimited;
     }
 
-pub option_made : (old new : Held MemStore) → new.step_limit ≡ old.step_limit → (r : Result ℕ Error) → IsBare post_schema old → Executes create_option [] (state over_memory old) (state over_memory new) r → OnOk r (IsBare option_schema new)
+pub option_made : (old new : Held MemStore) → new.step_limit ≡ old.step_limit → (r : Result ℕ Error) → IsBare post_schema old
+    → Executes create_option [] (state over_memory old) (state over_memory new) r → OnOk r (IsBare option_schema new)
 option_made old new limit (Err e) bare h = tt
-option_made old new limit (Ok count) bare h = made_table old new limit post_schema bare create_option (record option_table { tree = 0 }) option_is option_read lacks_none.0 count h
+option_made old new limit (Ok count) bare h = made_table old new limit post_schema bare create_option (record option_table { tree = 0 }) option_is option_read
+    lacks_none.0 count h
 
-pub template_made : (old new : Held MemStore) → new.step_limit ≡ old.step_limit → (r : Result ℕ Error) → IsBare option_schema old → Executes create_template [] (state over_memory old) (state over_memory new) r → OnOk r (IsBare template_schema new)
+pub template_made : (old new : Held MemStore) → new.step_limit ≡ old.step_limit → (r : Result ℕ Error) → IsBare option_schema old
+    → Executes create_template [] (state over_memory old) (state over_memory new) r → OnOk r (IsBare template_schema new)
 template_made old new limit (Err e) bare h = tt
-template_made old new limit (Ok count) bare h = made_table old new limit option_schema bare create_template (record template_table { tree = 0 }) template_is template_read lacks_none.1 count h
+template_made old new limit (Ok count) bare h = made_table old new limit option_schema bare create_template (record template_table { tree = 0 }) template_is
+    template_read lacks_none.1 count h
 
-pub active_made : (old new : Held MemStore) → new.step_limit ≡ old.step_limit → (r : Result ℕ Error) → IsBare template_schema old → Executes create_active [] (state over_memory old) (state over_memory new) r → OnOk r (IsBare table_schema new)
+pub active_made : (old new : Held MemStore) → new.step_limit ≡ old.step_limit → (r : Result ℕ Error) → IsBare template_schema old
+    → Executes create_active [] (state over_memory old) (state over_memory new) r → OnOk r (IsBare table_schema new)
 active_made old new limit (Err e) bare h = tt
-active_made old new limit (Ok count) bare h = made_table old new limit template_schema bare create_active (record active_table { tree = 0 }) active_is active_read lacks_none.2 count h
+active_made old new limit (Ok count) bare h = made_table old new limit template_schema bare create_active (record active_table { tree = 0 }) active_is
+    active_read lacks_none.2 count h
 
 -- ---- and the index
 
@@ -157,18 +170,22 @@ pub record IsMade (r : Result ℕ Error) (h : Held MemStore) : Type 0 where
   pub site : OnOk r (IsSite h)
   pub empty : OnOk r (rows_of h ≡ no_rows)
 
-pub index_made : (old new : Held MemStore) → new.step_limit ≡ old.step_limit → (r : Result ℕ Error) → IsBare table_schema old → Executes create_index [] (state over_memory old) (state over_memory new) r → IsMade r new
+pub index_made : (old new : Held MemStore) → new.step_limit ≡ old.step_limit → (r : Result ℕ Error) → IsBare table_schema old
+    → Executes create_index [] (state over_memory old) (state over_memory new) r → IsMade r new
 index_made old new limit (Err e) bare h = record { site = tt; empty = tt }
 index_made old new limit (Ok count) bare h =
     let s = state over_memory old in
     let t = state over_memory new in
-    let w = subst (λ x. Writes s t None (CreateIndex 0) x [] count) index_read.whole (runs_as create_index [] s t table_schema bare.schema_is (CreateIndex 0) index_read.read index_read.plain count h) in
-    let all = went (subst (λ x. Does s.step_limit (mode_of s) [] (record s.now { schema = x }) create_index None (CreateIndex 0) (Ok (w.tally, t.now))) bare.schema_is w.changed) in
+    let w = subst (λ x. Writes s t None (CreateIndex 0) x [] count) index_read.whole
+    (runs_as create_index [] s t table_schema bare.schema_is (CreateIndex 0) index_read.read index_read.plain count h) in
+    let all = went (subst (λ x. Does s.step_limit (mode_of s) [] (record s.now { schema = x }) create_index None (CreateIndex 0) (Ok (w.tally, t.now)))
+    bare.schema_is w.changed) in
     let made = all.1 in
     let one = same_value (sym made.defined ∙ index_is) in
     let now : t.now ≡ all.0 = ap (λ (p : Tally × Database). p.1) (same_value all.2) in
     let schema : t.now.schema ≡ site_schema = ap (λ (d : Database). d.schema) now ∙ made.is ∙ ap (indexed table_schema post_table) one in
-    let none = still_empty table_schema.tables s.now.trees t.now.trees (subst (λ (d : Database). KeepsRows table_schema.tables s.now.trees d.trees) (sym now) made.rows) bare.empty in
+    let none = still_empty table_schema.tables s.now.trees t.now.trees
+    (subst (λ (d : Database). KeepsRows table_schema.tables s.now.trees d.trees) (sym now) made.rows) bare.empty in
     record {
       site = record {
         holds = record {

@@ -56,7 +56,8 @@ delete_plain : IsPlain (understood site_schema delete_text)
 unfolding understood everything
 delete_plain = (refl, refl)
 
-pub deletes_post : (old new : Held MemStore) (holds : HoldsSite (state over_memory old).now) (id count : ℕ) → Executes delete_text (Int (pos id) ∷ []) (state over_memory old) (state over_memory new) (Ok count)
+pub deletes_post : (old new : Held MemStore) (holds : HoldsSite (state over_memory old).now) (id count : ℕ)
+    → Executes delete_text (Int (pos id) ∷ []) (state over_memory old) (state over_memory new) (Ok count)
     → IsDone (λ s. record s { posts = without_post id s.posts }) old new
 deletes_post old new holds id count h =
     let s = state over_memory old in
@@ -64,7 +65,8 @@ deletes_post old new holds id count h =
     let text = statement_of delete_text (understood site_schema delete_text) in
     let given : Row = Int (pos id) ∷ [] in
     let w = runs_as delete_text given s t site_schema holds.schema_is delete_command delete_is delete_plain count h in
-    let done = went (subst (λ x. Does s.step_limit (mode_of s) given (record s.now { schema = x }) text None delete_command (Ok (w.tally, t.now))) holds.schema_is w.changed) in
+    let done = went (subst (λ x. Does s.step_limit (mode_of s) given (record s.now { schema = x }) text None delete_command (Ok (w.tally, t.now)))
+    holds.schema_is w.changed) in
     let now = ap (λ (x : Tally × Database). x.1) (same_value (went (went done.2).2).2) in
     let asked = went done.1 in
     let edit = went asked.2 in
@@ -78,9 +80,15 @@ deletes_post old new holds id count h =
     let posts : t.now.trees 0 ≡ filter (λ r. not (passes r)) (db 0) = ap (λ (x : Trees). x 0) trees ∙ applied.rows ∙ left in
     let top : t.now.trees 1 ≡ db 1 = ap (λ (x : Trees). x 1) trees ∙ applied.tables.1.0 (λ e. omega arith) in
     let tested : (r : Row) → Has (db 0) r → passes r ≡ ((post_in r).id == id) = λ r there. ap passes (ok.each r there) ∙ number_compares (post_in r).id id in
-    let it = posts_now old.step_limit db t.now.trees holds.sound
-    (ap (λ (x : Trees). x 2) trees ∙ applied.tables.1.1.0 (λ e. omega arith), ap (λ (x : Trees). x 4) trees ∙ applied.tables.1.1.1.0 (λ e. omega arith), ap (λ (x : Trees). x 6) trees ∙ applied.tables.1.1.1.1.0 (λ e. omega arith))
-    (subst ArePosts (sym posts) (some_posts _ (db 0) ok)) (subst IsCounter (sym top) holds.sound.counter) _ (ap (map post_in) posts ∙ mapped_filter id passes (db 0) tested) _ holds.sound.bounded (ap top_in top) (some_given (λ q. not (q.id == id)) (map post_in (db 0)) (top_in (db 1)) holds.sound.given) in
+    let it = posts_now old.step_limit db t.now.trees holds.sound (
+      ap (λ (x : Trees). x 2) trees ∙ applied.tables.1.1.0 (λ e. omega arith),
+      ap (λ (x : Trees). x 4) trees
+          ∙ applied.tables.1.1.1.0 (λ e. omega arith),
+      ap (λ (x : Trees). x 6) trees ∙ applied.tables.1.1.1.1.0 (λ e. omega arith),
+    )
+    (subst ArePosts (sym posts) (some_posts _ (db 0) ok)) (subst IsCounter (sym top) holds.sound.counter) _
+    (ap (map post_in) posts ∙ mapped_filter id passes (db 0) tested) _ holds.sound.bounded (ap top_in top)
+    (some_given (λ q. not (q.id == id)) (map post_in (db 0)) (top_in (db 1)) holds.sound.given) in
     record {
       holds = record { schema_is = ap (λ (d : Database). d.schema) now; sound = it.sound };
       rows = it.are;

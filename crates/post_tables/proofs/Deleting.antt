@@ -32,13 +32,19 @@ without_is [] rows = keeps_all rows
     keeps_all (x ∷ xs) = ap (λ l. x ∷ l) (keeps_all xs)
 without_is (id ∷ ids) rows = without_is ids (without_rowid id rows) ∙ fused rows
   where
-    fused : (xs : List Row) → filter (λ r. not (list_any (λ i. has_rowid i r) ids)) (filter (λ r. not (has_rowid id r)) xs) ≡ filter (λ r. not (has_rowid id r || list_any (λ i. has_rowid i r) ids)) xs
+    fused : (xs : List Row) → filter (λ r. not (list_any (λ i. has_rowid i r) ids)) (filter (λ r. not (has_rowid id r)) xs)
+        ≡ filter (λ r. not (has_rowid id r || list_any (λ i. has_rowid i r) ids)) xs
     fused [] = refl
-    fused (x ∷ xs) = elim (has_rowid id x) as (λ b. filter (λ r. not (list_any (λ i. has_rowid i r) ids)) (cond (not b) (x ∷ filter (λ r. not (has_rowid id r)) xs) (filter (λ r. not (has_rowid id r)) xs))
-        ≡ cond (not (b || list_any (λ i. has_rowid i x) ids)) (x ∷ filter (λ r. not (has_rowid id r || list_any (λ i. has_rowid i r) ids)) xs) (filter (λ r. not (has_rowid id r || list_any (λ i. has_rowid i r) ids)) xs)) [
+    fused (x ∷ xs) = elim (has_rowid id x) as (λ b. filter (λ r. not (list_any (λ i. has_rowid i r) ids))
+        (cond (not b) (x ∷ filter (λ r. not (has_rowid id r)) xs) (filter (λ r. not (has_rowid id r)) xs))
+        ≡ cond (not (b || list_any (λ i. has_rowid i x) ids)) (x ∷ filter (λ r. not (has_rowid id r || list_any (λ i. has_rowid i r) ids)) xs)
+        (filter (λ r. not (has_rowid id r || list_any (λ i. has_rowid i r) ids)) xs)) [
           | true ↦ fused xs
-          | false ↦ elim (list_any (λ i. has_rowid i x) ids) as (λ b. cond (not b) (x ∷ filter (λ r. not (list_any (λ i. has_rowid i r) ids)) (filter (λ r. not (has_rowid id r)) xs)) (filter (λ r. not (list_any (λ i. has_rowid i r) ids)) (filter (λ r. not (has_rowid id r)) xs))
-              ≡ cond (not b) (x ∷ filter (λ r. not (has_rowid id r || list_any (λ i. has_rowid i r) ids)) xs) (filter (λ r. not (has_rowid id r || list_any (λ i. has_rowid i r) ids)) xs)) [ true ↦ fused xs | false ↦ ap (λ l. x ∷ l) (fused xs) ]
+          | false ↦ elim (list_any (λ i. has_rowid i x) ids) as (λ b. cond (not b)
+              (x ∷ filter (λ r. not (list_any (λ i. has_rowid i r) ids)) (filter (λ r. not (has_rowid id r)) xs))
+              (filter (λ r. not (list_any (λ i. has_rowid i r) ids)) (filter (λ r. not (has_rowid id r)) xs))
+              ≡ cond (not b) (x ∷ filter (λ r. not (has_rowid id r || list_any (λ i. has_rowid i r) ids)) xs)
+              (filter (λ r. not (has_rowid id r || list_any (λ i. has_rowid i r) ids)) xs)) [ true ↦ fused xs | false ↦ ap (λ l. x ∷ l) (fused xs) ]
         ]
 
 same_filter : (p q : Row → Bool) (rows : List Row) → ((r : Row) → Has rows r → p r ≡ q r) → filter p rows ≡ filter q rows
@@ -60,7 +66,8 @@ module _ (t : ℕ) (wheres : List Term) (db : Trees) (params : Row) (up : IsTabl
   out r = ([], rowid r ∷ [])
 
   tied : (r : Row) → Has (db t) r → has_rowid (id_in (rowid r)) r ≡ true
-  tied r h = let is : rowid r ≡ Int (id_in (rowid r)) = int_is (rowid r) (keyed r h) in ap is_eq (subst (λ v. value_cmp (rowid r) v ≡ Equal) is (tied_itself value_cmp_total (rowid r)))
+  tied r h = let is : rowid r ≡ Int (id_in (rowid r)) = int_is (rowid r) (keyed r h) in ap is_eq
+      (subst (λ v. value_cmp (rowid r) v ≡ Equal) is (tied_itself value_cmp_total (rowid r)))
 
   module _ (shown : List Row) (a : IsAnswer (query t wheres) db params shown) where
     order : IsPermutation (map out (filter passed (db t))) a.ordered
@@ -69,14 +76,17 @@ module _ (t : ℕ) (wheres : List Term) (db : Trees) (params : Row) (up : IsTabl
     -- the rowids that are shown are those of the rows that pass
     pub shown_id : (r : Row) → Has (db t) r → passed r ≡ true → Has (ids_of shown) (id_in (rowid r))
     shown_id r h is =
-        let there = has_contained a.ordered (out r) (Contains-permutation _ _ (out r) order (contains_had _ (out r) (mapped_has out (filter passed (db t)) r (has_kept passed (db t) r h is)))) in
-        subst (λ l. Has (ids_of l) (id_in (rowid r))) (sym a.shown) (mapped_has (λ x. id_in (rowid x)) _ (rowid r ∷ []) (mapped_has (λ (o : Output). o.1) a.ordered (out r) there))
+        let there = has_contained a.ordered (out r) (Contains-permutation _ _ (out r) order
+        (contains_had _ (out r) (mapped_has out (filter passed (db t)) r (has_kept passed (db t) r h is)))) in
+        subst (λ l. Has (ids_of l) (id_in (rowid r))) (sym a.shown) (mapped_has (λ x. id_in (rowid x)) _ (rowid r ∷ [])
+        (mapped_has (λ (o : Output). o.1) a.ordered (out r) there))
 
     pub id_shown : (id : ℤ) → Has (ids_of shown) id → (r : Row) × Has (db t) r × (passed r ≡ true) × (id ≡ id_in (rowid r))
     id_shown id h =
         let row = mapped_from (λ x. id_in (rowid x)) shown id h in
         let o = mapped_from (λ (x : Output). x.1) a.ordered row.0 (subst (λ l. Has l row.0) a.shown row.1) in
-        let r = mapped_from out (filter passed (db t)) o.0 (has_contained _ o.0 (Contains-permutation _ _ o.0 (IsPermutation-sym _ _ order) (contains_had a.ordered o.0 o.1))) in
+        let r = mapped_from out (filter passed (db t)) o.0 (has_contained _ o.0
+        (Contains-permutation _ _ o.0 (IsPermutation-sym _ _ order) (contains_had a.ordered o.0 o.1))) in
         let kept = has_filtered passed (db t) r.0 r.1 in
         (r.0, kept.0, kept.1, row.2 ∙ ap (λ x. id_in (rowid x)) (o.2 ∙ ap (λ (x : Output). x.1) r.2))
 

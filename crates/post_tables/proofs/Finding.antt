@@ -64,18 +64,23 @@ module _ (shown : List Term) where
     passes = reading.passes 0 wheres shown [] [] (lit (Int (negsuc 0))) (lit (Int (pos 0))) (λ _. []) (id_given id)
 
     -- the answer is what is shown of the post, or nothing
-    pub by_id : (db : Trees) → ArePosts (db 0) → (rows : List Row) → IsAnswer query (overlay db []) (id_given id) rows → rows ≡ map (λ p. (shows (row_of p)).1) (option_to_list (post_with id (map post_in (db 0))))
+    pub by_id : (db : Trees) → ArePosts (db 0) → (rows : List Row) → IsAnswer query (overlay db []) (id_given id) rows
+        → rows ≡ map (λ p. (shows (row_of p)).1) (option_to_list (post_with id (map post_in (db 0))))
     by_id db ok rows a =
         let tests : (r : Row) → Has (db 0) r → passes r ≡ ((post_in r).id == id) = λ r there. ap passes (ok.each r there) ∙ number_compares (post_in r).id id in
         elim (one_or_none passes id (db 0) ok.ordered ok.each tests) [
           | inl none ↦
               let outs : map shows (filter passes (db 0)) ≡ [] = ap (map shows) none.0 in
-              let all = reading.answer_is 0 wheres shown [] [] (lit (Int (negsuc 0))) (lit (Int (pos 0))) (overlay db []) (id_given id) rows a (subst (IsDistinct (eq_by_cmp (output_cmp query))) (sym outs) apart_none) in
-              all ∙ ap (λ l. map (λ (o : Output). o.1) (sorted (output_cmp query) l)) outs ∙ ap (λ o. map (λ p. (shows (row_of p)).1) (option_to_list o)) (sym none.1)
+              let all = reading.answer_is 0 wheres shown [] [] (lit (Int (negsuc 0))) (lit (Int (pos 0))) (overlay db []) (id_given id) rows a
+              (subst (IsDistinct (eq_by_cmp (output_cmp query))) (sym outs) apart_none) in
+              all ∙ ap (λ l. map (λ (o : Output). o.1) (sorted (output_cmp query) l)) outs
+              ∙ ap (λ o. map (λ p. (shows (row_of p)).1) (option_to_list o)) (sym none.1)
           | inr one ↦
               let outs : map shows (filter passes (db 0)) ≡ shows one.0 ∷ [] = ap (map shows) one.2 in
-              let all = reading.answer_is 0 wheres shown [] [] (lit (Int (negsuc 0))) (lit (Int (pos 0))) (overlay db []) (id_given id) rows a (subst (IsDistinct (eq_by_cmp (output_cmp query))) (sym outs) (apart_one (shows one.0))) in
-              all ∙ ap (λ l. map (λ (o : Output). o.1) (sorted (output_cmp query) l)) outs ∙ ap (λ r. (shows r).1 ∷ []) (ok.each one.0 one.1) ∙ ap (λ o. map (λ p. (shows (row_of p)).1) (option_to_list o)) (sym one.3)
+              let all = reading.answer_is 0 wheres shown [] [] (lit (Int (negsuc 0))) (lit (Int (pos 0))) (overlay db []) (id_given id) rows a
+              (subst (IsDistinct (eq_by_cmp (output_cmp query))) (sym outs) (apart_one (shows one.0))) in
+              all ∙ ap (λ l. map (λ (o : Output). o.1) (sorted (output_cmp query) l)) outs ∙ ap (λ r. (shows r).1 ∷ []) (ok.each one.0 one.1)
+              ∙ ap (λ o. map (λ p. (shows (row_of p)).1) (option_to_list o)) (sym one.3)
         ]
 
 -- ---- the post with an ID
@@ -86,7 +91,8 @@ post_text = codes "SELECT id, kind, status, title, content, date FROM post WHERE
 abbrev names : List (List ℕ)
 names = codes "id" ∷ codes "kind" ∷ codes "status" ∷ codes "title" ∷ codes "content" ∷ codes "date" ∷ []
 
-post_is : (command_of (understood site_schema post_text) ≡ Select (record { lets = []; body = query projects }) names) × (reads_listing site_schema post_text ≡ false)
+post_is : (command_of (understood site_schema post_text) ≡ Select (record { lets = []; body = query projects }) names)
+    × (reads_listing site_schema post_text ≡ false)
 unfolding understood everything
 post_is = (refl, refl)
 
@@ -121,34 +127,42 @@ one_at_most : (o : Option Post) (f : Post → Row) → length (map f (option_to_
 one_at_most None f = lit≤ tt
 one_at_most (Some p) f = lit≤ tt
 
-post_read : (old new : Held MemStore) (holds : HoldsSite (state over_memory old).now) (id : ℕ) (rows : List Row) → Shown post_text (id_given id) (state over_memory old) (state over_memory new) rows
+post_read : (old new : Held MemStore) (holds : HoldsSite (state over_memory old).now) (id : ℕ) (rows : List Row)
+    → Shown post_text (id_given id) (state over_memory old) (state over_memory new) rows
     → rows ≡ map shown_post (option_to_list (post_with id (rows_of old).posts))
 post_read old new holds id rows h =
-    let read = reads_as post_text (id_given id) (state over_memory old) (state over_memory new) site_schema holds.schema_is (Select (record { lets = []; body = query projects }) names) post_is.0 post_plain post_is.1 rows h in
+    let read = reads_as post_text (id_given id) (state over_memory old) (state over_memory new) site_schema holds.schema_is
+    (Select (record { lets = []; body = query projects }) names) post_is.0 post_plain post_is.1 rows h in
     by_id projects id (trees_of old) holds.sound.posts rows (read.answer Null)
 
-pub post_readable : (old new : Held MemStore) (holds : HoldsSite (state over_memory old).now) (id : ℕ) (r : Result (Vec Row Global) Error) → IfOk r (λ rows. Shown post_text (id_given id) (state over_memory old) (state over_memory new) rows.items)
+pub post_readable : (old new : Held MemStore) (holds : HoldsSite (state over_memory old).now) (id : ℕ) (r : Result (Vec Row Global) Error)
+    → IfOk r (λ rows. Shown post_text (id_given id) (state over_memory old) (state over_memory new) rows.items)
     → IfOk r (λ rows. All IsPostRow rows.items × (length rows.items ≤ 1))
 post_readable old new holds id (Err e) h = tt
 post_readable old new holds id (Ok rows) h =
     let are = post_read old new holds id rows.items h in (
-      all_shown rows.items (option_to_list (post_with id (rows_of old).posts)) are (λ p there. each_readable (trees_of old 0) holds.sound.posts p (found_among id (rows_of old).posts p there)),
+      all_shown rows.items (option_to_list (post_with id (rows_of old).posts)) are
+          (λ p there. each_readable (trees_of old 0) holds.sound.posts p (found_among id (rows_of old).posts p there)),
       subst (λ l. length l ≤ 1) (sym are) (one_at_most (post_with id (rows_of old).posts) shown_post),
     )
 
-pub post_rows : (old new : Held MemStore) (holds : HoldsSite (state over_memory old).now) (id : ℕ) (r : Result (Vec Row Global) Error) → IfOk r (λ rows. Shown post_text (id_given id) (state over_memory old) (state over_memory new) rows.items)
+pub post_rows : (old new : Held MemStore) (holds : HoldsSite (state over_memory old).now) (id : ℕ) (r : Result (Vec Row Global) Error)
+    → IfOk r (λ rows. Shown post_text (id_given id) (state over_memory old) (state over_memory new) rows.items)
     → IfOk r (λ rows. map post_from rows.items ≡ option_to_list (post_with id (rows_of old).posts))
 post_rows old new holds id (Err e) h = tt
 post_rows old new holds id (Ok rows) h =
-    let read = reads_as post_text (id_given id) (state over_memory old) (state over_memory new) site_schema holds.schema_is (Select (record { lets = []; body = query projects }) names) post_is.0 post_plain post_is.1 rows.items h in
-    ap (map post_from) (by_id projects id (trees_of old) holds.sound.posts rows.items (read.answer Null)) ∙ posts_back (option_to_list (post_with id (rows_of old).posts))
+    let read = reads_as post_text (id_given id) (state over_memory old) (state over_memory new) site_schema holds.schema_is
+    (Select (record { lets = []; body = query projects }) names) post_is.0 post_plain post_is.1 rows.items h in
+    ap (map post_from) (by_id projects id (trees_of old) holds.sound.posts rows.items (read.answer Null))
+    ∙ posts_back (option_to_list (post_with id (rows_of old).posts))
 
 -- ---- whether there is one
 
 abbrev pub find_text : List ℕ
 find_text = codes "SELECT id FROM post WHERE id = ?1"
 
-find_is : (command_of (understood site_schema find_text) ≡ Select (record { lets = []; body = query (col 1 0 ∷ []) }) (codes "id" ∷ [])) × (reads_listing site_schema find_text ≡ false)
+find_is : (command_of (understood site_schema find_text) ≡ Select (record { lets = []; body = query (col 1 0 ∷ []) }) (codes "id" ∷ []))
+    × (reads_listing site_schema find_text ≡ false)
 unfolding understood everything
 find_is = (refl, refl)
 
@@ -177,12 +191,15 @@ as_many None f = refl
 as_many (Some p) f = refl
 
 module _ (old new : Held MemStore) (id : ℕ) (holds : HoldsSite (state over_memory old).now) where
-  found_is : (rows : List Row) → Shown find_text (id_given id) (state over_memory old) (state over_memory new) rows → not (nat_eq (length rows) 0) ≡ has_post id (rows_of old).posts
+  found_is : (rows : List Row) → Shown find_text (id_given id) (state over_memory old) (state over_memory new) rows
+      → not (nat_eq (length rows) 0) ≡ has_post id (rows_of old).posts
   found_is rows h =
-      let read = reads_as find_text (id_given id) (state over_memory old) (state over_memory new) site_schema holds.schema_is (Select (record { lets = []; body = query (col 1 0 ∷ []) }) (codes "id" ∷ [])) find_is.0 find_plain find_is.1 rows h in
+      let read = reads_as find_text (id_given id) (state over_memory old) (state over_memory new) site_schema holds.schema_is
+      (Select (record { lets = []; body = query (col 1 0 ∷ []) }) (codes "id" ∷ [])) find_is.0 find_plain find_is.1 rows h in
       let is = by_id (col 1 0 ∷ []) id (trees_of old) holds.sound.posts rows (read.answer Null) in
       ap (λ l. not (nat_eq (length l) 0)) is ∙ as_many (post_with id (rows_of old).posts) _ ∙ sym (any_is_found id (rows_of old).posts)
 
-  pub found : (r : Result (Vec Row Global) Error) → IfOk r (λ rows. Shown find_text (id_given id) (state over_memory old) (state over_memory new) rows.items) → IfOk r (λ rows. not (nat_eq (length rows.items) 0) ≡ has_post id (rows_of old).posts)
+  pub found : (r : Result (Vec Row Global) Error) → IfOk r (λ rows. Shown find_text (id_given id) (state over_memory old) (state over_memory new) rows.items)
+      → IfOk r (λ rows. not (nat_eq (length rows.items) 0) ≡ has_post id (rows_of old).posts)
   found (Err e) ok = tt
   found (Ok rows) ok = found_is rows.items ok

@@ -16,7 +16,8 @@ more_given p (q ∷ ps) n given =
     let here : q.id ≤ max n p.id = omega arith in
     let own : p.id ≤ max n p.id = omega arith in
     let as_before = raised ps n (max n p.id) (omega arith) given.1 in
-    elim (nat_lt q.id p.id) as (λ b. AreGiven (cond b (q ∷ with_post p ps) (p ∷ q ∷ ps)) (max n p.id)) [ true ↦ (here, more_given p ps n given.1) | false ↦ (own, (here, as_before)) ]
+    elim (nat_lt q.id p.id) as (λ b. AreGiven (cond b (q ∷ with_post p ps) (p ∷ q ∷ ps)) (max n p.id))
+    [ true ↦ (here, more_given p ps n given.1) | false ↦ (own, (here, as_before)) ]
 
 pub some_given : (f : Post → Bool) (ps : List Post) (n : ℕ) → AreGiven ps n → AreGiven (filter f ps) n
 some_given f [] n given = tt
@@ -30,7 +31,7 @@ edited_given id e (p ∷ ps) n given =
     let rest = edited_given id e ps n given.1 in
     elim (p.id == id) as (λ b. AreGiven (cond b (edited_post e p) p ∷ edited_posts id e ps) n) [ true ↦ (given.0, rest) | false ↦ (given.0, rest) ]
 
--- the ID after the greatest is none of them
+-- the ID after the largest is none of them
 pub next_is_free : (ps : List Post) (n : ℕ) → AreGiven ps n → has_post (n + 1) ps ≡ false
 next_is_free [] n given = refl
 next_is_free (p ∷ ps) n given =

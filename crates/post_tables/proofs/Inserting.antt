@@ -65,7 +65,8 @@ count_is db is found at = ap count_of at ∙ go (db 1) is
     go : (rows : List Row) → IsCounter rows → count_of (find (λ r. is_eq (value_cmp (column r 1) (Text (codes "post")))) rows) ≡ pos (top_in rows)
     go [] is = (cast_top 0).0
     go (r ∷ []) is =
-        let named : value_cmp (column r 1) (Text (codes "post")) ≡ Equal = ap (λ x. value_cmp (column x 1) (Text (codes "post"))) is ∙ text_itself (codes "post") in
+        let named : value_cmp (column r 1) (Text (codes "post")) ≡ Equal = ap (λ x. value_cmp (column x 1) (Text (codes "post"))) is
+        ∙ text_itself (codes "post") in
         let top : column r 2 ≡ Int (pos (top_in (r ∷ []))) = ap (λ x. column x 2) is in
         rw (named, top) (cast_top (top_in (r ∷ []))).1
     go (r ∷ s ∷ rows) is = absurd is
@@ -107,13 +108,15 @@ module _ (limit : Option ℕ) (keys : Keys) (p : Post) where
   abbrev Counting : Trees → Trees → Type 0
   Counting mid next = IsCounter (next 1) × (top_in (next 1) ≡ p.id) × (next 0 ≡ mid 0) × NamesKept mid next
 
-  first_count : (mid next : Trees) → mid 1 ≡ [] → Edited site_schema keys mid (counting mid post_table sequence_table (pos p.id) None) (Ok next) → Counting mid next
+  first_count : (mid next : Trees) → mid 1 ≡ [] → Edited site_schema keys mid (counting mid post_table sequence_table (pos p.id) None) (Ok next)
+      → Counting mid next
   first_count mid next none h =
       let done = one_step site_schema keys mid next (counting mid post_table sequence_table (pos p.id) None) refl h in
       let rows = rw (none, cast_null) at done.rows in
       (subst IsCounter (sym rows) refl, ap top_in rows, done.tables.0 (λ e. omega arith), names_kept mid next 1 (omega arith) done.tables)
 
-  next_count : (mid next : Trees) (r : Row) (z : ℤ) → mid 1 ≡ r ∷ [] → rowid r ≡ Int z → Edited site_schema keys mid (counting mid post_table sequence_table (pos p.id) (Some r)) (Ok next) → Counting mid next
+  next_count : (mid next : Trees) (r : Row) (z : ℤ) → mid 1 ≡ r ∷ [] → rowid r ≡ Int z
+      → Edited site_schema keys mid (counting mid post_table sequence_table (pos p.id) (Some r)) (Ok next) → Counting mid next
   next_count mid next r z one at h =
       let done = one_step site_schema keys mid next (counting mid post_table sequence_table (pos p.id) (Some r)) refl h in
       let tied : value_cmp (Int z) (Int z) ≡ Equal = tied_itself value_cmp_total (Int z) in
@@ -129,46 +132,64 @@ module _ (limit : Option ℕ) (keys : Keys) (p : Post) where
       let none : found ≡ None = at ∙ ap (find (λ r. is_eq (value_cmp (column r 1) (Text (codes "post"))))) e in
       first_count mid next e (subst (λ o. Edited site_schema keys mid (counting mid post_table sequence_table (pos p.id) o) (Ok next)) none h)
   raised mid next found (r ∷ []) e is at h =
-      let named : value_cmp (column r 1) (Text (codes "post")) ≡ Equal = ap (λ x. value_cmp (column x 1) (Text (codes "post"))) is ∙ text_itself (codes "post") in
+      let named : value_cmp (column r 1) (Text (codes "post")) ≡ Equal = ap (λ x. value_cmp (column x 1) (Text (codes "post"))) is
+      ∙ text_itself (codes "post") in
       let some : found ≡ Some r = at ∙ ap (find (λ x. is_eq (value_cmp (column x 1) (Text (codes "post"))))) e ∙ rw named refl in
-      next_count mid next r (id_in (rowid r)) e (ap rowid is) (subst (λ o. Edited site_schema keys mid (counting mid post_table sequence_table (pos p.id) o) (Ok next)) some h)
+      next_count mid next r (id_in (rowid r)) e (ap rowid is) (subst
+      (λ o. Edited site_schema keys mid (counting mid post_table sequence_table (pos p.id) o) (Ok next)) some h)
   raised mid next found (r ∷ s ∷ rows) e is at h = absurd is
 
-  counted : (mid next : Trees) (found : Option Row) → IsCounter (mid 1) → found ≡ counter_in mid post_table sequence_table → Counts job mid found (higher (count_of found) (row_of p)) (Ok next) → Counted mid next
+  counted : (mid next : Trees) (found : Option Row) → IsCounter (mid 1) → found ≡ counter_in mid post_table sequence_table
+      → Counts job mid found (higher (count_of found) (row_of p)) (Ok next) → Counted mid next
   unfolding Counted
   counted mid next found is at h =
       let top : count_of found ≡ pos (top_in (mid 1)) = count_is mid is found at in
       elim (cases_Bool (is_lt (int_cmp (pos (top_in (mid 1))) (pos p.id)))) [
         | inl above ↦
-            let made : Edited site_schema keys mid (counting mid post_table sequence_table (pos p.id) found) (Ok next) = rw (top, above, above, sequence_at) at h in
+            let made : Edited site_schema keys mid (counting mid post_table sequence_table (pos p.id) found) (Ok next) = rw (top, above, above, sequence_at)
+            at h in
             let it = raised mid next found (mid 1) refl is at made in
             let less : top_in (mid 1) < p.id = grind (arith, ints, nat_tests) in
             (it.0, it.1 ∙ omega arith, it.2, it.3)
         | inr under ↦
             let le : p.id ≤ top_in (mid 1) = grind (arith, ints, nat_tests) in
-            let same : next ≡ mid = same_value (rw (top, under, same_int) at h) in
-            (subst (λ (t : Trees). IsCounter (t 1)) (sym same) is, ap (λ (t : Trees). top_in (t 1)) same ∙ omega arith, ap (λ (t : Trees). t 0) same, (ap (λ (t : Trees). t 2) same, ap (λ (t : Trees). t 4) same, ap (λ (t : Trees). t 6) same))
+            let same : next ≡ mid = same_value (rw (top, under, same_int) at h) in (
+              subst (λ (t : Trees). IsCounter (t 1)) (sym same) is,
+              ap (λ (t : Trees). top_in (t 1)) same
+                  ∙ omega arith,
+              ap (λ (t : Trees). t 0) same,
+              (ap (λ (t : Trees). t 2) same, ap (λ (t : Trees). t 4) same, ap (λ (t : Trees). t 6) same),
+            )
       ]
     where
       same_int : is_lt (int_cmp (pos (top_in (mid 1))) (pos (top_in (mid 1)))) ≡ false
       same_int = grind (arith, ints, nat_tests)
 
-  pub inserted : (db : Trees) (w : Written) → IsCounter (db 1) → Inserts job (Values (col 0 0 ∷ lit Null ∷ col 0 1 ∷ col 0 2 ∷ col 0 3 ∷ col 0 4 ∷ col 0 5 ∷ []) 7) db (Ok w) → IsInserted db w.trees p
+  pub inserted : (db : Trees) (w : Written) → IsCounter (db 1)
+      → Inserts job (Values (col 0 0 ∷ lit Null ∷ col 0 1 ∷ col 0 2 ∷ col 0 3 ∷ col 0 4 ∷ col 0 5 ∷ []) 7) db (Ok w) → IsInserted db w.trees p
   unfolding Counted
   inserted db w is h =
       let given = went h in
       let counter = went given.2 in
       let at : counter.0 ≡ counter_in db post_table sequence_table = same_value (subst (λ o. CounterIn job db o (Ok counter.0)) sequence_at counter.1) in
       let edit = went counter.2 in
-      let put = put_it db edit.0 (count_of counter.0) (subst (λ rows. Edited site_schema keys db (edit_of db post_table [] (Above (count_of counter.0)) 0 rows) (Ok edit.0)) given.1.1 edit.1) in
+      let put = put_it db edit.0 (count_of counter.0) (subst (λ rows. Edited site_schema keys db
+      (edit_of db post_table [] (Above (count_of counter.0)) 0 rows) (Ok edit.0)) given.1.1 edit.1) in
       let counts = went edit.2 in
-      let news = subst (λ rows. Counts job edit.0 counter.0 (fold higher (count_of counter.0) (edit_of db post_table [] (Above (count_of counter.0)) 0 rows).news) (Ok counts.0)) given.1.1 counts.1 in
-      let done = counted edit.0 counts.0 counter.0 (subst IsCounter (sym put.2) is) (at ∙ ap (find (λ r. is_eq (value_cmp (column r 1) (Text (codes "post"))))) (sym put.2)) (rw (cast_int (pos p.id)) at news) in
+      let news = subst (λ rows. Counts job edit.0 counter.0 (fold higher (count_of counter.0)
+      (edit_of db post_table [] (Above (count_of counter.0)) 0 rows).news) (Ok counts.0)) given.1.1 counts.1 in
+      let done = counted edit.0 counts.0 counter.0 (subst IsCounter (sym put.2) is)
+      (at ∙ ap (find (λ r. is_eq (value_cmp (column r 1) (Text (codes "post"))))) (sym put.2)) (rw (cast_int (pos p.id)) at news) in
       let trees : w.trees ≡ counts.0 = ap (λ (it : Written). it.trees) (same_value counts.2) in
       record {
         free = put.1;
         posts = ap (λ (t : Trees). t 0) trees ∙ done.2 ∙ put.0;
         counter = subst (λ (t : Trees). IsCounter (t 1)) (sym trees) done.0;
         top = ap (λ (t : Trees). top_in (t 1)) trees ∙ done.1 ∙ ap (λ rows. max (top_in rows) p.id) put.2;
-        others = (ap (λ (t : Trees). t 2) trees ∙ done.3.0 ∙ put.3.0, ap (λ (t : Trees). t 4) trees ∙ done.3.1 ∙ put.3.1, ap (λ (t : Trees). t 6) trees ∙ done.3.2 ∙ put.3.2);
+        others = (
+          ap (λ (t : Trees). t 2) trees ∙ done.3.0 ∙ put.3.0,
+          ap (λ (t : Trees). t 4) trees ∙ done.3.1 ∙ put.3.1,
+          ap (λ (t : Trees). t 6) trees
+              ∙ done.3.2 ∙ put.3.2,
+        );
       }

@@ -40,7 +40,8 @@ module _ (old new : Held MemStore) (idle : IsIdle old) where
   ]
 
   -- a write outside a transaction is committed
-  pub wrote : (returning : Option Returning) (command : Command) (text : List ℕ) (params : Row) (count : ℕ) → Writes (state over_memory old) (state over_memory new) returning command text params count → IsIdle new
+  pub wrote : (returning : Option Returning) (command : Command) (text : List ℕ) (params : Row) (count : ℕ)
+      → Writes (state over_memory old) (state over_memory new) returning command text params count → IsIdle new
   wrote returning command text params count w = record {
     autocommit = w.shown.mode ∙ idle.autocommit;
     settled = w.shown.committed_is ∙ ap (λ b. cond b (state over_memory old).committed (state over_memory new).now) idle.autocommit;
@@ -61,10 +62,12 @@ module _ (old new : Held MemStore) (idle : IsIdle old) where
   unanswered sql params e (inl none) = not_run sql params e none
   unanswered sql params e (inr ran) = showing sql ran.0 _ e ran.0.returning ran.2
 
-  answers : (sql : List ℕ) (c : Compiled) (params : Row) (rows : List Row) (what : Option Returning) → what ≡ None → ShowsRows (state over_memory old) (state over_memory new) sql c params rows what → IsKept old new
+  answers : (sql : List ℕ) (c : Compiled) (params : Row) (rows : List Row) (what : Option Returning) → what ≡ None
+      → ShowsRows (state over_memory old) (state over_memory new) sql c params rows what → IsKept old new
   answers sql c params rows None none h = same h.3
   answers sql c params rows (Some what) none h = absurd cc
 
-  pub answered : (sql : List ℕ) (params : Row) (rows : List Row) → IsPlain (understood (state over_memory old).now.schema sql) → Shown sql params (state over_memory old) (state over_memory new) rows → IsKept old new
+  pub answered : (sql : List ℕ) (params : Row) (rows : List Row) → IsPlain (understood (state over_memory old).now.schema sql)
+      → Shown sql params (state over_memory old) (state over_memory new) rows → IsKept old new
   unfolding Shown
   answered sql params rows plain h = answers sql h.0 _ rows h.0.returning (subst IsPlain h.1.is plain).0 h.2

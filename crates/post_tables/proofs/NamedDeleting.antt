@@ -58,7 +58,8 @@ module _ {V : Type 0} {rest : V → Row} {value_in : Row → V} (k : NamedTable 
     pub others : Others k.tree (state over_memory old).now.trees (state over_memory new).now.trees
     pub idle : IsIdle old → IsIdle new
 
-  pub deleted : (sql : List ℕ) (x : DeleteText sql) (old new : Held MemStore) (name : List ℕ) (count : ℕ) → HoldsSite (state over_memory old).now → AreNamed rest value_in ((state over_memory old).now.trees k.tree)
+  pub deleted : (sql : List ℕ) (x : DeleteText sql) (old new : Held MemStore) (name : List ℕ) (count : ℕ) → HoldsSite (state over_memory old).now
+      → AreNamed rest value_in ((state over_memory old).now.trees k.tree)
       → Executes sql (Text name ∷ []) (state over_memory old) (state over_memory new) (Ok count) → HasDeleted old new name
   deleted sql x old new name count holds named h =
       let s = state over_memory old in
@@ -67,7 +68,8 @@ module _ {V : Type 0} {rest : V → Row} {value_in : Row → V} (k : NamedTable 
       let given : Row = Text name ∷ [] in
       let command : Command = Delete k.place (record { lets = []; body = deleting.query k.tree wheres }) in
       let w = runs_as sql given s t site_schema holds.schema_is command x.is x.plain count h in
-      let does = subst (λ y. Does s.step_limit (mode_of s) given (record s.now { schema = y }) text None command (Ok (w.tally, t.now))) holds.schema_is w.changed in
+      let does = subst (λ y. Does s.step_limit (mode_of s) given (record s.now { schema = y }) text None command (Ok (w.tally, t.now))) holds.schema_is
+      w.changed in
       let done = went (rw k.here at does) in
       let now = ap (λ (p : Tally × Database). p.1) (same_value (went (went done.2).2).2) in
       let asked = went done.1 in
@@ -81,8 +83,10 @@ module _ {V : Type 0} {rest : V → Row} {value_in : Row → V} (k : NamedTable 
       record {
         schema_is = ap (λ (d : Database). d.schema) now;
         test = passes (overlay db []) name;
-        tests = λ r there. ap (passes (overlay db []) name) (named.each r there).1 ∙ and_true _ ∙ text_compares Eq (name_in r) name ∙ (eq_by_cmp_equiv nat_list_cmp_total).symm (name_in r) name;
-        is = ap (λ (y : Trees). y k.tree) trees ∙ applied.rows ∙ ap (λ l. without_all l (ids_of asked.0)) (sym over) ∙ left ∙ ap (filter (λ r. not (passes (overlay db []) name r))) over;
+        tests = λ r there. ap (passes (overlay db []) name) (named.each r there).1 ∙ and_true _ ∙ text_compares Eq (name_in r) name
+            ∙ (eq_by_cmp_equiv nat_list_cmp_total).symm (name_in r) name;
+        is = ap (λ (y : Trees). y k.tree) trees ∙ applied.rows ∙ ap (λ l. without_all l (ids_of asked.0)) (sym over) ∙ left
+            ∙ ap (filter (λ r. not (passes (overlay db []) name r))) over;
         others = subst (Others k.tree db) (sym trees) applied.tables;
         idle = λ idle. wrote old new idle _ _ _ _ _ w;
       }

@@ -54,7 +54,8 @@ module _ {V : Type 0} where
   Apart : List (List ℕ × V) → Type 0
   Apart = IsDistinct (eq_by_cmp by_name)
 
-  put_same : (k : List ℕ) (v : V) (es : List (List ℕ × V)) → ((e : List ℕ × V) → Has es e → eq_by_cmp by_name (k, v) e ≡ false) → put by_bytes k v es ≡ put_sorted by_name (k, v) es
+  put_same : (k : List ℕ) (v : V) (es : List (List ℕ × V)) → ((e : List ℕ × V) → Has es e → eq_by_cmp by_name (k, v) e ≡ false)
+      → put by_bytes k v es ≡ put_sorted by_name (k, v) es
   put_same k v [] apart = refl
   put_same k v (e ∷ es) apart = go (by_bytes k e.0) refl (apart e (inl refl)) (put_same k v es (λ x h. apart x (inr h)))
     where
@@ -80,7 +81,8 @@ unfolding Apart IsDistinct
 names_apart rest value_in [] ok = tt
 names_apart rest value_in (r ∷ rows) ok = (
   all_from _ (map (pair value_in) rows) (λ p h. let s = mapped_from (pair value_in) rows p h in false_from_ne_true _ (λ tied.
-      let same : name_in r ≡ name_in s.0 = tied_text (name_in r) (name_in s.0) (value_cmp-Text _ _ ∙ subst (λ q. by_bytes (name_in r) q.0 ≡ Equal) s.2 (equal_is _ tied)) in
+      let same : name_in r ≡ name_in s.0 = tied_text (name_in r) (name_in s.0)
+      (value_cmp-Text _ _ ∙ subst (λ q. by_bytes (name_in r) q.0 ≡ Equal) s.2 (equal_is _ tied)) in
       let is : r ≡ s.0 = ok.distinct r s.0 (inl refl) (inr s.1) same in
       let less : value_cmp (rowid r) (rowid s.0) ≡ Less = all_has _ rows s.0 ok.ordered.0 s.1 in
       let tie : value_cmp (rowid r) (rowid s.0) ≡ Equal = subst (λ x. value_cmp (rowid r) (rowid x) ≡ Equal) is (tied_itself value_cmp_total (rowid r)) in
@@ -121,7 +123,8 @@ module _ {V : Type 0} {rest : V → Row} {value_in : Row → V} (k : NamedTable 
   }
 
   -- each of the names and values is a text
-  pub names_texts : (rows : List Row) → AreNamed rest value_in rows → (p : List ℕ × V) → Has (entries (named_in value_in rows)) p → AllByRecursion IsText (shown p)
+  pub names_texts : (rows : List Row) → AreNamed rest value_in rows → (p : List ℕ × V) → Has (entries (named_in value_in rows)) p
+      → AllByRecursion IsText (shown p)
   names_texts rows ok p h =
       let ps : List (List ℕ × V) = map (pair value_in) rows in
       let there : Has ps p = sorted_had by_name by_name_total ps p (subst (λ l. Has l p) (entries_are ps (names_apart rest value_in rows ok)) h) in
@@ -136,7 +139,10 @@ module _ {V : Type 0} {rest : V → Row} {value_in : Row → V} (k : NamedTable 
     outs_apart : (ps : List (List ℕ × V)) → Apart ps → IsDistinct (eq_by_cmp (output_cmp (query x.projects))) (map out ps)
     unfolding Apart IsDistinct
     outs_apart [] apart = tt
-    outs_apart (p ∷ ps) apart = (all_from _ (map out ps) (λ o h. let b = mapped_from out ps o h in rw (b.2, by_name_is p b.0) (all_has _ ps b.0 apart.0 b.1)), outs_apart ps apart.1)
+    outs_apart (p ∷ ps) apart = (
+      all_from _ (map out ps) (λ o h. let b = mapped_from out ps o h in rw (b.2, by_name_is p b.0) (all_has _ ps b.0 apart.0 b.1)),
+      outs_apart ps apart.1,
+    )
 
     abbrev shows : Row → Output
     shows r = output (query x.projects) ([] ∷ r ∷ [])
@@ -151,14 +157,18 @@ module _ {V : Type 0} {rest : V → Row} {value_in : Row → V} (k : NamedTable 
     first_shown [] = refl
     first_shown (p ∷ ps) = ap (λ l. shown p ∷ l) (first_shown ps)
 
-    pub names_read : (old new : Held MemStore) (rows : List Row) → IsSite old → AreNamed rest value_in (trees_of old k.tree) → Shown sql [] (state over_memory old) (state over_memory new) rows
+    pub names_read : (old new : Held MemStore) (rows : List Row) → IsSite old → AreNamed rest value_in (trees_of old k.tree)
+        → Shown sql [] (state over_memory old) (state over_memory new) rows
         → rows ≡ map shown (entries (named_in value_in (trees_of old k.tree)))
     names_read old new rows is named h =
-        let read = reads_as sql [] (state over_memory old) (state over_memory new) site_schema is.holds.schema_is (Select (record { lets = []; body = query x.projects }) x.names) x.is x.plain x.unlisted rows h in
+        let read = reads_as sql [] (state over_memory old) (state over_memory new) site_schema is.holds.schema_is
+        (Select (record { lets = []; body = query x.projects }) x.names) x.is x.plain x.unlisted rows h in
         let ps : List (List ℕ × V) = map (pair value_in) (trees_of old k.tree) in
         let distinct = names_apart rest value_in (trees_of old k.tree) named in
         let outs = ap (λ l. map shows (filter (λ r. true) l)) (k.over (trees_of old)) ∙ outs_are (trees_of old k.tree) named.each in
-        let all = reading.answer_is k.tree [] x.projects [] orders (lit (Int (negsuc 0))) (lit (Int (pos 0))) (overlay (trees_of old) []) [] rows (read.answer Null)
+        let all = reading.answer_is k.tree [] x.projects [] orders (lit (Int (negsuc 0))) (lit (Int (pos 0))) (overlay (trees_of old) []) [] rows
+        (read.answer Null)
         (subst (IsDistinct (eq_by_cmp (output_cmp (query x.projects)))) (sym outs) (outs_apart ps distinct)) in
-        all ∙ ap (λ l. map (λ (o : Output). o.1) (sorted (output_cmp (query x.projects)) l)) outs ∙ ap (map (λ (o : Output). o.1)) (sym (sorted_mapped by_name (output_cmp (query x.projects)) out by_name_is ps))
+        all ∙ ap (λ l. map (λ (o : Output). o.1) (sorted (output_cmp (query x.projects)) l)) outs
+        ∙ ap (map (λ (o : Output). o.1)) (sym (sorted_mapped by_name (output_cmp (query x.projects)) out by_name_is ps))
         ∙ first_shown (sorted by_name ps) ∙ ap (map shown) (sym (entries_are ps distinct))

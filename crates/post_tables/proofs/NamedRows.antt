@@ -51,7 +51,8 @@ gone_lacks (i ∷ ids) rows x h id (inr more) = gone_lacks ids (without_rowid i 
 
 left_is_table : (ids : List ℤ) (rows : List Row) → IsTable rows → AllByRecursion (λ r. IsTrue (is_int (rowid r))) rows → IsTable (without_all rows ids)
 left_is_table [] rows up keyed = up
-left_is_table (id ∷ ids) rows up keyed = let both = IsShaped-filter Table (λ r. not (has_rowid id r)) rows (up, keyed) in left_is_table ids (without_rowid id rows) both.0 both.1
+left_is_table (id ∷ ids) rows up keyed = let both = IsShaped-filter Table (λ r. not (has_rowid id r)) rows (up, keyed) in left_is_table ids
+    (without_rowid id rows) both.0 both.1
 
 same_name : (a b : List ℕ) → eq_by_cmp by_bytes a b ≡ true → a ≡ b
 same_name a b h = slice_cmp-IsAntisymmetric nat_cmp-IsAntisymmetric a b (equal_is _ h)
@@ -84,7 +85,8 @@ module _ {V : Type 0} (value_in : Row → V) where
   find_none (x ∷ rows) q none =
       rw (false_from_ne_true _ (λ here. none x (inl refl) (sym (same_name q (name_in x) here)))) (find_none rows q (λ r h. none r (inr h)))
 
-  find_at : (rows : List Row) (r : Row) → ((x y : Row) → Has rows x → Has rows y → name_in x ≡ name_in y → x ≡ y) → Has rows r → find by_bytes (name_in r) (map pair rows) ≡ Some (value_in r)
+  find_at : (rows : List Row) (r : Row) → ((x y : Row) → Has rows x → Has rows y → name_in x ≡ name_in y → x ≡ y) → Has rows r
+      → find by_bytes (name_in r) (map pair rows) ≡ Some (value_in r)
   find_at [] r distinct h = absurd h
   find_at (x ∷ rows) r distinct h = elim (cases_Bool (eq_by_cmp by_bytes (name_in r) (name_in x))) [
     | inl here ↦ rw here (ap (λ y. Some (value_in y)) (distinct x r (inl refl) h (sym (same_name _ _ here))))
@@ -114,8 +116,10 @@ module _ {V : Type 0} {rest : V → Row} {value_in : Row → V} (k : NamedTable 
     -- a row that meets the new one has its name
     meets : (r : Row) → Has rows r → conflicts None site_schema.indexes (named_table k.title k.tree k.columns) (put_in rows name v) r ≡ true → name_in r ≡ name
     meets r h is = elim (met_is _ _ (sym (k.conflict_is r (next_rowid rows) name v) ∙ is)) [
-      | inl same ↦ absurd (true≢false (sym (some_from (λ y. is_eq (value_cmp (rowid y) (Int (next_rowid rows)))) rows r h (ap is_eq (equal_tied _ _ same))) ∙ free_id))
-      | inr named ↦ let is_text : column r 1 ≡ Text (name_in r) = ap (λ x. column x 1) (ok.each r h).1 in tied_text (name_in r) name (rw is_text at (equal_tied _ _ named))
+      | inl same ↦ absurd (true≢false (sym (some_from (λ y. is_eq (value_cmp (rowid y) (Int (next_rowid rows)))) rows r h (ap is_eq (equal_tied _ _ same)))
+          ∙ free_id))
+      | inr named ↦ let is_text : column r 1 ≡ Text (name_in r) = ap (λ x. column x 1) (ok.each r h).1 in tied_text (name_in r) name
+          (rw is_text at (equal_tied _ _ named))
     ]
 
     -- and the other way round
@@ -150,7 +154,8 @@ module _ {V : Type 0} {rest : V → Row} {value_in : Row → V} (k : NamedTable 
 
   -- ---- the map
 
-  module _ (rows next : List Row) (name : List ℕ) (v : V) (texts : AllByRecursion IsText (Text name ∷ rest v)) (ok : AreNamed rest value_in rows) (made : IsReplaced rows next name v) where
+  module _ (rows next : List Row) (name : List ℕ) (v : V) (texts : AllByRecursion IsText (Text name ∷ rest v)) (ok : AreNamed rest value_in rows)
+      (made : IsReplaced rows next name v) where
     abbrev new : Row
     new = put_in rows name v
 
@@ -184,8 +189,13 @@ module _ {V : Type 0} {rest : V → Row} {value_in : Row → V} (k : NamedTable 
 
     pub still_named : AreNamed rest value_in next
     still_named = record {
-      ordered = subst IsTable (sym made.is) (IsTable-put_row new kept (left_is_table (ids_of made.found) rows ok.ordered (all_from _ rows (λ r h. (ok.each r h).0))));
-      each = λ r h. elim (was r h) [ inl same ↦ subst (IsNamed rest value_in) (sym same) (refl, ap (λ x. Int (next_rowid rows) ∷ Text name ∷ rest x) (sym (k.value_of (Int (next_rowid rows)) name v)), texts) | inr old ↦ ok.each r old.0 ];
+      ordered = subst IsTable (sym made.is) (IsTable-put_row new kept
+          (left_is_table (ids_of made.found) rows ok.ordered (all_from _ rows (λ r h. (ok.each r h).0))));
+      each = λ r h. elim (was r h) [
+        | inl same ↦ subst (IsNamed rest value_in) (sym same)
+            (refl, ap (λ x. Int (next_rowid rows) ∷ Text name ∷ rest x) (sym (k.value_of (Int (next_rowid rows)) name v)), texts)
+        | inr old ↦ ok.each r old.0
+      ];
       distinct = one_each;
     }
 
@@ -205,7 +215,8 @@ module _ {V : Type 0} {rest : V → Row} {value_in : Row → V} (k : NamedTable 
 
     pub named_set : named_in value_in next ≡ insert (named_in value_in rows) name v
     named_set = same_map nat_list_cmp_total (slice_cmp-IsAntisymmetric nat_cmp-IsAntisymmetric) _ _ (λ q.
-        get-from_entries nat_list_cmp_total _ q ∙ same_at q ∙ sym (get-insert nat_list_cmp_total _ name v q ∙ ap (cond (eq_by_cmp by_bytes q name) (Some v)) (get-from_entries nat_list_cmp_total _ q)))
+        get-from_entries nat_list_cmp_total _ q ∙ same_at q ∙ sym (get-insert nat_list_cmp_total _ name v q
+        ∙ ap (cond (eq_by_cmp by_bytes q name) (Some v)) (get-from_entries nat_list_cmp_total _ q)))
 
 -- ---- a name is taken away
 
@@ -235,11 +246,13 @@ module _ {V : Type 0} {rest : V → Row} {value_in : Row → V} (rows : List Row
     | inr other ↦ rw other (elim (named_or_not rows q) [
       | inl some ↦
           let apart : name_in some.0 ≢ name = apart_names q name other (name_in some.0) some.2 in
-          rw (← some.2) (find_at value_in others some.0 others_named.distinct (is_kept some.0 some.1 apart) ∙ sym (find_at value_in rows some.0 ok.distinct some.1))
+          rw (← some.2) (find_at value_in others some.0 others_named.distinct (is_kept some.0 some.1 apart)
+          ∙ sym (find_at value_in rows some.0 ok.distinct some.1))
       | inr none ↦ find_none value_in others q (λ r h. none r (stays r h).0) ∙ sym (find_none value_in rows q none)
     ])
   ]
 
   pub named_removed : named_in value_in others ≡ remove (named_in value_in rows) name
   named_removed = same_map nat_list_cmp_total (slice_cmp-IsAntisymmetric nat_cmp-IsAntisymmetric) _ _ (λ q.
-      get-from_entries nat_list_cmp_total _ q ∙ left_at q ∙ sym (get-remove nat_list_cmp_total _ name q ∙ ap (cond (eq_by_cmp by_bytes q name) None) (get-from_entries nat_list_cmp_total _ q)))
+      get-from_entries nat_list_cmp_total _ q ∙ left_at q ∙ sym (get-remove nat_list_cmp_total _ name q
+      ∙ ap (cond (eq_by_cmp by_bytes q name) None) (get-from_entries nat_list_cmp_total _ q)))

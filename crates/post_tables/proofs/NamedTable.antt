@@ -31,7 +31,8 @@ pub record NamedTable {V : Type 0} (rest : V → Row) (value_in : Row → V) : T
   pub cast_is : (name : List ℕ) (v : V) → cast_all columns (Text name ∷ rest v) ≡ Text name ∷ rest v
   pub mend_is : (name : List ℕ) (v : V) → mended_from None 0 columns (Text name ∷ rest v) ≡ Text name ∷ rest v
   -- a row meets another by the rowid or by the name
-  pub conflict_is : (r : Row) (n : ℤ) (name : List ℕ) (v : V) → conflicts None site_schema.indexes (named_table title tree columns) (Int n ∷ Text name ∷ rest v) r
+  pub conflict_is : (r : Row) (n : ℤ) (name : List ℕ) (v : V) → conflicts None site_schema.indexes (named_table title tree columns)
+      (Int n ∷ Text name ∷ rest v) r
       ≡ met (equal Binary (rowid r) (Int n)) (equal Binary (column r 1) (Text name))
 
 abbrev pub options : NamedTable text_rest text_in

@@ -39,7 +39,8 @@ one_more (k ∷ met) id x = go (nat_cmp id k) refl (one_more met id x)
     go : (o : Ordering) → nat_cmp id k ≡ o → is_met (insert_key nat_cmp met id) x ≡ (is_eq (nat_cmp x id) || is_met met x)
         → is_met (match_ordering o (id ∷ k ∷ met) (k ∷ met) (k ∷ insert_key nat_cmp met id)) x ≡ (is_eq (nat_cmp x id) || is_met (k ∷ met) x)
     go Less e later = refl
-    go Equal e later = twice (is_eq (nat_cmp x k)) (is_met met x) ∙ ap (λ n. is_eq (nat_cmp x n) || (is_eq (nat_cmp x k) || is_met met x)) (sym (equal_id id k e))
+    go Equal e later = twice (is_eq (nat_cmp x k)) (is_met met x)
+        ∙ ap (λ n. is_eq (nat_cmp x n) || (is_eq (nat_cmp x k) || is_met met x)) (sym (equal_id id k e))
     go Greater e later = ap (λ b. is_eq (nat_cmp x k) || b) later ∙ swapped (is_eq (nat_cmp x k)) (is_eq (nat_cmp x id)) (is_met met x)
 
 spread : (a b c d : Bool) → (not (a || b) && (c && not d)) ≡ ((not b && c) && not (a || d))
@@ -52,7 +53,8 @@ spread false false c d = refl
 one_more_none : (met : List ℕ) (id : ℕ) (ps : List Post) → none_met (insert_key nat_cmp met id) ps ≡ (none_met met ps && not (has_post id ps))
 one_more_none met id [] = refl
 one_more_none met id (p ∷ ps) =
-    rw (one_more met id p.id, same_id p.id id, flipped id p.id, one_more_none met id ps) (spread (p.id == id) (is_met met p.id) (none_met met ps) (has_post id ps))
+    rw (one_more met id p.id, same_id p.id id, flipped id p.id, one_more_none met id ps)
+    (spread (p.id == id) (is_met met p.id) (none_met met ps) (has_post id ps))
   where
     flipped : (m n : ℕ) → (m == n) ≡ (n == m)
     flipped m n = grind (arith, nat_tests)

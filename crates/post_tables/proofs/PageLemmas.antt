@@ -68,7 +68,8 @@ abbrev compare : CompareOp → Term → Term → Term
 compare op = op2 (Compare op Binary)
 
 abbrev pub wheres : List Term
-wheres = compare Eq (col 1 2) (col 0 0) ∷ compare Eq (col 1 3) (lit (Text (codes "publish"))) ∷ compare Ge (col 1 6) (col 0 1) ∷ compare Le (col 1 6) (col 0 2) ∷ []
+wheres = compare Eq (col 1 2) (col 0 0) ∷ compare Eq (col 1 3) (lit (Text (codes "publish"))) ∷ compare Ge (col 1 6) (col 0 1)
+    ∷ compare Le (col 1 6) (col 0 2) ∷ []
 
 abbrev pub projects : List Term
 projects = col 1 0 ∷ col 1 2 ∷ col 1 3 ∷ col 1 4 ∷ col 1 5 ∷ col 1 6 ∷ []
@@ -88,7 +89,8 @@ page_text = codes "SELECT id, kind, status, title, content, date FROM post WHERE
 abbrev names : List (List ℕ)
 names = codes "id" ∷ codes "kind" ∷ codes "status" ∷ codes "title" ∷ codes "content" ∷ codes "date" ∷ []
 
-page_is : (command_of (understood site_schema page_text) ≡ Select (record { lets = []; body = query projects }) names) × (reads_listing site_schema page_text ≡ false)
+page_is : (command_of (understood site_schema page_text) ≡ Select (record { lets = []; body = query projects }) names)
+    × (reads_listing site_schema page_text ≡ false)
 unfolding understood everything
 page_is = (refl, refl)
 
@@ -124,7 +126,8 @@ status_back Draft = refl
 abbrev pub Rising : List Post → Type 0
 Rising = IsAscending (λ a b. nat_cmp a.id b.id ≡ Less)
 
-below_from : (p : Post) (ps : List Post) → AllByRecursion (λ r. value_cmp (rowid (row_of p)) (rowid r) ≡ Less) (map row_of ps) → AllByRecursion (λ b. nat_cmp p.id b.id ≡ Less) ps
+below_from : (p : Post) (ps : List Post) → AllByRecursion (λ r. value_cmp (rowid (row_of p)) (rowid r) ≡ Less) (map row_of ps)
+    → AllByRecursion (λ b. nat_cmp p.id b.id ≡ Less) ps
 below_from p [] up = tt
 below_from p (b ∷ ps) up = (sym (value_cmp-Int (pos p.id) (pos b.id) ∙ pos_cmp p.id b.id) ∙ up.0, below_from p ps up.1)
 
@@ -136,7 +139,8 @@ pub rising_filter : (f : Post → Bool) (ps : List Post) → Rising ps → Risin
 rising_filter f [] up = tt
 rising_filter f (p ∷ ps) up =
     let later = rising_filter f ps up.1 in
-    elim (f p) as (λ b. Rising (cond b (p ∷ filter f ps) (filter f ps))) [ true ↦ (all_from _ (filter f ps) (λ q h. all_has _ ps q up.0 (has_filtered f ps q h).0), later) | false ↦ later ]
+    elim (f p) as (λ b. Rising (cond b (p ∷ filter f ps) (filter f ps)))
+    [ true ↦ (all_from _ (filter f ps) (λ q h. all_has _ ps q up.0 (has_filtered f ps q h).0), later) | false ↦ later ]
 
 pub rows_are : (rows : List Row) → ((r : Row) → Has rows r → r ≡ row_of (post_in r)) → rows ≡ map row_of (map post_in rows)
 rows_are [] each = refl
@@ -189,7 +193,9 @@ module _ (kind : PostKind) (from to : List ℕ) (limit offset : ℕ) where
 
     listed_rows : (ps : List Post) → map shows (filter passes (map row_of ps)) ≡ map out (filter (is_listed kind from to) ps)
     listed_rows [] = refl
-    listed_rows (p ∷ ps) = rw (passes_is p) (elim (is_listed kind from to p) as (λ b. map shows (cond b (row_of p ∷ filter passes (map row_of ps)) (filter passes (map row_of ps))) ≡ map out (cond b (p ∷ filter (is_listed kind from to) ps) (filter (is_listed kind from to) ps)))
+    listed_rows (p ∷ ps) = rw (passes_is p) (elim (is_listed kind from to p) as
+        (λ b. map shows (cond b (row_of p ∷ filter passes (map row_of ps)) (filter passes (map row_of ps)))
+        ≡ map out (cond b (p ∷ filter (is_listed kind from to) ps) (filter (is_listed kind from to) ps)))
         [ true ↦ ap (λ l. out p ∷ l) (listed_rows ps) | false ↦ listed_rows ps ])
 
     tied_ids : (a b : Post) → nat_cmp a.id b.id ≡ Less → eq_by_cmp (output_cmp (query shown)) (out a) (out b) ≡ false
@@ -201,7 +207,11 @@ module _ (kind : PostKind) (from to : List ℕ) (limit offset : ℕ) where
     apart : (ps : List Post) → Rising ps → IsDistinct (eq_by_cmp (output_cmp (query shown))) (map out ps)
     unfolding IsDistinct
     apart [] up = tt
-    apart (p ∷ ps) up = (all_from _ (map out ps) (λ o h. let b = mapped_from out ps o h in rw (b.2) (tied_ids p b.0 (all_has _ ps b.0 up.0 b.1))), apart ps up.1)
+    apart (p ∷ ps) up = (
+      all_from _ (map out ps) (λ o h. let b = mapped_from out ps o h in rw (b.2) (tied_ids p b.0 (all_has _ ps b.0 up.0 b.1))),
+      apart ps
+          up.1,
+    )
 
     abbrev pub shown_of : Post → Row
     shown_of p = (out p).1
@@ -211,12 +221,15 @@ module _ (kind : PostKind) (from to : List ℕ) (limit offset : ℕ) where
     first_shown (p ∷ ps) = ap (λ l. shown_of p ∷ l) (first_shown ps)
 
     -- the answer over the rows of posts
-    pub answered_page : (db : Trees) (rows : List Row) (ps : List Post) → db 0 ≡ map row_of ps → IsTable (db 0) → IsAnswer (query shown) db params rows → rows ≡ map shown_of (page_of kind from to limit offset ps)
+    pub answered_page : (db : Trees) (rows : List Row) (ps : List Post) → db 0 ≡ map row_of ps → IsTable (db 0) → IsAnswer (query shown) db params rows
+        → rows ≡ map shown_of (page_of kind from to limit offset ps)
     answered_page db rows ps are up a =
         let ls : List Post = filter (is_listed kind from to) ps in
         let outs : map shows (filter passes (db 0)) ≡ map out ls = ap (λ l. map shows (filter passes l)) are ∙ listed_rows ps in
-        let distinct : IsDistinct (eq_by_cmp (output_cmp (query shown))) (map out ls) = apart ls (rising_filter (is_listed kind from to) ps (rising_from ps (subst IsTable are up))) in
-        let all = reading.answer_is 0 wheres shown [] orders (col 0 3) (col 0 4) db params rows a (subst (IsDistinct (eq_by_cmp (output_cmp (query shown)))) (sym outs) distinct) in
+        let distinct : IsDistinct (eq_by_cmp (output_cmp (query shown))) (map out ls) = apart ls
+        (rising_filter (is_listed kind from to) ps (rising_from ps (subst IsTable are up))) in
+        let all = reading.answer_is 0 wheres shown [] orders (col 0 3) (col 0 4) db params rows a
+        (subst (IsDistinct (eq_by_cmp (output_cmp (query shown)))) (sym outs) distinct) in
         all ∙ ap (λ l. page (query shown) params (map (λ (o : Output). o.1) (sorted (output_cmp (query shown)) l))) outs
         ∙ ap (λ l. page (query shown) params (map (λ (o : Output). o.1) l)) (sym (sorted_mapped newest (output_cmp (query shown)) out newest_is ls))
         ∙ ap (page (query shown) params) (first_shown (sorted newest ls))
@@ -224,12 +237,15 @@ module _ (kind : PostKind) (from to : List ℕ) (limit offset : ℕ) where
         ∙ take-map shown_of limit (drop offset (sorted newest ls))
 
 -- what the statement answers over the tables of a site
-page_read : (old new : Held MemStore) (kind : PostKind) (from to : List ℕ) (limit offset : ℕ) (rows : List Row) → IsSite old → Shown page_text (params kind from to limit offset) (state over_memory old) (state over_memory new) rows
+page_read : (old new : Held MemStore) (kind : PostKind) (from to : List ℕ) (limit offset : ℕ) (rows : List Row) → IsSite old
+    → Shown page_text (params kind from to limit offset) (state over_memory old) (state over_memory new) rows
     → rows ≡ map shown_post (page_of kind from to limit offset (rows_of old).posts)
 page_read old new kind from to limit offset rows is h =
-    let read = reads_as page_text (params kind from to limit offset) (state over_memory old) (state over_memory new) site_schema is.holds.schema_is (Select (record { lets = []; body = query projects }) names) page_is.0 page_plain page_is.1 rows h in
+    let read = reads_as page_text (params kind from to limit offset) (state over_memory old) (state over_memory new) site_schema is.holds.schema_is
+    (Select (record { lets = []; body = query projects }) names) page_is.0 page_plain page_is.1 rows h in
     let posts = is.holds.sound.posts in
-    answered_page kind from to limit offset projects (overlay (trees_of old) []) rows (map post_in (trees_of old 0)) (rows_are (trees_of old 0) posts.each) posts.ordered (read.answer Null)
+    answered_page kind from to limit offset projects (overlay (trees_of old) []) rows (map post_in (trees_of old 0)) (rows_are (trees_of old 0) posts.each)
+    posts.ordered (read.answer Null)
 
 -- ---- that its rows can be read
 
@@ -294,7 +310,8 @@ paged_from kind from to limit offset ps p h =
     (has_filtered (is_listed kind from to) ps p (sorted_had newest newest_total listed p whole)).0
 
 pub page_readable : (old new : Held MemStore) (kind : PostKind) (from to : List ℕ) (limit offset : ℕ) (r : Result (Vec Row Global) Error) → IsSite old
-    → IfOk r (λ rows. Shown page_text (params kind from to limit offset) (state over_memory old) (state over_memory new) rows.items) → IfOk r (λ rows. All IsPostRow rows.items)
+    → IfOk r (λ rows. Shown page_text (params kind from to limit offset) (state over_memory old) (state over_memory new) rows.items)
+    → IfOk r (λ rows. All IsPostRow rows.items)
 page_readable old new kind from to limit offset (Err e) is ok = tt
 page_readable old new kind from to limit offset (Ok rows) is ok =
     all_shown rows.items (page_of kind from to limit offset (rows_of old).posts) (page_read old new kind from to limit offset rows.items is ok)
@@ -304,4 +321,5 @@ pub page_rows : (old new : Held MemStore) (kind : PostKind) (from to : List ℕ)
     → IfOk r (λ rows. Shown page_text (params kind from to limit offset) (state over_memory old) (state over_memory new) rows.items)
     → IfOk r (λ rows. map post_from rows.items ≡ page_of kind from to limit offset (rows_of old).posts)
 page_rows old new kind from to limit offset (Err e) is ok = tt
-page_rows old new kind from to limit offset (Ok rows) is ok = ap (map post_from) (page_read old new kind from to limit offset rows.items is ok) ∙ posts_back (page_of kind from to limit offset (rows_of old).posts)
+page_rows old new kind from to limit offset (Ok rows) is ok = ap (map post_from) (page_read old new kind from to limit offset rows.items is ok)
+    ∙ posts_back (page_of kind from to limit offset (rows_of old).posts)

@@ -46,7 +46,8 @@ ids_text = codes "SELECT id FROM post WHERE kind = ?1 AND status = 'publish' AND
 abbrev names : List (List ℕ)
 names = codes "id" ∷ []
 
-ids_are : (command_of (understood site_schema ids_text) ≡ Select (record { lets = []; body = query shown }) names) × (reads_listing site_schema ids_text ≡ false)
+ids_are : (command_of (understood site_schema ids_text) ≡ Select (record { lets = []; body = query shown }) names)
+    × (reads_listing site_schema ids_text ≡ false)
 unfolding understood everything
 ids_are = (refl, refl)
 
@@ -78,12 +79,15 @@ shown_id p = Int (pos p.id) ∷ []
 abbrev pub id_of : Row → ℕ
 id_of r = magnitude (id_in (column r 0))
 
-ids_read : (old new : Held MemStore) (kind : PostKind) (from to : List ℕ) (limit offset : ℕ) (rows : List Row) → IsSite old → Shown ids_text (params kind from to limit offset) (state over_memory old) (state over_memory new) rows
+ids_read : (old new : Held MemStore) (kind : PostKind) (from to : List ℕ) (limit offset : ℕ) (rows : List Row) → IsSite old
+    → Shown ids_text (params kind from to limit offset) (state over_memory old) (state over_memory new) rows
     → rows ≡ map shown_id (page_of kind from to limit offset (rows_of old).posts)
 ids_read old new kind from to limit offset rows is h =
-    let read = reads_as ids_text (params kind from to limit offset) (state over_memory old) (state over_memory new) site_schema is.holds.schema_is (Select (record { lets = []; body = query shown }) names) ids_are.0 ids_plain ids_are.1 rows h in
+    let read = reads_as ids_text (params kind from to limit offset) (state over_memory old) (state over_memory new) site_schema is.holds.schema_is
+    (Select (record { lets = []; body = query shown }) names) ids_are.0 ids_plain ids_are.1 rows h in
     let posts = is.holds.sound.posts in
-    answered_page kind from to limit offset shown (overlay (trees_of old) []) rows (map post_in (trees_of old 0)) (rows_are (trees_of old 0) posts.each) posts.ordered (read.answer Null)
+    answered_page kind from to limit offset shown (overlay (trees_of old) []) rows (map post_in (trees_of old 0)) (rows_are (trees_of old 0) posts.each)
+    posts.ordered (read.answer Null)
 
 ids_back : (ps : List Post) → map id_of (map shown_id ps) ≡ map (λ p. p.id) ps
 ids_back [] = refl
@@ -94,17 +98,22 @@ shown_ids [] each = tt
 shown_ids (p ∷ ps) each = ((p.id, refl, (each p (inl refl)).id), shown_ids ps (λ q h. each q (inr h)))
 
 module _ (old new : Held MemStore) (kind : PostKind) (from to : List ℕ) (limit offset : ℕ) where
-  pub ids_readable : (r : Result (Vec Row Global) Error) → IsSite old → IfOk r (λ rows. Shown ids_text (params kind from to limit offset) (state over_memory old) (state over_memory new) rows.items)
+  pub ids_readable : (r : Result (Vec Row Global) Error) → IsSite old
+      → IfOk r (λ rows. Shown ids_text (params kind from to limit offset) (state over_memory old) (state over_memory new) rows.items)
       → IfOk r (λ rows. All (λ r. IsId (column r 0)) rows.items)
   ids_readable (Err e) is ok = tt
   ids_readable (Ok rows) is ok =
-      let each = shown_ids (page_of kind from to limit offset (rows_of old).posts) (λ p h. each_readable (trees_of old 0) is.holds.sound.posts p (paged_from kind from to limit offset (rows_of old).posts p h)) in
-      All-from_recursion (λ r. IsId (column r 0)) rows.items (subst (AllByRecursion (λ r. IsId (column r 0))) (sym (ids_read old new kind from to limit offset rows.items is ok)) each)
+      let each = shown_ids (page_of kind from to limit offset (rows_of old).posts)
+      (λ p h. each_readable (trees_of old 0) is.holds.sound.posts p (paged_from kind from to limit offset (rows_of old).posts p h)) in
+      All-from_recursion (λ r. IsId (column r 0)) rows.items (subst (AllByRecursion (λ r. IsId (column r 0)))
+      (sym (ids_read old new kind from to limit offset rows.items is ok)) each)
 
-  pub ids_rows : (r : Result (Vec Row Global) Error) → IsSite old → IfOk r (λ rows. Shown ids_text (params kind from to limit offset) (state over_memory old) (state over_memory new) rows.items)
+  pub ids_rows : (r : Result (Vec Row Global) Error) → IsSite old
+      → IfOk r (λ rows. Shown ids_text (params kind from to limit offset) (state over_memory old) (state over_memory new) rows.items)
       → IfOk r (λ rows. map id_of rows.items ≡ map (λ p. p.id) (page_of kind from to limit offset (rows_of old).posts))
   ids_rows (Err e) is ok = tt
-  ids_rows (Ok rows) is ok = ap (map id_of) (ids_read old new kind from to limit offset rows.items is ok) ∙ ids_back (page_of kind from to limit offset (rows_of old).posts)
+  ids_rows (Ok rows) is ok = ap (map id_of) (ids_read old new kind from to limit offset rows.items is ok)
+      ∙ ids_back (page_of kind from to limit offset (rows_of old).posts)
 
 -- ---- the posts with these IDs
 
@@ -114,17 +123,22 @@ found_of ps id = option_to_list (post_with id ps)
 found_each : (ps page : List Post) → ((p : Post) → Has page p → post_with p.id ps ≡ Some p) → flat_map (found_of ps) (map (λ p. p.id) page) ≡ page
 found_each ps [] each = refl
 found_each ps (p ∷ page) each =
-    ap (λ o. option_to_list o ++ flat_map (found_of ps) (map (λ q. q.id) page)) (each p (inl refl)) ∙ ap (λ l. p ∷ l) (found_each ps page (λ q h. each q (inr h)))
+    ap (λ o. option_to_list o ++ flat_map (found_of ps) (map (λ q. q.id) page)) (each p (inl refl))
+    ∙ ap (λ l. p ∷ l) (found_each ps page (λ q h. each q (inr h)))
 
-part_by_ids : (h : Held MemStore) (is : IsSite h) (kind : PostKind) (from to : List ℕ) (limit offset : ℕ) (ids : List Row) → map id_of ids ≡ map (λ p. p.id) (page_of kind from to limit offset (rows_of h).posts)
+part_by_ids : (h : Held MemStore) (is : IsSite h) (kind : PostKind) (from to : List ℕ) (limit offset : ℕ) (ids : List Row)
+    → map id_of ids ≡ map (λ p. p.id) (page_of kind from to limit offset (rows_of h).posts)
     → flat_map (λ r. found_of (rows_of h).posts (id_of r)) ids ≡ page_of kind from to limit offset (rows_of h).posts
 part_by_ids h is kind from to limit offset ids are =
     let ps : List Post = (rows_of h).posts in
-    sym (flat_map-map (found_of ps) id_of ids) ∙ ap (flat_map (found_of ps)) are ∙ found_each ps (page_of kind from to limit offset ps) (λ p there. found_in_part kind from to limit offset ps (site_rises h is) p there)
+    sym (flat_map-map (found_of ps) id_of ids) ∙ ap (flat_map (found_of ps)) are
+    ∙ found_each ps (page_of kind from to limit offset ps) (λ p there. found_in_part kind from to limit offset ps (site_rises h is) p there)
 
--- so what they give is the part, where the tables are still as they were
-pub part_given : (h mid : Held MemStore) (is : IsSite h) (kind : PostKind) (from to : List ℕ) (limit offset : ℕ) (ids : List Row) → rows_of mid ≡ rows_of h → map id_of ids ≡ map (λ p. p.id) (page_of kind from to limit offset (rows_of h).posts)
-    → (r : Result (Vec Post Global) TablesFault) → IfOk r (λ posts. posts.items ≡ flat_map (λ r. found_of (rows_of mid).posts (id_of r)) ids) → IfOk r (λ posts. posts.items ≡ page_of kind from to limit offset (rows_of h).posts)
+-- so what they give is the part, if the tables are still as they were
+pub part_given : (h mid : Held MemStore) (is : IsSite h) (kind : PostKind) (from to : List ℕ) (limit offset : ℕ) (ids : List Row) → rows_of mid ≡ rows_of h
+    → map id_of ids ≡ map (λ p. p.id) (page_of kind from to limit offset (rows_of h).posts)
+    → (r : Result (Vec Post Global) TablesFault) → IfOk r (λ posts. posts.items ≡ flat_map (λ r. found_of (rows_of mid).posts (id_of r)) ids)
+    → IfOk r (λ posts. posts.items ≡ page_of kind from to limit offset (rows_of h).posts)
 part_given h mid is kind from to limit offset ids same are (Err e) given = tt
 part_given h mid is kind from to limit offset ids same are (Ok posts) given =
     given ∙ ap (λ s. flat_map (λ r. found_of s.posts (id_of r)) ids) same ∙ part_by_ids h is kind from to limit offset ids are

@@ -40,7 +40,8 @@ ids_rise (p ∷ ps) up = (below ps up.0, ids_rise ps up.1)
 -- the post that has an ID is the one that is found by it
 pub found_by_id : (ps : List Post) (p : Post) → Rising ps → Has ps p → post_with p.id ps ≡ Some p
 found_by_id [] p up h = absurd h
-found_by_id (q ∷ ps) p up (inl same) = subst (λ (x : Post). post_with x.id (q ∷ ps) ≡ Some x) (sym same) (let itself : (q.id == q.id) ≡ true = grind (arith, nat_tests) in rw itself refl)
+found_by_id (q ∷ ps) p up (inl same) = subst (λ (x : Post). post_with x.id (q ∷ ps) ≡ Some x) (sym same)
+    (let itself : (q.id == q.id) ≡ true = grind (arith, nat_tests) in rw itself refl)
 found_by_id (q ∷ ps) p up (inr later) =
     let less = all_has _ ps p up.0 later in
     let other : (q.id == p.id) ≡ false = grind (arith, nat_tests) in
@@ -81,28 +82,34 @@ taken_rises zero ps up = tt
 taken_rises (suc n) [] up = tt
 taken_rises (suc n) (p ∷ ps) up = (all_taken _ n ps up.0, taken_rises n ps up.1)
 
-pub part_rises : (kind : PostKind) (from to : List ℕ) (limit offset : ℕ) (ps : List Post) → Rising ps → IsStrictlySortedBy newest (page_of kind from to limit offset ps)
+pub part_rises : (kind : PostKind) (from to : List ℕ) (limit offset : ℕ) (ps : List Post) → Rising ps
+    → IsStrictlySortedBy newest (page_of kind from to limit offset ps)
 part_rises kind from to limit offset ps up =
     let listed : List Post = filter (is_listed kind from to) ps in
-    taken_rises limit (drop offset (sorted newest listed)) (left_rises offset (sorted newest listed) (sorted_rises newest newest_total listed (apart listed (rising_filter (is_listed kind from to) ps up))))
+    taken_rises limit (drop offset (sorted newest listed)) (left_rises offset (sorted newest listed)
+    (sorted_rises newest newest_total listed (apart listed (rising_filter (is_listed kind from to) ps up))))
 
 -- ---- a part has posts of the list alone
 
 abbrev pub IsOf : PostKind → (from to : List ℕ) → List Post → Post → Type 0
 IsOf kind from to ps p = (is_listed kind from to p ≡ true) × (post_with p.id ps ≡ Some p)
 
-part_has : (kind : PostKind) (from to : List ℕ) (limit offset : ℕ) (ps : List Post) → Rising ps → (p : Post) → Has (page_of kind from to limit offset ps) p → IsOf kind from to ps p
+part_has : (kind : PostKind) (from to : List ℕ) (limit offset : ℕ) (ps : List Post) → Rising ps → (p : Post) → Has (page_of kind from to limit offset ps) p
+    → IsOf kind from to ps p
 part_has kind from to limit offset ps up p h =
     let listed : List Post = filter (is_listed kind from to) ps in
     let whole = has_left offset (sorted newest listed) p (has_taken limit (drop offset (sorted newest listed)) p h) in
     let there = has_filtered (is_listed kind from to) ps p (sorted_had newest newest_total listed p whole) in
     (there.1, found_by_id ps p up there.0)
 
-pub part_is_of : (kind : PostKind) (from to : List ℕ) (limit offset : ℕ) (ps : List Post) → Rising ps → All (IsOf kind from to ps) (page_of kind from to limit offset ps)
-part_is_of kind from to limit offset ps up = All-from_recursion (IsOf kind from to ps) (page_of kind from to limit offset ps) (all_from (IsOf kind from to ps) (page_of kind from to limit offset ps) (part_has kind from to limit offset ps up))
+pub part_is_of : (kind : PostKind) (from to : List ℕ) (limit offset : ℕ) (ps : List Post) → Rising ps
+    → All (IsOf kind from to ps) (page_of kind from to limit offset ps)
+part_is_of kind from to limit offset ps up = All-from_recursion (IsOf kind from to ps) (page_of kind from to limit offset ps)
+    (all_from (IsOf kind from to ps) (page_of kind from to limit offset ps) (part_has kind from to limit offset ps up))
 
 -- and each is the post that is found by its ID
-pub found_in_part : (kind : PostKind) (from to : List ℕ) (limit offset : ℕ) (ps : List Post) → Rising ps → (p : Post) → Has (page_of kind from to limit offset ps) p → post_with p.id ps ≡ Some p
+pub found_in_part : (kind : PostKind) (from to : List ℕ) (limit offset : ℕ) (ps : List Post) → Rising ps → (p : Post)
+    → Has (page_of kind from to limit offset ps) p → post_with p.id ps ≡ Some p
 found_in_part kind from to limit offset ps up p h = (part_has kind from to limit offset ps up p h).1
 
 -- ---- the posts of a site

@@ -27,11 +27,13 @@ use Rattle.post_tables.proofs.PageLemmas.{kind_back, status_back, Rising}
 pub post_back : (p : Post) → post_in (row_of p) ≡ p
 post_back p i = record p { kind = kind_back p.kind i; status = status_back p.status i }
 
-pub same_posts : (p : Post) (rows : List Row) → ((r : Row) → Has rows r → r ≡ row_of (post_in r)) → is_taken rows (row_of p) ≡ false → map post_in (put_row (row_of p) rows) ≡ with_post p (map post_in rows)
+pub same_posts : (p : Post) (rows : List Row) → ((r : Row) → Has rows r → r ≡ row_of (post_in r)) → is_taken rows (row_of p) ≡ false
+    → map post_in (put_row (row_of p) rows) ≡ with_post p (map post_in rows)
 same_posts p [] each free = ap (λ q. q ∷ []) (post_back p)
 same_posts p (r ∷ rows) each free =
     let q : Post = post_in r in
-    let cmp : value_cmp (rowid r) (Int (pos p.id)) ≡ nat_cmp q.id p.id = ap (λ x. value_cmp (rowid x) (Int (pos p.id))) (each r (inl refl)) ∙ value_cmp-Int (pos q.id) (pos p.id) ∙ pos_cmp q.id p.id in
+    let cmp : value_cmp (rowid r) (Int (pos p.id)) ≡ nat_cmp q.id p.id = ap (λ x. value_cmp (rowid x) (Int (pos p.id))) (each r (inl refl))
+    ∙ value_cmp-Int (pos q.id) (pos p.id) ∙ pos_cmp q.id p.id in
     let parts = or_parts _ _ free in
     elim (cases_Bool (nat_lt q.id p.id)) [
       | inl below ↦ rw (cmp, below) (ap (λ l. q ∷ l) (same_posts p rows (λ x h. each x (inr h)) parts.1))
@@ -46,13 +48,23 @@ same_posts p (r ∷ rows) each free =
 pub still_posts : (p : Post) → IsReadable p → (rows : List Row) → ArePosts rows → ArePosts (put_row (row_of p) rows)
 still_posts p good rows ok = record {
   ordered = IsTable-put_row (row_of p) rows ok.ordered;
-  each = λ r h. elim (put_has (row_of p) rows r h) [ inl same ↦ subst (λ x. x ≡ row_of (post_in x)) (sym same) (ap row_of (sym (post_back p))) | inr was ↦ ok.each r was ];
-  readable = λ r h. elim (put_has (row_of p) rows r h) [ inl same ↦ subst (λ x. IsReadable (post_in x)) (sym same) (subst IsReadable (sym (post_back p)) good) | inr was ↦ ok.readable r was ];
+  each = λ r h. elim (put_has (row_of p) rows r h) [
+    | inl same ↦ subst (λ x. x ≡ row_of (post_in x)) (sym same) (ap row_of (sym (post_back p)))
+    | inr was ↦
+        ok.each r was
+  ];
+  readable = λ r h. elim (put_has (row_of p) rows r h) [
+    | inl same ↦ subst (λ x. IsReadable (post_in x)) (sym same) (subst IsReadable (sym (post_back p)) good)
+    | inr was ↦ ok.readable r was
+  ];
 }
 
-pub mapped_filter : (id : ℕ) (p : Row → Bool) (rows : List Row) → ((r : Row) → Has rows r → p r ≡ ((post_in r).id == id)) → map post_in (filter (λ r. not (p r)) rows) ≡ without_post id (map post_in rows)
+pub mapped_filter : (id : ℕ) (p : Row → Bool) (rows : List Row) → ((r : Row) → Has rows r → p r ≡ ((post_in r).id == id))
+    → map post_in (filter (λ r. not (p r)) rows) ≡ without_post id (map post_in rows)
 mapped_filter id p [] same = refl
-mapped_filter id p (r ∷ rows) same = rw (same r (inl refl)) (elim ((post_in r).id == id) as (λ b. map post_in (cond (not b) (r ∷ filter (λ x. not (p x)) rows) (filter (λ x. not (p x)) rows)) ≡ cond (not b) (post_in r ∷ without_post id (map post_in rows)) (without_post id (map post_in rows)))
+mapped_filter id p (r ∷ rows) same = rw (same r (inl refl)) (elim ((post_in r).id == id) as
+    (λ b. map post_in (cond (not b) (r ∷ filter (λ x. not (p x)) rows) (filter (λ x. not (p x)) rows))
+    ≡ cond (not b) (post_in r ∷ without_post id (map post_in rows)) (without_post id (map post_in rows)))
     [ true ↦ mapped_filter id p rows (λ x h. same x (inr h)) | false ↦ ap (λ l. post_in r ∷ l) (mapped_filter id p rows (λ x h. same x (inr h))) ])
 
 pub none_has : (id : ℕ) (rows : List Row) → ((r : Row) → Has rows r → ((post_in r).id == id) ≡ false) → has_post id (map post_in rows) ≡ false
@@ -69,7 +81,7 @@ some_posts p rows ok = record {
   readable = λ r h. ok.readable r (has_filtered p rows r h).0;
 }
 
--- where none has the ID, all stay
+-- if none has the ID, all stay
 pub none_without : (id : ℕ) (ps : List Post) → has_post id ps ≡ false → without_post id ps ≡ ps
 none_without id [] none = refl
 none_without id (p ∷ ps) none =
@@ -82,8 +94,10 @@ filter_none p [] each = refl
 filter_none p (r ∷ rows) each = rw (each r (inl refl)) (filter_none p rows (λ x h. each x (inr h)))
 
 -- one row has the rowid, or none
-pub one_or_none : (p : Row → Bool) (id : ℕ) (rows : List Row) → IsTable rows → ((r : Row) → Has rows r → r ≡ row_of (post_in r)) → ((r : Row) → Has rows r → p r ≡ ((post_in r).id == id))
-    → ((filter p rows ≡ []) × (post_with id (map post_in rows) ≡ None)) ⊎ ((r : Row) × Has rows r × (filter p rows ≡ r ∷ []) × (post_with id (map post_in rows) ≡ Some (post_in r)) × ((post_in r).id ≡ id))
+pub one_or_none : (p : Row → Bool) (id : ℕ) (rows : List Row) → IsTable rows → ((r : Row) → Has rows r → r ≡ row_of (post_in r))
+    → ((r : Row) → Has rows r → p r ≡ ((post_in r).id == id))
+    → ((filter p rows ≡ []) × (post_with id (map post_in rows) ≡ None))
+    ⊎ ((r : Row) × Has rows r × (filter p rows ≡ r ∷ []) × (post_with id (map post_in rows) ≡ Some (post_in r)) × ((post_in r).id ≡ id))
 one_or_none p id [] up each tests = inl (refl, refl)
 one_or_none p id (x ∷ rows) up each tests = elim (cases_Bool ((post_in x).id == id)) [
   | inl here ↦
@@ -94,7 +108,8 @@ one_or_none p id (x ∷ rows) up each tests = elim (cases_Bool ((post_in x).id =
       let less : value_cmp (rowid x) (rowid y) ≡ Less = all_has _ rows y up.0 h in
       let at_x : rowid x ≡ Int (pos id) = ap rowid (each x (inl refl)) ∙ ap (λ n. Int (pos n)) is in
       let at_y : rowid y ≡ Int (pos id) = ap rowid (each y (inr h)) ∙ ap (λ n. Int (pos n)) also in
-      let tie : value_cmp (rowid x) (rowid y) ≡ Equal = ap (λ v. value_cmp v (rowid y)) at_x ∙ ap (value_cmp (Int (pos id))) at_y ∙ tied_itself value_cmp_total (Int (pos id)) in
+      let tie : value_cmp (rowid x) (rowid y) ≡ Equal = ap (λ v. value_cmp v (rowid y)) at_x ∙ ap (value_cmp (Int (pos id))) at_y
+      ∙ tied_itself value_cmp_total (Int (pos id)) in
       absurd cc)) in
       let passed : p x ≡ true = tests x (inl refl) ∙ here in
       inr (x, inl refl, rw passed (ap (λ l. x ∷ l) others), rw here refl, is)
@@ -109,7 +124,7 @@ one_or_none p id (x ∷ rows) up each tests = elim (cases_Bool ((post_in x).id =
 -- ---- an edit of one post
 
 module _ (id : ℕ) (e : PostEdit) where
-  -- where none has the ID, all stay
+  -- if none has the ID, all stay
   pub none_edited : (ps : List Post) → post_with id ps ≡ None → edited_posts id e ps ≡ ps
   none_edited [] none = refl
   none_edited (p ∷ ps) none = elim (cases_Bool (p.id == id)) [
@@ -124,7 +139,8 @@ module _ (id : ℕ) (e : PostEdit) where
 
   above_without : (ps : List Post) → AllByRecursion (λ q. nat_cmp id q.id ≡ Less) ps → without_post id ps ≡ ps
   above_without [] up = refl
-  above_without (p ∷ ps) up = let first = up.0 in let other : (p.id == id) ≡ false = grind (arith, nat_tests) in rw other (ap (λ l. p ∷ l) (above_without ps up.1))
+  above_without (p ∷ ps) up = let first = up.0 in let other : (p.id == id)
+      ≡ false = grind (arith, nat_tests) in rw other (ap (λ l. p ∷ l) (above_without ps up.1))
 
   above_first : (p : Post) (ps : List Post) → p.id ≡ id → AllByRecursion (λ q. nat_cmp id q.id ≡ Less) ps → with_post p ps ≡ p ∷ ps
   above_first p [] is up = refl
@@ -153,7 +169,8 @@ module _ (id : ℕ) (e : PostEdit) where
       found_has : (xs : List Post) (y : Post) → post_with id xs ≡ Some y → Has xs y × (y.id ≡ id)
       found_has [] y none = absurd (let n = none in cc)
       found_has (x ∷ xs) y some = elim (cases_Bool (x.id == id)) [
-        | inl this ↦ let same : x ≡ y = some_same (rw this at some) in let is : x.id ≡ id = grind (arith, nat_tests) in (inl (sym same), ap (λ (z : Post). z.id) (sym same) ∙ is)
+        | inl this ↦ let same : x ≡ y = some_same (rw this at some) in let is : x.id
+            ≡ id = grind (arith, nat_tests) in (inl (sym same), ap (λ (z : Post). z.id) (sym same) ∙ is)
         | inr that ↦ let rest = found_has xs y (rw that at some) in (inr rest.0, rest.1)
       ]
 

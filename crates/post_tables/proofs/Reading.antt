@@ -1,4 +1,4 @@
--- What a query on one table answers, where ORDER BY leaves no tie.
+-- What a query on one table answers, if ORDER BY leaves no tie.
 use Rattle.std.proofs.Common.{◌≡◌, inl, inr, ℕ, List, [], ◌∷◌, ◌++◌, map, flat_map, filter, Bool, true, false, cond, None, refl, ap, subst, ◌∙◌}
 use Rattle.std.specs.List.{list_all, IsDistinct}
 use Rattle.std.specs.List.Sorted.{IsPermutation}
@@ -16,7 +16,18 @@ use Rattle.post_tables.proofs.SortLemmas.{in_order}
 
 module _ (t : ℕ) (where_ : List Term) (project : List Term) (collations : List Collation) (order : List (Term × Key)) (limit offset : Term) where
   abbrev pub query : Query
-  query = record { from = inner t end; filter = where_; group = None; project = project; distinct = false; collations = collations; order = order; limit = limit; offset = offset }
+  query = record {
+    from = inner t end;
+    filter = where_;
+    group = None;
+    project = project;
+    distinct = false;
+    collations = collations;
+    order = order;
+    limit =
+        limit;
+    offset = offset;
+  }
 
   module _ (db : Trees) (params : Row) where
     abbrev pub passes : Row → Bool
@@ -35,7 +46,8 @@ module _ (t : ℕ) (where_ : List Term) (project : List Term) (collations : List
 
     all_matches : (rows : List Row) → flat_map (λ r. cond (passes r) (env r ∷ []) []) rows ≡ map env (filter passes rows)
     all_matches [] = refl
-    all_matches (r ∷ rows) = elim (passes r) as (λ b. cond b (env r ∷ []) [] ++ flat_map (λ x. cond (passes x) (env x ∷ []) []) rows ≡ map env (cond b (r ∷ filter passes rows) (filter passes rows)))
+    all_matches (r ∷ rows) = elim (passes r) as (λ b. cond b (env r ∷ []) [] ++ flat_map (λ x. cond (passes x) (env x ∷ []) []) rows
+        ≡ map env (cond b (r ∷ filter passes rows) (filter passes rows)))
         [ true ↦ ap (λ l. env r ∷ l) (all_matches rows) | false ↦ all_matches rows ]
 
     shown_all : (rows : List Row) → map (output query) (map env rows) ≡ map (λ r. output query (env r)) rows
@@ -50,6 +62,7 @@ module _ (t : ℕ) (where_ : List Term) (project : List Term) (collations : List
       pub some_order : IsPermutation outputs a.ordered
       some_order = subst (λ k. IsPermutation k a.ordered) kept_is a.same
 
-      -- and where no two tie, in the one order
+      -- and if no two tie, in the one order
       pub answer_is : IsDistinct (eq_by_cmp (output_cmp query)) outputs → rows ≡ page query params (map (λ o. o.1) (sorted (output_cmp query) outputs))
-      answer_is apart = a.shown ∙ ap (λ os. page query params (map (λ (o : Output). o.1) os)) (in_order (output_cmp query) (output_cmp_total query) outputs a.ordered some_order apart a.sorted)
+      answer_is apart = a.shown ∙ ap (λ os. page query params (map (λ (o : Output). o.1) os))
+          (in_order (output_cmp query) (output_cmp_total query) outputs a.ordered some_order apart a.sorted)

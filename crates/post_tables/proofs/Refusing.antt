@@ -80,7 +80,8 @@ module _ (old new : Held MemStore) where
     not_run e (inl refused) = absurd (a_statement e refused.0)
     not_run e (inr broke) = store_failed e broke
 
-    read : (e : Error) → RefusesToRead old.step_limit (Select (record { lets = []; body = safe.query }) safe.names) (record { schema = site_schema; trees = (state over_memory old).now.trees }) given e → IsStopped old.step_limit e
+    read : (e : Error) → RefusesToRead old.step_limit (Select (record { lets = []; body = safe.query }) safe.names)
+        (record { schema = site_schema; trees = (state over_memory old).now.trees }) given e → IsStopped old.step_limit e
     read e (inl mismatch) = absurd (true≢false (sym safe.typed ∙ mismatch.1))
     read e (inr (inl sum)) = absurd (safe.sums _ sum.1)
     read e (inr (inr late)) = inr late
@@ -92,8 +93,10 @@ module _ (old new : Held MemStore) where
         let known : Ok h.0 ≡ understood site_schema sql = sym h.1.is ∙ understood_is in
         let bare = subst IsPlain (sym known) safe.plain in
         let it = rw (bare.0, bare.1, append-nil given) at h.2 in
-        let db : it.0 ≡ (state over_memory old).now = subst (λ b. IsSourceOf b (state over_memory old).now it.0) (ap (λ s. reads_listing s sql) has ∙ safe.unlisted) it.1 in
-        let same : it.0 ≡ record { schema = site_schema; trees = (state over_memory old).now.trees } = db ∙ ap (λ s. record { schema = s; trees = (state over_memory old).now.trees }) has in
+        let db : it.0 ≡ (state over_memory old).now = subst (λ b. IsSourceOf b (state over_memory old).now it.0)
+        (ap (λ s. reads_listing s sql) has ∙ safe.unlisted) it.1 in
+        let same : it.0 ≡ record { schema = site_schema; trees = (state over_memory old).now.trees } = db
+        ∙ ap (λ s. record { schema = s; trees = (state over_memory old).now.trees }) has in
         read e (subst₂ (λ k d. RefusesToRead old.step_limit k d given e) (ap command_of known ∙ safe.is) same it.2)
 
 -- a result of a query
@@ -104,7 +107,7 @@ read_stopped old new sql given safe is (Err e) err = stopped old new sql given s
 
 -- ---- columns
 
--- a column that can be read is refused only where an allocation failed
+-- a column that can be read is refused only if an allocation failed
 pub column_memory : (R : Type 0) (at : ℕ) (v : Value) (e : Error) → IsReadError at v e → (e ≢ no_memory → ¬ R) → R → e ≡ no_memory
 column_memory R at v e (inl is) unread can = absurd (unread (λ same. let clash = sym is ∙ same in cc) can)
 column_memory R at v e (inr (inl is)) unread can = absurd (unread (λ same. let clash = sym is ∙ same in cc) can)

@@ -44,7 +44,8 @@ module _ {V : Type 0} {rest : V → Row} {value_in : Row → V} (k : NamedTable 
     abbrev job : Task
     job = record { limit = limit; keys = keys; schema = site_schema; table = table; params = params }
 
-    judged : (new : Row) (db : Trees) (one : Written) (verdict : Option Refusal) → Judged job Replace [] new db verdict (Ok one) → Upserts job Replace new db [] (Ok one)
+    judged : (new : Row) (db : Trees) (one : Written) (verdict : Option Refusal) → Judged job Replace [] new db verdict (Ok one)
+        → Upserts job Replace new db [] (Ok one)
     judged new db one None h = h
     judged new db one (Some why) h = absurd (let e = h in cc)
 
@@ -59,7 +60,8 @@ module _ {V : Type 0} {rest : V → Row} {value_in : Row → V} (k : NamedTable 
 
     -- and the new one is put in
     put : (db : Trees) (n : ℤ) (name : List ℕ) (v : V) (one : Written) → Puts job (Int n ∷ Text name ∷ rest v) db (Ok one)
-        → (one.trees k.tree ≡ put_row (Int n ∷ Text name ∷ rest v) (db k.tree)) × (is_taken (db k.tree) (Int n ∷ Text name ∷ rest v) ≡ false) × Others k.tree db one.trees
+        → (one.trees k.tree ≡ put_row (Int n ∷ Text name ∷ rest v) (db k.tree)) × (is_taken (db k.tree) (Int n ∷ Text name ∷ rest v) ≡ false)
+        × Others k.tree db one.trees
     put db n name v one h =
         let it = went h in
         let edit = edit_of db table [] Given 0 ((Int n ∷ Text name ∷ rest v) ∷ []) in
@@ -71,7 +73,8 @@ module _ {V : Type 0} {rest : V → Row} {value_in : Row → V} (k : NamedTable 
           subst (Others k.tree db) (sym same) done.tables,
         )
 
-    tried : (db : Trees) (name : List ℕ) (v : V) (one : Written) → Tries job Replace [] (put_in k (db k.tree) name v) db (Ok one) → IsReplaced k (db k.tree) (one.trees k.tree) name v × Others k.tree db one.trees
+    tried : (db : Trees) (name : List ℕ) (v : V) (one : Written) → Tries job Replace [] (put_in k (db k.tree) name v) db (Ok one)
+        → IsReplaced k (db k.tree) (one.trees k.tree) name v × Others k.tree db one.trees
     tried db name v one (inl unfit) = absurd (let e = unfit.1 in cc)
     tried db name v one (inr go) =
         let met = judged (put_in k (db k.tree) name v) db one go.0 go.2 in
@@ -87,7 +90,8 @@ module _ {V : Type 0} {rest : V → Row} {value_in : Row → V} (k : NamedTable 
         )
 
   -- the row of the statement is cast, and takes the next rowid
-  new_row : (top : ℤ) (rows : List Row) (name : List ℕ) (v : V) → with_rowid (rowids_for table top) rows (cast_row table (mended Replace table (Null ∷ Text name ∷ rest v))) ≡ put_in k rows name v
+  new_row : (top : ℤ) (rows : List Row) (name : List ℕ) (v : V)
+      → with_rowid (rowids_for table top) rows (cast_row table (mended Replace table (Null ∷ Text name ∷ rest v))) ≡ put_in k rows name v
   new_row top rows name v = rw (k.mend_is name v, cast_null, k.cast_is name v) refl
 
   -- ---- the statement
@@ -116,15 +120,18 @@ module _ {V : Type 0} {rest : V → Row} {value_in : Row → V} (k : NamedTable 
       let w = runs_as sql params s t site_schema holds.schema_is command x.is x.plain count h in
       let task = job s.step_limit Enforced params in
       let db = s.now.trees in
-      let does = subst (λ y. Does s.step_limit (mode_of s) params (record s.now { schema = y }) text None command (Ok (w.tally, t.now))) holds.schema_is w.changed in
+      let does = subst (λ y. Does s.step_limit (mode_of s) params (record s.now { schema = y }) text None command (Ok (w.tally, t.now))) holds.schema_is
+      w.changed in
       let done = went (rw k.here at does) in
       let now = ap (λ (p : Tally × Database). p.1) (same_value (went (went done.2).2).2) in
       let given = went done.1 in
       let counted = went given.2 in
       let top = count_of counted.0 in
       let all = went counted.2 in
-      let each : TriesEach task Replace [] ((Null ∷ Text name ∷ rest v) ∷ []) top (nothing db) (Ok all.0) = subst (λ rows. TriesEach task Replace [] rows top (nothing db) (Ok all.0)) (given.1.1 ∙ x.source name v) all.1 in
-      let one = went (subst (λ new. Then (Tries task Replace [] new db) (λ it. Gives (joined (nothing db) it, higher top new)) (Ok all.0)) (new_row top (db k.tree) name v) each) in
+      let each : TriesEach task Replace [] ((Null ∷ Text name ∷ rest v) ∷ []) top (nothing db) (Ok all.0) = subst
+      (λ rows. TriesEach task Replace [] rows top (nothing db) (Ok all.0)) (given.1.1 ∙ x.source name v) all.1 in
+      let one = went (subst (λ new. Then (Tries task Replace [] new db) (λ it. Gives (joined (nothing db) it, higher top new)) (Ok all.0))
+      (new_row top (db k.tree) name v) each) in
       let counts = went all.2 in
       let trees : done.0.trees ≡ one.0.trees =
       ap (λ (it : Written). it.trees) (same_value counts.2) ∙ same_value counts.1 ∙ ap (λ (p : Written × ℤ). p.0.trees) (same_value one.2) in

@@ -1,4 +1,4 @@
--- There is one way to put a list in order where no two elements tie.
+-- There is one way to put a list in order if no two elements tie.
 use Rattle.std.proofs.Common.{◌≡◌, ◌≢◌, ◌⊎◌, inl, inr, ◌+◌, get_or, List, [], ◌∷◌, map, false, Ordering, Less, Equal, Greater, refl, sym, ap, subst, ◌∙◌, arith, true≢false}
 use Rattle.std.specs.List.{IsDistinct}
 use Rattle.std.specs.List.Sorted.{IsSorted, IsPermutation, IsStrictlySortedBy}
@@ -39,7 +39,8 @@ module _ {X : Type 0} (R : X → X → Ordering) (o : IsTotalOrder R) where
   less_once x y p q = let e = o.antisymm x y ∙ ap ordering_reverse q in cc
 
   -- two lists that rise and have the same elements are one
-  pub same_elements : (xs ys : List X) → IsStrictlySortedBy R xs → IsStrictlySortedBy R ys → ((x : X) → Has xs x → Has ys x) → ((x : X) → Has ys x → Has xs x) → xs ≡ ys
+  pub same_elements : (xs ys : List X) → IsStrictlySortedBy R xs → IsStrictlySortedBy R ys → ((x : X) → Has xs x → Has ys x) → ((x : X) → Has ys x → Has xs x)
+      → xs ≡ ys
   unfolding IsStrictlySortedBy
   same_elements [] [] up vp there back = refl
   same_elements [] (y ∷ ys) up vp there back = absurd (back y (inl refl))
@@ -53,7 +54,11 @@ module _ {X : Type 0} (R : X → X → Ordering) (o : IsTotalOrder R) where
         ]
       ] in
       let rest : xs ≡ ys = same_elements xs ys up.1 vp.1
-      (λ z h. elim (there z (inr h)) [ inl same ↦ absurd (not_less x (subst (λ w. R x w ≡ Less) (same ∙ sym first) (all_has _ xs z up.0 h))) | inr later ↦ later ])
+      (λ z h. elim (there z (inr h)) [
+        | inl same ↦ absurd (not_less x (subst (λ w. R x w ≡ Less) (same ∙ sym first) (all_has _ xs z up.0 h)))
+        | inr later ↦
+            later
+      ])
       (λ z h. elim (back z (inr h)) [ inl same ↦ absurd (not_less y (subst (λ w. R y w ≡ Less) (same ∙ first) (all_has _ ys z vp.0 h))) | inr later ↦ later ])
       in λ i. first i ∷ rest i
 
@@ -61,7 +66,8 @@ module _ {X : Type 0} (R : X → X → Ordering) (o : IsTotalOrder R) where
   put_had x [] z h = h
   put_had x (y ∷ ys) z h = go (R x y) h (put_had x ys z)
     where
-      go : (r : Ordering) → Has (match_ordering r (x ∷ y ∷ ys) (x ∷ y ∷ ys) (y ∷ put_sorted R x ys)) z → (Has (put_sorted R x ys) z → (z ≡ x) ⊎ Has ys z) → (z ≡ x) ⊎ Has (y ∷ ys) z
+      go : (r : Ordering) → Has (match_ordering r (x ∷ y ∷ ys) (x ∷ y ∷ ys) (y ∷ put_sorted R x ys)) z → (Has (put_sorted R x ys) z → (z ≡ x) ⊎ Has ys z)
+          → (z ≡ x) ⊎ Has (y ∷ ys) z
       go Less here later = here
       go Equal here later = here
       go Greater (inl same) later = inr (inl same)
@@ -71,7 +77,8 @@ module _ {X : Type 0} (R : X → X → Ordering) (o : IsTotalOrder R) where
   put_has_it x [] z h = h
   put_has_it x (y ∷ ys) z h = go (R x y) h (put_has_it x ys z)
     where
-      go : (r : Ordering) → (z ≡ x) ⊎ Has (y ∷ ys) z → ((z ≡ x) ⊎ Has ys z → Has (put_sorted R x ys) z) → Has (match_ordering r (x ∷ y ∷ ys) (x ∷ y ∷ ys) (y ∷ put_sorted R x ys)) z
+      go : (r : Ordering) → (z ≡ x) ⊎ Has (y ∷ ys) z → ((z ≡ x) ⊎ Has ys z → Has (put_sorted R x ys) z)
+          → Has (match_ordering r (x ∷ y ∷ ys) (x ∷ y ∷ ys) (y ∷ put_sorted R x ys)) z
       go Less here later = here
       go Equal here later = here
       go Greater (inl same) later = inr (later (inl same))
@@ -92,12 +99,16 @@ module _ {X : Type 0} (R : X → X → Ordering) (o : IsTotalOrder R) where
   put_rises x [] up apart = (tt, tt)
   put_rises x (y ∷ ys) up apart = go (R x y) refl (apart y (inl refl)) (put_rises x ys up.1 (λ z h. apart z (inr h)))
     where
-      go : (r : Ordering) → R x y ≡ r → is_eq (R x y) ≡ false → IsStrictlySortedBy R (put_sorted R x ys) → IsStrictlySortedBy R (match_ordering r (x ∷ y ∷ ys) (x ∷ y ∷ ys) (y ∷ put_sorted R x ys))
+      go : (r : Ordering) → R x y ≡ r → is_eq (R x y) ≡ false → IsStrictlySortedBy R (put_sorted R x ys)
+          → IsStrictlySortedBy R (match_ordering r (x ∷ y ∷ ys) (x ∷ y ∷ ys) (y ∷ put_sorted R x ys))
       go Less e h later = ((e, all_from _ ys (λ z there. o.trans x y z e (all_has _ ys z up.0 there))), up)
       go Equal e h later = absurd (true≢false (sym (ap is_eq e) ∙ h))
       go Greater e h later =
-          let under : R y x ≡ Less = o.antisymm y x ∙ ap ordering_reverse e in
-          (all_from _ (put_sorted R x ys) (λ z there. elim (put_had x ys z there) [ inl same ↦ subst (λ w. R y w ≡ Less) (sym same) under | inr was ↦ all_has _ ys z up.0 was ]), later)
+          let under : R y x ≡ Less = o.antisymm y x ∙ ap ordering_reverse e in (
+            all_from _ (put_sorted R x ys) (λ z there. elim (put_had x ys z there)
+                [ inl same ↦ subst (λ w. R y w ≡ Less) (sym same) under | inr was ↦ all_has _ ys z up.0 was ]),
+            later,
+          )
 
   pub sorted_rises : (xs : List X) → IsDistinct (eq_by_cmp R) xs → IsStrictlySortedBy R (sorted R xs)
   unfolding IsStrictlySortedBy IsDistinct
@@ -111,16 +122,19 @@ module _ {X : Type 0} (R : X → X → Ordering) (o : IsTotalOrder R) where
       (λ z h. has_contained ys z (Contains-permutation xs ys z moved (contains_had xs z (sorted_had xs z h))))
 
 -- putting in order goes through a map that keeps the order
-put_mapped : {X Y : Type 0} (R : X → X → Ordering) (S : Y → Y → Ordering) (f : X → Y) → ((a b : X) → S (f a) (f b) ≡ R a b) → (x : X) (ys : List X) → map f (put_sorted R x ys) ≡ put_sorted S (f x) (map f ys)
+put_mapped : {X Y : Type 0} (R : X → X → Ordering) (S : Y → Y → Ordering) (f : X → Y) → ((a b : X) → S (f a) (f b) ≡ R a b) → (x : X) (ys : List X)
+    → map f (put_sorted R x ys) ≡ put_sorted S (f x) (map f ys)
 put_mapped R S f same x [] = refl
 put_mapped {X} {Y} R S f same x (y ∷ ys) = go (R x y) (same x y) (put_mapped R S f same x ys)
   where
     go : (r : Ordering) → S (f x) (f y) ≡ r → map f (put_sorted R x ys) ≡ put_sorted S (f x) (map f ys)
-        → map f (match_ordering r (x ∷ y ∷ ys) (x ∷ y ∷ ys) (y ∷ put_sorted R x ys)) ≡ match_ordering (S (f x) (f y)) (f x ∷ f y ∷ map f ys) (f x ∷ f y ∷ map f ys) (f y ∷ put_sorted S (f x) (map f ys))
+        → map f (match_ordering r (x ∷ y ∷ ys) (x ∷ y ∷ ys) (y ∷ put_sorted R x ys))
+        ≡ match_ordering (S (f x) (f y)) (f x ∷ f y ∷ map f ys) (f x ∷ f y ∷ map f ys) (f y ∷ put_sorted S (f x) (map f ys))
     go Less e later = rw e refl
     go Equal e later = rw e refl
     go Greater e later = rw e (ap (λ l. f y ∷ l) later)
 
-pub sorted_mapped : {X Y : Type 0} (R : X → X → Ordering) (S : Y → Y → Ordering) (f : X → Y) → ((a b : X) → S (f a) (f b) ≡ R a b) → (xs : List X) → map f (sorted R xs) ≡ sorted S (map f xs)
+pub sorted_mapped : {X Y : Type 0} (R : X → X → Ordering) (S : Y → Y → Ordering) (f : X → Y) → ((a b : X) → S (f a) (f b) ≡ R a b) → (xs : List X)
+    → map f (sorted R xs) ≡ sorted S (map f xs)
 sorted_mapped R S f same [] = refl
 sorted_mapped R S f same (x ∷ xs) = put_mapped R S f same x (sorted R xs) ∙ ap (put_sorted S (f x)) (sorted_mapped R S f same xs)

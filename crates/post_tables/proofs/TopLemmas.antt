@@ -1,4 +1,4 @@
--- What the query of the greatest ID answers.
+-- What the query of the largest ID answers.
 use Rattle.std.proofs.Common.{◌≡◌, ◌<◌, ◌^◌, ℕ, pos, negsuc, List, [], ◌∷◌, map, filter, Bool, true, false, codes, Ok, Err, Result, IfOk, Vec, refl, sym, ap, subst, ◌∙◌}
 use Rattle.std.specs.declared.alloc.Global.{Global}
 use Rattle.std.specs.List.{IsDistinct}
@@ -40,7 +40,8 @@ query = reading.query 1 wheres (col 1 2 ∷ []) [] [] (lit (Int (negsuc 0))) (li
 abbrev pub top_text : List ℕ
 top_text = codes "SELECT seq FROM sqlite_sequence WHERE name = 'post'"
 
-top_is : (command_of (understood site_schema top_text) ≡ Select (record { lets = []; body = query }) (codes "seq" ∷ [])) × (reads_listing site_schema top_text ≡ false)
+top_is : (command_of (understood site_schema top_text) ≡ Select (record { lets = []; body = query }) (codes "seq" ∷ []))
+    × (reads_listing site_schema top_text ≡ false)
 unfolding understood everything
 top_is = (refl, refl)
 
@@ -81,22 +82,26 @@ one_alone o = (tt, tt)
 answered : (db : Trees) (stored rows : List Row) → db 1 ≡ stored → IsCounter stored → IsAnswer query db [] rows → IsTop rows (top_in stored)
 answered db [] rows e is a =
     let none : map shows (filter passes (db 1)) ≡ [] = ap (λ l. map shows (filter passes l)) e in
-    let all = reading.answer_is 1 wheres (col 1 2 ∷ []) [] [] (lit (Int (negsuc 0))) (lit (Int (pos 0))) db [] rows a (subst (IsDistinct (eq_by_cmp (output_cmp query))) (sym none) no_ties) in
+    let all = reading.answer_is 1 wheres (col 1 2 ∷ []) [] [] (lit (Int (negsuc 0))) (lit (Int (pos 0))) db [] rows a
+    (subst (IsDistinct (eq_by_cmp (output_cmp query))) (sym none) no_ties) in
     let is_nil : rows ≡ [] = all ∙ ap (λ l. map (λ (o : Output). o.1) (sorted (output_cmp query) l)) none in
     subst (λ l. IsTop l 0) (sym is_nil) refl
 answered db (r ∷ []) rows e is a =
     let named : column r 1 ≡ Text (codes "post") = ap (λ x. column x 1) is in
     let passed : passes r ≡ true = rw (named, equal_text (codes "post")) refl in
     let one : map shows (filter passes (db 1)) ≡ shows r ∷ [] = ap (λ l. map shows (filter passes l)) e ∙ rw passed refl in
-    let all = reading.answer_is 1 wheres (col 1 2 ∷ []) [] [] (lit (Int (negsuc 0))) (lit (Int (pos 0))) db [] rows a (subst (IsDistinct (eq_by_cmp (output_cmp query))) (sym one) (one_alone (shows r))) in
+    let all = reading.answer_is 1 wheres (col 1 2 ∷ []) [] [] (lit (Int (negsuc 0))) (lit (Int (pos 0))) db [] rows a
+    (subst (IsDistinct (eq_by_cmp (output_cmp query))) (sym one) (one_alone (shows r))) in
     let is_one : rows ≡ (column r 2 ∷ []) ∷ [] = all ∙ ap (λ l. map (λ (o : Output). o.1) (sorted (output_cmp query) l)) one in
     subst (λ l. IsTop l (top_in (r ∷ []))) (sym is_one) (ap (λ x. column x 2) is)
 answered db (r ∷ s ∷ stored) rows e is a = absurd is
 
-pub top_rows : (old new : Held MemStore) (r : Result (Vec Row Global) Error) → IsSite old → IfOk r (λ rows. Shown top_text [] (state over_memory old) (state over_memory new) rows.items) → IfOk r (λ rows. IsTop rows.items (rows_of old).largest)
+pub top_rows : (old new : Held MemStore) (r : Result (Vec Row Global) Error) → IsSite old
+    → IfOk r (λ rows. Shown top_text [] (state over_memory old) (state over_memory new) rows.items) → IfOk r (λ rows. IsTop rows.items (rows_of old).largest)
 top_rows old new (Err e) is ok = tt
 top_rows old new (Ok rows) is ok =
-    let read = reads_as top_text [] (state over_memory old) (state over_memory new) site_schema is.holds.schema_is (Select (record { lets = []; body = query }) (codes "seq" ∷ [])) top_is.0 top_plain top_is.1 rows.items ok in
+    let read = reads_as top_text [] (state over_memory old) (state over_memory new) site_schema is.holds.schema_is
+    (Select (record { lets = []; body = query }) (codes "seq" ∷ [])) top_is.0 top_plain top_is.1 rows.items ok in
     answered (overlay (trees_of old) []) (trees_of old 1) rows.items refl is.holds.sound.counter (read.answer Null)
 
 top_row : (n : ℕ) → n < 2 ^ 32 → (rows : List Row) → IsTop rows n → IsTopRow rows
@@ -104,6 +109,7 @@ top_row n low [] is = tt
 top_row n low (r ∷ []) is = (n, is, low)
 top_row n low (r ∷ s ∷ rows) is = absurd is
 
-pub top_readable : (old new : Held MemStore) (r : Result (Vec Row Global) Error) → IsSite old → IfOk r (λ rows. Shown top_text [] (state over_memory old) (state over_memory new) rows.items) → IfOk r (λ rows. IsTopRow rows.items)
+pub top_readable : (old new : Held MemStore) (r : Result (Vec Row Global) Error) → IsSite old
+    → IfOk r (λ rows. Shown top_text [] (state over_memory old) (state over_memory new) rows.items) → IfOk r (λ rows. IsTopRow rows.items)
 top_readable old new (Err e) is ok = tt
 top_readable old new (Ok rows) is ok = top_row (rows_of old).largest is.holds.sound.bounded rows.items (top_rows old new (Ok rows) is ok)

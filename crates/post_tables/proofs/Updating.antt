@@ -59,7 +59,8 @@ abbrev wheres : List Term
 wheres = op2 (Compare Eq Binary) (col 1 0) (col 0 0) ∷ []
 
 abbrev projects : List Term
-projects = col 1 0 ∷ col 1 0 ∷ lit Null ∷ col 1 2 ∷ op2 Coalesce (col 0 1) (col 1 3) ∷ op2 Coalesce (col 0 2) (col 1 4) ∷ op2 Coalesce (col 0 3) (col 1 5) ∷ op2 Coalesce (col 0 4) (col 1 6) ∷ []
+projects = col 1 0 ∷ col 1 0 ∷ lit Null ∷ col 1 2 ∷ op2 Coalesce (col 0 1) (col 1 3) ∷ op2 Coalesce (col 0 2) (col 1 4) ∷ op2 Coalesce (col 0 3) (col 1 5)
+    ∷ op2 Coalesce (col 0 4) (col 1 6) ∷ []
 
 abbrev query : Query
 query = reading.query 0 wheres projects [] [] (lit (Int (negsuc 0))) (lit (Int (pos 0)))
@@ -80,7 +81,8 @@ unfolding binary
 coalesced None t = refl
 coalesced (Some s) t = refl
 
-coalesced_status : (o : Option PostStatus) (t : PostStatus) → binary Coalesce (or_null Text (option_map status_text o)) (Text (status_text t)) ≡ Text (status_text (unwrap_or o t))
+coalesced_status : (o : Option PostStatus) (t : PostStatus) → binary Coalesce (or_null Text (option_map status_text o)) (Text (status_text t))
+    ≡ Text (status_text (unwrap_or o t))
 unfolding binary
 coalesced_status None t = refl
 coalesced_status (Some s) t = refl
@@ -139,7 +141,8 @@ module _ (id : ℕ) (e : PostEdit) where
     nothing_updated : filter passes (db 0) ≡ [] → post_with id (map post_in (db 0)) ≡ None → IsUpdated db next
     nothing_updated none found =
         let outs : map shows (filter passes (db 0)) ≡ [] = ap (map shows) none in
-        let all = reading.answer_is 0 wheres projects [] [] (lit (Int (negsuc 0))) (lit (Int (pos 0))) (overlay db []) given shown a (subst (IsDistinct (eq_by_cmp (output_cmp query))) (sym outs) apart_none) in
+        let all = reading.answer_is 0 wheres projects [] [] (lit (Int (negsuc 0))) (lit (Int (pos 0))) (overlay db []) given shown a
+        (subst (IsDistinct (eq_by_cmp (output_cmp query))) (sym outs) apart_none) in
         let is : shown ≡ [] = all ∙ ap (λ l. map (λ (o : Output). o.1) (sorted (output_cmp query) l)) outs in
         let edit = subst (λ l. Edited site_schema keys db (edit_of db post_table (ids_of l) Given 1 l) (Ok next)) is h in
         let done = one_step site_schema keys db next (edit_of db post_table [] Given 1 []) refl edit in
@@ -148,14 +151,17 @@ module _ (id : ℕ) (e : PostEdit) where
           are = ap (map post_in) done.rows ∙ sym (none_edited id e (map post_in (db 0)) found);
         }
 
-    one_updated : (r : Row) → Has (db 0) r → filter passes (db 0) ≡ r ∷ [] → post_with id (map post_in (db 0)) ≡ Some (post_in r) → (post_in r).id ≡ id → IsUpdated db next
+    one_updated : (r : Row) → Has (db 0) r → filter passes (db 0) ≡ r ∷ [] → post_with id (map post_in (db 0)) ≡ Some (post_in r) → (post_in r).id ≡ id
+        → IsUpdated db next
     one_updated r there one found same =
         let q : Post = post_in r in
         let p : Post = edited_post e q in
         let row : Row = Int (pos q.id) ∷ row_of p in
         let outs : map shows (filter passes (db 0)) ≡ shows r ∷ [] = ap (map shows) one in
-        let all = reading.answer_is 0 wheres projects [] [] (lit (Int (negsuc 0))) (lit (Int (pos 0))) (overlay db []) given shown a (subst (IsDistinct (eq_by_cmp (output_cmp query))) (sym outs) (apart_one (shows r))) in
-        let is : shown ≡ row ∷ [] = all ∙ ap (λ l. map (λ (o : Output). o.1) (sorted (output_cmp query) l)) outs ∙ ap (λ x. (shows x).1 ∷ []) (ok.each r there) ∙ ap (λ x. x ∷ []) (shown_is q) in
+        let all = reading.answer_is 0 wheres projects [] [] (lit (Int (negsuc 0))) (lit (Int (pos 0))) (overlay db []) given shown a
+        (subst (IsDistinct (eq_by_cmp (output_cmp query))) (sym outs) (apart_one (shows r))) in
+        let is : shown ≡ row ∷ [] = all ∙ ap (λ l. map (λ (o : Output). o.1) (sorted (output_cmp query) l)) outs
+        ∙ ap (λ x. (shows x).1 ∷ []) (ok.each r there) ∙ ap (λ x. x ∷ []) (shown_is q) in
         let edit = subst (λ l. Edited site_schema keys db (edit_of db post_table (ids_of l) Given 1 l) (Ok next)) is h in
         let done = one_step site_schema keys db next (edit_of db post_table (pos q.id ∷ []) Given 1 (row ∷ [])) refl edit in
         let left : List Row = without_rowid (pos q.id) (db 0) in
@@ -163,11 +169,13 @@ module _ (id : ℕ) (e : PostEdit) where
         let fresh = rw (cast_int (pos q.id)) at done.fresh in
         let free : is_taken left (row_of p) ≡ false = not-true _ (and_parts _ _ fresh).0 in
         let kept : ArePosts left = some_posts (λ x. not (has_rowid (pos q.id) x)) (db 0) ok in
-        let by_id : (x : Row) → Has (db 0) x → has_rowid (pos q.id) x ≡ ((post_in x).id == q.id) = λ x h. ap (has_rowid (pos q.id)) (ok.each x h) ∙ ap is_eq (value_cmp-Int (pos (post_in x).id) (pos q.id) ∙ pos_cmp (post_in x).id q.id) ∙ same_number (post_in x).id q.id in
+        let by_id : (x : Row) → Has (db 0) x → has_rowid (pos q.id) x ≡ ((post_in x).id == q.id) = λ x h. ap (has_rowid (pos q.id)) (ok.each x h)
+        ∙ ap is_eq (value_cmp-Int (pos (post_in x).id) (pos q.id) ∙ pos_cmp (post_in x).id q.id) ∙ same_number (post_in x).id q.id in
         let without : map post_in left ≡ without_post q.id (map post_in (db 0)) = mapped_filter q.id (has_rowid (pos q.id)) (db 0) by_id in
         record {
           posts = subst ArePosts (sym rows) (still_posts p (readable_edited good q (ok.readable r there)) left kept);
-          are = ap (map post_in) rows ∙ same_posts p left kept.each free ∙ ap (with_post p) without ∙ ap (λ n. with_post p (without_post n (map post_in (db 0)))) same
+          are = ap (map post_in) rows ∙ same_posts p left kept.each free ∙ ap (with_post p) without
+              ∙ ap (λ n. with_post p (without_post n (map post_in (db 0)))) same
               ∙ one_edited id e (map post_in (db 0)) q (rising_from (map post_in (db 0)) (subst IsTable (rows_are (db 0) ok.each) ok.ordered)) found;
         }
 
@@ -179,14 +187,16 @@ module _ (id : ℕ) (e : PostEdit) where
 
 -- ---- the statement as a whole
 
-pub edits_post : (old new : Held MemStore) (holds : HoldsSite (state over_memory old).now) (id : ℕ) (e : PostEdit) → IsReadableEdit id e → (count : ℕ) → Executes update_text (given id e) (state over_memory old) (state over_memory new) (Ok count)
+pub edits_post : (old new : Held MemStore) (holds : HoldsSite (state over_memory old).now) (id : ℕ) (e : PostEdit) → IsReadableEdit id e → (count : ℕ)
+    → Executes update_text (given id e) (state over_memory old) (state over_memory new) (Ok count)
     → IsDone (λ s. record s { posts = edited_posts id e s.posts }) old new
 edits_post old new holds id e good count h =
     let s = state over_memory old in
     let t = state over_memory new in
     let text = statement_of update_text (understood site_schema update_text) in
     let w = runs_as update_text (given id e) s t site_schema holds.schema_is update_command update_is update_plain count h in
-    let done = went (subst (λ x. Does s.step_limit (mode_of s) (given id e) (record s.now { schema = x }) text None update_command (Ok (w.tally, t.now))) holds.schema_is w.changed) in
+    let done = went (subst (λ x. Does s.step_limit (mode_of s) (given id e) (record s.now { schema = x }) text None update_command (Ok (w.tally, t.now)))
+    holds.schema_is w.changed) in
     let now = ap (λ (x : Tally × Database). x.1) (same_value (went (went done.2).2).2) in
     let asked = went done.1 in
     let edit = went asked.2 in
@@ -195,9 +205,15 @@ edits_post old new holds id e good count h =
     let applied = one_step site_schema Enforced db edit.0 (edit_of db post_table (ids_of asked.0) Given 1 asked.0) refl edit.1 in
     let made = updated id e Enforced db edit.0 asked.0 good holds.sound.posts (asked.1.answer Null) edit.1 in
     let top : t.now.trees 1 ≡ db 1 = ap (λ (x : Trees). x 1) trees ∙ applied.tables.1.0 (λ e. omega arith) in
-    let it = posts_now old.step_limit db t.now.trees holds.sound
-    (ap (λ (x : Trees). x 2) trees ∙ applied.tables.1.1.0 (λ e. omega arith), ap (λ (x : Trees). x 4) trees ∙ applied.tables.1.1.1.0 (λ e. omega arith), ap (λ (x : Trees). x 6) trees ∙ applied.tables.1.1.1.1.0 (λ e. omega arith))
-    (subst (λ (x : Trees). ArePosts (x 0)) (sym trees) made.posts) (subst IsCounter (sym top) holds.sound.counter) _ (ap (λ (x : Trees). map post_in (x 0)) trees ∙ made.are) _ holds.sound.bounded (ap top_in top) (edited_given id e (map post_in (db 0)) (top_in (db 1)) holds.sound.given) in
+    let it = posts_now old.step_limit db t.now.trees holds.sound (
+      ap (λ (x : Trees). x 2) trees ∙ applied.tables.1.1.0 (λ e. omega arith),
+      ap (λ (x : Trees). x 4) trees
+          ∙ applied.tables.1.1.1.0 (λ e. omega arith),
+      ap (λ (x : Trees). x 6) trees ∙ applied.tables.1.1.1.1.0 (λ e. omega arith),
+    )
+    (subst (λ (x : Trees). ArePosts (x 0)) (sym trees) made.posts) (subst IsCounter (sym top) holds.sound.counter) _
+    (ap (λ (x : Trees). map post_in (x 0)) trees ∙ made.are) _ holds.sound.bounded (ap top_in top)
+    (edited_given id e (map post_in (db 0)) (top_in (db 1)) holds.sound.given) in
     record {
       holds = record { schema_is = ap (λ (d : Database). d.schema) now; sound = it.sound };
       rows = it.are;

@@ -10,7 +10,7 @@ use Rattle.site_records.specs.declared.post.PostStatus.TheVariants.{Publish, Dra
 use Rattle.post_tables.specs.Sorting.{sorted}
 use Rattle.post_tables.specs.Rows.{Text, by_bytes}
 
--- by date, newest first, and then by ID, greatest first (WordPress, WP_Query, orderby)
+-- by date, newest first, and then by ID, largest first (WordPress, WP_Query, orderby)
 abbrev pub newest : Post → Post → Ordering
 newest a b = ordering_then (by_bytes b.date a.date) (nat_cmp b.id a.id)
 

@@ -65,7 +65,7 @@ pub record IsNameRow (r : Row) : Type 0 where
   pub width : length r ≡ 1
   pub name : IsText (column r 0)
 
--- the answer names the greatest ID, or has no row where none was given
+-- the answer names the largest ID, or has no row if none was given
 abbrev pub IsTop : List Row → ℕ → Type 0
 IsTop [] n = n ≡ 0
 IsTop (r ∷ []) n = column r 0 ≡ Int (pos n)

@@ -42,7 +42,7 @@ pub record Rows : Type 0 where
   pub templates : Named
   -- the names of the active plugins
   pub active : Names
-  -- the greatest ID ever given or imported, also after its post is gone
+  -- the largest ID ever given or imported, also after its post is gone
   pub largest : ℕ
   -- how many rows a statement may visit, if there is a limit
   pub step_limit : Option ℕ
@@ -85,7 +85,13 @@ abbrev pub edit_by : Option PostStatus → Option (Bor Text) → Option (Bor Tex
 edit_by status title content date = record { status = status; title = option_copied title; content = option_copied content; date = option_copied date }
 
 abbrev pub edited_post : PostEdit → Post → Post
-edited_post e q = record q { status = unwrap_or e.status q.status; title = unwrap_or e.title q.title; content = unwrap_or e.content q.content; date = unwrap_or e.date q.date }
+edited_post e q = record q {
+  status = unwrap_or e.status q.status;
+  title = unwrap_or e.title q.title;
+  content = unwrap_or e.content q.content;
+  date =
+      unwrap_or e.date q.date;
+}
 
 abbrev pub edited_posts : ℕ → PostEdit → List Post → List Post
 edited_posts id e = map (λ q. if q.id == id then edited_post e q else q)
@@ -193,13 +199,16 @@ text_code = coded_list coded_ℕ
 
 abbrev pub post_code : Coded Post
 post_code =
-    code_by (ℕ × (Bool × (Bool × (Text × (Text × Text))))) (coded× coded_ℕ (coded× coded_bool (coded× coded_bool (coded× text_code (coded× text_code text_code)))))
+    code_by (ℕ × (Bool × (Bool × (Text × (Text × Text))))) (coded× coded_ℕ
+    (coded× coded_bool (coded× coded_bool (coded× text_code (coded× text_code text_code)))))
     (λ p. (p.id, (is_page p.kind, (is_draft p.status, (p.title, (p.content, p.date))))))
     (λ t. record { id = t.0; kind = kind_by t.1.0; status = status_by t.1.1.0; title = t.1.1.1.0; content = t.1.1.1.1.0; date = t.1.1.1.1.1 })
     (λ p i. record p { kind = kind_back p.kind i; status = status_back p.status i })
 
 abbrev pub rows_code : Coded Rows
 rows_code =
-    code_by (List Post × (Named × (Named × (Names × (ℕ × Option ℕ))))) (coded× (coded_list post_code) (coded× (code text_code text_code) (coded× (code text_code text_code) (coded× (set_code text_code) (coded× coded_ℕ (coded_option coded_ℕ))))))
+    code_by (List Post × (Named × (Named × (Names × (ℕ × Option ℕ)))))
+    (coded× (coded_list post_code) (coded× (code text_code text_code)
+    (coded× (code text_code text_code) (coded× (set_code text_code) (coded× coded_ℕ (coded_option coded_ℕ))))))
     (λ s. (s.posts, (s.options, (s.templates, (s.active, (s.largest, s.step_limit))))))
     (λ p. record { posts = p.0; options = p.1.0; templates = p.1.1.0; active = p.1.1.1.0; largest = p.1.1.1.1.0; step_limit = p.1.1.1.1.1 }) (λ _. refl)

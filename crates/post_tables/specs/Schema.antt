@@ -33,7 +33,20 @@ abbrev pub text_column : List ℕ → Column
 text_column name = record { name = name; kind = Text; is_strict = true; not_null = true; default = Null; collation = Binary }
 
 abbrev pub no_table : Table
-no_table = record { name = []; tree = 0; columns = []; key = None; primary = []; uniques = []; orders = []; checks = []; references = []; computed = []; stamps = record { places = []; terms = []; formats = [] }; is_counted = false }
+no_table = record {
+  name = [];
+  tree = 0;
+  columns = [];
+  key = None;
+  primary = [];
+  uniques = [];
+  orders = [];
+  checks = [];
+  references = [];
+  computed = [];
+  stamps = record { places = []; terms = []; formats = [] };
+  is_counted = false;
+}
 
 abbrev pub table_or : {E : Type 0} → Result Table E → Table
 table_or (Ok t) = t
@@ -49,7 +62,8 @@ post_table = record no_table {
   name = codes "post";
   tree = 0;
   columns = (record { name = codes "id"; kind = Integer; is_strict = true; not_null = false; default = Null; collation = Binary })
-      ∷ text_column (codes "kind") ∷ text_column (codes "status") ∷ text_column (codes "title") ∷ text_column (codes "content") ∷ text_column (codes "date") ∷ [];
+      ∷ text_column (codes "kind") ∷ text_column (codes "status") ∷ text_column (codes "title") ∷ text_column (codes "content") ∷ text_column (codes "date")
+      ∷ [];
   key = Some 0;
   primary = 0 ∷ [];
   checks = post_checks;
@@ -59,7 +73,7 @@ post_table = record no_table {
 abbrev pub loose_column : List ℕ → Column
 loose_column name = record { name = name; kind = Any; is_strict = false; not_null = false; default = Null; collation = Binary }
 
--- the table that AUTOINCREMENT keeps: its one row has the greatest ID ever given
+-- the table that AUTOINCREMENT keeps: its one row has the largest ID ever given
 abbrev pub sequence_table : Table
 sequence_table = record no_table {
   name = codes "sqlite_sequence";
@@ -102,7 +116,12 @@ abbrev pub option_schema : Schema
 option_schema = record { tables = post_table ∷ sequence_table ∷ option_table ∷ []; indexes = key_index option_table ∷ []; views = [] }
 
 abbrev pub template_schema : Schema
-template_schema = record { tables = post_table ∷ sequence_table ∷ option_table ∷ template_table ∷ []; indexes = key_index option_table ∷ key_index template_table ∷ []; views = [] }
+template_schema = record {
+  tables = post_table ∷ sequence_table ∷ option_table ∷ template_table ∷ [];
+  indexes = key_index option_table
+      ∷ key_index template_table ∷ [];
+  views = [];
+}
 
 abbrev pub table_schema : Schema
 table_schema = record {

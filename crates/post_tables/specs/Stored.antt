@@ -125,7 +125,7 @@ pub record ArePosts (rows : List Row) : Type 0 where
   pub each : (r : Row) → Has rows r → r ≡ row_of (post_in r)
   pub readable : (r : Row) → Has rows r → IsReadable (post_in r)
 
--- ---- the greatest ID ever given: the one row that counts for the table of posts, once there is one
+-- ---- the largest ID ever given: the one row that counts for the table of posts, once there is one
 
 abbrev pub top_in : List Row → ℕ
 top_in [] = 0
@@ -148,7 +148,7 @@ rows_in limit t = record {
   step_limit = limit;
 }
 
--- no ID of these is greater than the greatest ever given
+-- no ID of these is greater than the largest ever given
 abbrev pub AreGiven : List Post → ℕ → Type 0
 AreGiven posts largest = AllByRecursion (λ p. p.id ≤ largest) posts
 

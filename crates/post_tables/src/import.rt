@@ -1,4 +1,4 @@
-// A whole site's records, added in one transaction.
+//! A whole site's records, added in one transaction.
 ghost use Rattle.std.specs.Prelude.{◌≡◌, ◌⊎◌, true, false, not, IfOk, IfErr, OnOk, OnErr};
 ghost use Rattle.std.specs.Ordering.{nat_cmp};
 ghost use Rattle.std.specs.BTreeSet.{insert_key};
@@ -161,7 +161,7 @@ fn add_all(conn: &mut Connection<MemStore>, records: &SiteRecords) -> Result<(),
     Ok(())
 }
 
-/// All of the records, or none. The IDs are looked at first, so nothing is written where one is taken.
+/// All of the records, or none. The IDs are looked at first, so nothing is written if one is taken.
 pub(crate) fn import(
     conn: &mut Connection<MemStore>,
     alloc: Global,

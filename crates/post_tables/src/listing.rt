@@ -1,4 +1,4 @@
-// A part of the published posts.
+//! A part of the published posts.
 ghost use Rattle.std.specs.Prelude.{◌≡◌, ◌++◌, map, All, IfOk, IfErr, OnOk};
 ghost use Rattle.std.specs.List.{flat_map};
 ghost use Rattle.std.specs.Option.{option_to_list};
@@ -44,7 +44,7 @@ pub(crate) fn part(
     Ok(read_posts(alloc, &rows)?)
 }
 
-/// The same part, where there can be one: each post has an ID of its own, and none is above the greatest ever given.
+/// The same part, if there can be one: each post has an ID of its own, and none is above the largest ever given.
 fn later_part(
     conn: &mut Connection<MemStore>,
     alloc: Global,
@@ -133,7 +133,7 @@ fn posts_with(
     Ok(posts)
 }
 
-/// Puts the post with the ID, if there is one, behind the others.
+/// Appends the post with the ID, if there is one.
 fn push_post(conn: &mut Connection<MemStore>, posts: &mut Vec<Post>, id: u32) -> Result<(), Error>
     requires { IsSite conn.old }
     ensures reads { Reads conn.old conn.new }

@@ -1,4 +1,4 @@
-// The statements on options, templates and active names.
+//! The statements on options, templates and active names.
 ghost use Rattle.std.specs.Prelude.{◌≡◌, true, map, All, IfOk, IfErr};
 ghost use Rattle.std.specs.FinMap.{insert, remove, entries, keys};
 ghost use Rattle.post_tables.specs.Reading.{

@@ -1,4 +1,4 @@
-// The statements on posts.
+//! The statements on posts.
 ghost use Rattle.std.specs.Prelude.{
   ◌≡◌,
   ◌<◌,
@@ -198,7 +198,7 @@ pub(crate) fn edit_post(
     )
 }
 
-/// The row that AUTOINCREMENT keeps, which has the greatest ID ever given.
+/// The row that AUTOINCREMENT keeps, which has the largest ID ever given.
 fn top_rows(conn: &mut Connection<MemStore>) -> Result<Vec<Row>, Error>
     requires { IsSite conn.old }
     ensures reads { Reads conn.old conn.new }
@@ -209,7 +209,7 @@ fn top_rows(conn: &mut Connection<MemStore>) -> Result<Vec<Row>, Error>
     conn.query_all("SELECT seq FROM sqlite_sequence WHERE name = 'post'", &[])
 }
 
-/// The greatest ID ever given, or 0 before the first.
+/// The largest ID ever given, or 0 before the first.
 pub(crate) fn largest_id(conn: &mut Connection<MemStore>) -> Result<u32, Error>
     requires { IsSite conn.old }
     ensures reads { Reads conn.old conn.new }

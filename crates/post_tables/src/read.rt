@@ -1,4 +1,4 @@
-// From rows of an answer to values.
+//! From rows of an answer to values.
 ghost use Rattle.std.specs.Prelude.{
   ◌≡◌,
   ◌<◌,
@@ -130,7 +130,7 @@ fn read_post(row: &Row) -> Result<Post, Error>
     })
 }
 
-/// Puts a value behind the others.
+/// Appends a value.
 pub(crate) fn push<T: Drop>(values: &mut Vec<T>, value: T) -> Result<(), Error>
     ensures ok { OnOk result (values.new.items ≡ values.old.items ++ value ∷ []) }
     ensures memory { IfErr result IsNoMemory }
@@ -210,7 +210,7 @@ pub(crate) fn read_found(rows: &[Row]) -> Result<Option<Post>, Error>
     }
 }
 
-/// The greatest ID, which is 0 before the first was given.
+/// The largest ID, which is 0 before the first was given.
 pub(crate) fn read_top(rows: &[Row]) -> Result<u32, Error>
     requires { IsTopRow rows.now }
     ensures ok { IfOk result (λ top. (largest : ℕ) → IsTop rows.now largest → top ≡ largest) }

@@ -1,4 +1,4 @@
-// The statements that make the tables, each run once, in this order.
+//! The statements that make the tables, each run once, in this order.
 ghost use Rattle.std.specs.Prelude.{◌≡◌, [], OnOk};
 ghost use Rattle.post_tables.specs.Rows.{no_rows};
 ghost use Rattle.post_tables.specs.Schema.{

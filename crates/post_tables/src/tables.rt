@@ -56,7 +56,7 @@ use sqlite::{Connection, MemStore};
 use std::alloc::Global;
 use std::marker::Model;
 
-// The greatest ID that a client with signed 32-bit numbers can name, as the table's CHECK says.
+// The largest ID that a client with signed 32-bit numbers can name, as the table's CHECK says.
 const GREATEST_ID: u32 = 2_147_483_647;
 
 /// What a site stores: posts and pages, options, templates, and the names of the active plugins,
@@ -81,7 +81,7 @@ impl Model for Tables {
     ghost invariant = { λ t. IsSite t.conn };
 }
 
-/// The ID after the greatest that was ever given, where there is one left.
+/// The ID after the largest that was ever given, if there is one left.
 fn next_id(conn: &mut Connection<MemStore>) -> Result<u32, TablesFault>
     requires { IsSite conn.old }
     ensures reads { Reads conn.old conn.new }
@@ -129,8 +129,8 @@ impl Tables {
         self.conn.set_step_limit(steps);
     }
 
-    /// Puts in a post or a page, and answers its ID: the one after the greatest that was ever given
-    /// (wp_insert_post; SQLite, AUTOINCREMENT). It is refused as `IdsUsedUp` where that is
+    /// Puts in a post or a page, and answers its ID: the one after the largest that was ever given
+    /// (wp_insert_post; SQLite, AUTOINCREMENT). It is refused as `IdsUsedUp` if that is
     /// 2,147,483,647.
     pub fn put_post(
         &mut self,
@@ -154,7 +154,7 @@ impl Tables {
         ensures fresh { IfOk result (λ id. has_post id self.old.posts ≡ false) }
         ensures err { OnErr result (self.new ≡ self.old) }
 
-        // There is no ID left exactly where the greatest was given.
+        // There is no ID left exactly if the largest was given.
         ensures left { OnOk result (self.old.largest < 2147483647) }
         ensures used_up { result ≡ Err TablesFault.IdsUsedUp → 2147483647 ≤ self.old.largest }
         ensures none_left { 2147483647 ≤ self.old.largest
@@ -333,7 +333,7 @@ impl Tables {
 
     /// Adds all records of a site file, or none: the posts first, and then the options, the
     /// templates and the active names in the order of their lists. It is refused as `DuplicateId`
-    /// where the ID of a post stands twice among these, or is there already.
+    /// if the ID of a post stands twice among these, or is there already.
     pub fn import(&mut self, records: &SiteRecords) -> Result<(), TablesFault>
         requires { All (λ p. (1 ≤ p.id) × (p.id ≤ 2147483647)) records.now.posts }
         ensures ok { OnOk result (self.new ≡ with_records records.now self.old) }

@@ -30,7 +30,8 @@ module _ {Y Z : Type 0} where
   map-insert_entry [] k v = refl
   map-insert_entry (e ∷ es) k v =
       elim (bytes_eq (string_bytes k) (string_bytes e.0)) as (λ b. map pair_bytes (cond b ((e.0, v) ∷ es) (e ∷ insert_entry string_eq es k v))
-      ≡ cond b ((string_bytes e.0, string_bytes v) ∷ map pair_bytes es) (pair_bytes e ∷ insert_entry bytes_eq (map pair_bytes es) (string_bytes k) (string_bytes v)))
+      ≡ cond b ((string_bytes e.0, string_bytes v) ∷ map pair_bytes es)
+      (pair_bytes e ∷ insert_entry bytes_eq (map pair_bytes es) (string_bytes k) (string_bytes v)))
       [ true ↦ refl | false ↦ ap (λ ps. pair_bytes e ∷ ps) (map-insert_entry es k v) ]
 
   pub lookup-pair_bytes : (name : List ℕ) (es : List (String Y × String Z))
@@ -46,7 +47,8 @@ pub attributes-start : (text cs : List ℕ) → cs ≡ plain_chars text → fold
 unfolding attributes
 attributes-start text cs e = ap (λ cs. fold add no_attributes (items_of cs)) e
 
-pub attributes-more : (a : Attributes) (cs : List ℕ) (it : Item) → item_at (skip_white cs) ≡ Some it → fold add a (items_of cs) ≡ fold add (add a it) (items_of it.rest)
+pub attributes-more : (a : Attributes) (cs : List ℕ) (it : Item) → item_at (skip_white cs) ≡ Some it
+    → fold add a (items_of cs) ≡ fold add (add a it) (items_of it.rest)
 attributes-more a cs it e = ap (fold add a) (items_of-some cs it e)
 
 pub attributes-end : (a : Attributes) (cs : List ℕ) → item_at (skip_white cs) ≡ None → fold add a (items_of cs) ≡ a

@@ -85,7 +85,8 @@ single_at-shorter form cs it e =
     let found : Item = record { name = None; value = (v.0).0; rest = (v.0).1 } in
     subst (Leaves cs) (same_Some found it v.2) (value_at-shorter form cs v.0 v.1)
 
-either_some : {X : Type 0} (P : X → Type 0) (a b : Option X) → ((x : X) → a ≡ Some x → P x) → ((x : X) → b ≡ Some x → P x) → (x : X) → option_or a b ≡ Some x → P x
+either_some : {X : Type 0} (P : X → Type 0) (a b : Option X) → ((x : X) → a ≡ Some x → P x) → ((x : X) → b ≡ Some x → P x) → (x : X) → option_or a b ≡ Some x
+    → P x
 either_some P None b f g x e = g x e
 either_some P (Some y) b f g x e = f x e
 
@@ -99,7 +100,8 @@ item_at-shorter cs =
     (either_some (Leaves cs) _ _ (single_at-shorter (Quoted 39) cs) (single_at-shorter Word cs)))))
 
 -- how many items are allowed makes no difference, if there are enough
-none_left : (cs : List ℕ) (f : Item → List Item) (o : Option Item) → ((it : Item) → o ≡ Some it → Leaves (skip_white cs) it) → length cs ≤ 0 → option_map_or f o [] ≡ []
+none_left : (cs : List ℕ) (f : Item → List Item) (o : Option Item) → ((it : Item) → o ≡ Some it → Leaves (skip_white cs) it) → length cs ≤ 0
+    → option_map_or f o [] ≡ []
 none_left cs f None h a = refl
 none_left cs f (Some it) h a = absurd (omega (arith, h it refl, length-after_run is_white cs))
 
@@ -154,7 +156,7 @@ fits_both : {A B : Type 0} (b : Bool) (x : A) (g : A → Bool) (k : A → B) →
 fits_both true x g k t ended e = fits_last (g x) x k ended e
 fits_both false x g k t ended e = false≢true t
 
--- a word fits where no white space comes next
+-- a word fits if no white space comes next
 word_fits : (c : ℕ) (cs : List ℕ) → is_white c ≡ false → single_at Word (c ∷ cs) ≡ None → ⊥
 unfolding single_at value_at run_at
 word_fits c cs word e =

@@ -48,7 +48,7 @@ abbrev pub after_char : ℕ → List ℕ → Option (List ℕ)
 after_char q [] = None
 after_char q (c ∷ cs) = only_if (c == q) cs
 
--- whether the end or white space comes next, as behind each item (get_shortcode_atts_regex)
+-- whether the end or white space comes next, as after each item (get_shortcode_atts_regex)
 abbrev pub is_ended : List ℕ → Bool
 is_ended [] = true
 is_ended (c ∷ cs) = is_white c
@@ -76,7 +76,7 @@ value_at form cs = do
   v ← spelled_at form cs
   only_if (is_ended v.1) v
 
--- An item: its name, where it has one, its value as it is written, and what follows it.
+-- An item: its name, if it has one, its value as it is written, and what follows it.
 pub record Item : Type 0 where
   pub name : Option (List ℕ)
   pub value : List ℕ

@@ -36,7 +36,10 @@ impl Model for Atts {
 
     ghost Value = { Attributes };
 
-    ghost view = { λ a. record { named = map pair_bytes a.pairs.entries; positional = map string_bytes a.values.items } };
+    ghost view = { λ a. record {
+      named = map pair_bytes a.pairs.entries;
+      positional = map string_bytes a.values.items;
+    } };
 }
 
 impl Clone for Atts {
@@ -140,7 +143,7 @@ impl Atts {
     /// Each default name, in order, with its value here, or else the default (Shortcode API, shortcode_atts).
     /// Attributes under other names, and those without a name, are left out.
     ///
-    /// Refused for want of memory alone.
+    /// It fails only if memory runs out.
     pub fn with_defaults(
         &self,
         defaults: &[(String, String)],
@@ -159,7 +162,7 @@ impl Atts {
 /// The attributes that a text spells, the part of a shortcode between its name and its end (Shortcode API,
 /// shortcode_parse_atts): `name="value"`, `name='value'`, `name=value`, `"value"`, `'value'` and `value`.
 ///
-/// Every text has attributes; it is refused for want of memory alone.
+/// Every text has attributes; it fails only if memory runs out.
 pub fn parse(alloc: Global, text: &str) -> Result<Atts, AllocError>
     ensures { IfOk result (λ atts. atts ≡ attributes text.now) }
 {

@@ -1,4 +1,4 @@
--- Whether a text has an opening whose name ends behind it, as a search over the places of the opening finds it.
+-- Whether a text has an opening whose name ends after it, as a search over the places of the opening finds it.
 use Rattle.std.proofs.Common.{◌≡◌, ℕ, ◌+◌, ◌<◌, true, false, List, length, Some, None, ap, arith, inl, inr}
 use Rattle.std.specs.Prelude.{is_some}
 use Rattle.std.proofs.lemmas.Bool.{and_left, and_right, and_from, cases_lt}
@@ -15,9 +15,13 @@ module _ (text opening : List ℕ) where
   pub none_opened : (at k n : ℕ) → NonePasses (opens_at text opening) 0 at → first_place (occurs_at text opening) at n ≡ Some k
       → NonePasses (opens_at text opening) 0 k
   none_opened at k n none e =
-      λ j a b. elim (cases_lt j at) [ inl lt ↦ none j a lt | inr le ↦ opens_at-elsewhere j ((first_place-some (occurs_at text opening) at n k e).before j le b) ]
+      λ j a b. elim (cases_lt j at) [
+        | inl lt ↦ none j a lt
+        | inr le ↦ opens_at-elsewhere j
+            ((first_place-some (occurs_at text opening) at n k e).before j le b)
+      ]
 
-  -- nor at that place, where the name goes on behind it
+  -- nor at that place, if the name goes on after it
   pub one_more : (k : ℕ) → NonePasses (opens_at text opening) 0 k → is_name_end text (k + length opening) ≡ false → NonePasses (opens_at text opening) 0 (k + 1)
   one_more k none e =
       λ j a b. elim (cases_lt j k) [ inl lt ↦ none j a lt | inr le ↦ (let same : j ≡ k = omega arith in rw same (and_right _ _ e)) ]

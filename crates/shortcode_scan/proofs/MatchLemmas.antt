@@ -31,7 +31,7 @@ unfolding with_extras
 is_match text i name core p e = subst IsMatch (same_Some _ _ e) tt
 
 module _ (names : List (List ℕ)) (text : List ℕ) where
-  -- no match begins where there is no `[`
+  -- no match begins if there is no `[`
   pub match_at-elsewhere : (i : ℕ) → (slice_index text i == 91) ≡ false → match_at names text i ≡ None
   unfolding match_at name_start
   match_at-elsewhere i e = rw e refl
@@ -56,11 +56,12 @@ module _ (names : List (List ℕ)) (text : List ℕ) where
 abbrev pub LiesAt : List ℕ → ℕ → Piece → Type 0
 LiesAt text i p = (start_of p ≡ i) × (i < end_of p) × (end_of p ≤ length text)
 
--- a core ends behind the first `]`, within the text
+-- a core ends after the first `]`, within the text
 abbrev pub EndsWithin : List ℕ → ℕ → Core → Type 0
 EndsWithin text r core = (r < core.end) × (core.end ≤ length text)
 
-closing_ends : (text name : List ℕ) (e r : ℕ) (o : Option ℕ) → closing_from text name (r + 1) ≡ o → r < length text → EndsWithin text r (with_closing name e r o)
+closing_ends : (text name : List ℕ) (e r : ℕ) (o : Option ℕ) → closing_from text name (r + 1) ≡ o → r < length text
+    → EndsWithin text r (with_closing name e r o)
 closing_ends text name e r None eq lt = (omega arith, omega arith)
 closing_ends text name e r (Some k) eq lt =
     let h = first_place-some (occurs_at text (closing_tag name)) (r + 1) (length text) k eq in
@@ -122,7 +123,7 @@ unfolding match_at
 match_at-unnamed text i = no_step (name_start text i) _ (λ start. rw (name_at-unnamed text start) refl)
 
 module _ (names : List (List ℕ)) (text : List ℕ) where
-  -- no match begins where no `]` follows
+  -- no match begins if no `]` follows
   pub match_at-unended : (first i : ℕ) → first ≤ i → bracket_from text first ≡ None → (o : Option Piece) → match_at names text i ≡ o → o ≡ None
   unfolding match_at
   match_at-unended first i le none None e = refl
@@ -131,4 +132,5 @@ module _ (names : List (List ℕ)) (text : List ℕ) where
       let b = bind_some (name_at names text a.0) _ p a.2 in
       let c = bind_some (bracket_from text (a.0 + length b.0)) _ p b.2 in
       let after = name_start-after text i a.0 a.1 in
-      absurd (none-some c.0 (sym (first_place-none_later (λ k. slice_index text k == 93) first (a.0 + length b.0) (length text) (omega (arith, after)) none) ∙ c.1))
+      absurd (none-some c.0 (sym (first_place-none_later (λ k. slice_index text k == 93) first (a.0 + length b.0) (length text) (omega (arith, after)) none)
+      ∙ c.1))

@@ -14,17 +14,20 @@ use Rattle.shortcode_scan.specs.Matches.{bracket_from, closing_tag}
 use Rattle.shortcode_scan.proofs.PlaceLemmas.{first_place-some, first_place-covered, first_place-past}
 
 -- what was found from an earlier place on, if it covers the later one
-pub bracket_covered : (text : List ℕ) (low later : ℕ) (r : Option ℕ) → (low ≤ later) × IfSome r (λ k. later ≤ k) → r ≡ bracket_from text low → r ≡ bracket_from text later
+pub bracket_covered : (text : List ℕ) (low later : ℕ) (r : Option ℕ) → (low ≤ later) × IfSome r (λ k. later ≤ k) → r ≡ bracket_from text low
+    → r ≡ bracket_from text later
 bracket_covered text low later r h e = first_place-covered (λ k. slice_index text k == 93) low later (length text) h.0 r e h.1
 
-pub tag_covered : (text tag : List ℕ) (low later : ℕ) (r : Option ℕ) → (low ≤ later) × IfSome r (λ k. later ≤ k) → r ≡ first_place (occurs_at text tag) low (length text) → r ≡ first_place (occurs_at text tag) later (length text)
+pub tag_covered : (text tag : List ℕ) (low later : ℕ) (r : Option ℕ) → (low ≤ later) × IfSome r (λ k. later ≤ k)
+    → r ≡ first_place (occurs_at text tag) low (length text) → r ≡ first_place (occurs_at text tag) later (length text)
 tag_covered text tag low later r h e = first_place-covered (occurs_at text tag) low later (length text) h.0 r e h.1
 
 pub bracket_within : (text : List ℕ) (from : ℕ) (r : Option ℕ) → r ≡ bracket_from text from → IfSome r (λ k. (from ≤ k) × (k < length text))
 bracket_within text from None e = tt
 bracket_within text from (Some k) e = let h = first_place-some (λ k. slice_index text k == 93) from (length text) k (sym e) in (h.low_le, h.below)
 
-pub tag_within : (text tag : List ℕ) (from : ℕ) (r : Option ℕ) → r ≡ first_place (occurs_at text tag) from (length text) → IfSome r (λ k. (from ≤ k) × (k + length tag ≤ length text))
+pub tag_within : (text tag : List ℕ) (from : ℕ) (r : Option ℕ) → r ≡ first_place (occurs_at text tag) from (length text)
+    → IfSome r (λ k. (from ≤ k) × (k + length tag ≤ length text))
 tag_within text tag from None e = tt
 tag_within text tag from (Some k) e =
     let h = first_place-some (occurs_at text tag) from (length text) k (sym e) in

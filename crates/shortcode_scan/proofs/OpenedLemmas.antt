@@ -38,15 +38,18 @@ module _ (text name : List ℕ) (k : ℕ) where
       let some = ltb-true 0 n tests.0 in
       let len : length name ≡ n = ap length (sym parts.1) ∙ length-prefix_len is_name_byte rest in
       let within = prefix_len-le-length is_name_byte rest in
-      let reads : (j : ℕ) → j < length (opening_of name) → slice_index text (k + j) ≡ slice_index (opening_of name) j = λ j l. reads_at bracket n parts.1 len j l in
+      let reads : (j : ℕ) → j < length (opening_of name) → slice_index text (k + j)
+      ≡ slice_index (opening_of name) j = λ j l. reads_at bracket n parts.1 len j l in
       and_from _ _
       (occurs_at-true text (opening_of name) k (record { fits = omega (arith, length-drop (k + 1) text, some, within, len); reads = reads }))
       (ap (is_name_end text) (omega (arith, len)) ∙ tests.1)
     where
-      reads_at : slice_index text k ≡ 91 → (n : ℕ) → take n (drop (k + 1) text) ≡ name → length name ≡ n → (j : ℕ) → j < length (opening_of name) → slice_index text (k + j) ≡ slice_index (opening_of name) j
+      reads_at : slice_index text k ≡ 91 → (n : ℕ) → take n (drop (k + 1) text) ≡ name → length name ≡ n → (j : ℕ) → j < length (opening_of name)
+          → slice_index text (k + j) ≡ slice_index (opening_of name) j
       reads_at bracket n is len zero l = ap (slice_index text) (omega arith) ∙ bracket
       reads_at bracket n is len (suc j) l =
-          ap (slice_index text) (omega arith) ∙ sym (get_or-drop (k + 1) text j 0) ∙ sym (get_or-take n (drop (k + 1) text) j 0 (omega (arith, len, l))) ∙ ap (λ xs. slice_index xs j) is
+          ap (slice_index text) (omega arith) ∙ sym (get_or-drop (k + 1) text j 0) ∙ sym (get_or-take n (drop (k + 1) text) j 0 (omega (arith, len, l)))
+          ∙ ap (λ xs. slice_index xs j) is
 
 only_if-true : {X : Type 0} (b : Bool) (x : X) → b ≡ true → only_if b x ≡ Some x
 only_if-true b x e = rw e refl
@@ -60,8 +63,10 @@ module _ (text name : List ℕ) (k : ℕ) (named : list_all is_name_byte name �
   opened_len at ends =
       prefix_len_is is_name_byte (drop (k + 1) text) (length name) 0
       (omega (arith, length-drop (k + 1) text, at.fits))
-      (λ j l. ap is_name_byte (get_or-drop (k + 1) text j 0 ∙ ap (slice_index text) (omega arith) ∙ at.reads (suc j) (omega arith)) ∙ AllPass-from_list_all is_name_byte name named j 0 l)
-      (λ l. ap is_name_byte (get_or-drop (k + 1) text (length name) 0) ∙ ends_is_none (slice_index text (k + 1 + length name)) (ended text (k + 1 + length name) ends (omega (arith, length-drop (k + 1) text, l))))
+      (λ j l. ap is_name_byte (get_or-drop (k + 1) text j 0 ∙ ap (slice_index text) (omega arith) ∙ at.reads (suc j) (omega arith))
+      ∙ AllPass-from_list_all is_name_byte name named j 0 l)
+      (λ l. ap is_name_byte (get_or-drop (k + 1) text (length name) 0)
+      ∙ ends_is_none (slice_index text (k + 1 + length name)) (ended text (k + 1 + length name) ends (omega (arith, length-drop (k + 1) text, l))))
 
   -- what is opened at a place is what its `[` opens
   pub opens-opened : opens_at text (opening_of name) k ≡ true → (slice_index text k ≡ 91) × (name_opened text k ≡ Some name)
@@ -89,7 +94,8 @@ with_name names n = if is_among n.now names then names else names ++ n ∷ []
 same_name : (name : List ℕ) → bytes_eq name name ≡ true
 same_name name = (bytes_eq-Decides name name).1 refl
 
-among_more : (name : List ℕ) (names : List (Bor (List ℕ))) (n : Bor (List ℕ)) → is_among name (names ++ n ∷ []) ≡ (is_among name names || (bytes_eq name n.now || false))
+among_more : (name : List ℕ) (names : List (Bor (List ℕ))) (n : Bor (List ℕ))
+    → is_among name (names ++ n ∷ []) ≡ (is_among name names || (bytes_eq name n.now || false))
 among_more name names n = list_any-append (λ n. bytes_eq name n.now) names (n ∷ [])
 
 among_kept : (name : List ℕ) (names : List (Bor (List ℕ))) (n : Bor (List ℕ)) → is_among name names ≡ true → is_among name (with_name names n) ≡ true
@@ -101,7 +107,8 @@ among_new names n =
     cond_both (is_among n.now names) names (names ++ n ∷ []) (λ ns. is_among n.now ns ≡ true) (λ h. h)
     (λ not_there. among_more n.now names n ∙ rw (not_there, same_name n.now) refl)
 
-among_only : (name : List ℕ) (names : List (Bor (List ℕ))) (n : Bor (List ℕ)) → is_among name (with_name names n) ≡ true → (is_among name names ≡ true) ⊎ (name ≡ n.now)
+among_only : (name : List ℕ) (names : List (Bor (List ℕ))) (n : Bor (List ℕ)) → is_among name (with_name names n) ≡ true
+    → (is_among name names ≡ true) ⊎ (name ≡ n.now)
 among_only name names n =
     cond_both (is_among n.now names) names (names ++ n ∷ []) (λ ns. is_among name ns ≡ true → (is_among name names ≡ true) ⊎ (name ≡ n.now))
     (λ _ h. inl h)
@@ -115,7 +122,7 @@ among_only name names n =
     by_or false e = e
 
 module _ (text : List ℕ) (names : List (Bor (List ℕ))) where
-  -- nothing is opened where there is not_there `[`
+  -- nothing is opened if there is not_there `[`
   pub AreOpenedBefore-none : (at n : ℕ) → AreOpenedBefore text at names → NonePasses (λ j. slice_index text j == 91) at n → AreOpenedBefore text n names
   AreOpenedBefore-none at n before none = record {
     every = λ name k lt bracket e. elim (cases_lt k at) [
@@ -125,7 +132,7 @@ module _ (text : List ℕ) (names : List (Bor (List ℕ))) where
     only = before.only;
   }
 
-  -- nor where what a `[` opens is no name
+  -- nor if what a `[` opens is no name
   pub AreOpenedBefore-skip : (at : ℕ) → AreOpenedBefore text at names → name_opened text at ≡ None → AreOpenedBefore text (at + 1) names
   AreOpenedBefore-skip at before not_there = record {
     every = λ name k lt bracket e. elim (cases_lt k at) [
@@ -135,7 +142,8 @@ module _ (text : List ℕ) (names : List (Bor (List ℕ))) where
     only = before.only;
   }
 
-  pub AreOpenedBefore-more : (at : ℕ) (n : Bor (List ℕ)) → AreOpenedBefore text at names → at < length text → slice_index text at ≡ 91 → name_opened text at ≡ Some n.now
+  pub AreOpenedBefore-more : (at : ℕ) (n : Bor (List ℕ)) → AreOpenedBefore text at names → at < length text → slice_index text at ≡ 91
+      → name_opened text at ≡ Some n.now
       → AreOpenedBefore text (at + 1) (with_name names n)
   AreOpenedBefore-more at n before within bracket there = record {
     every = λ name k lt b e. elim (cases_lt k at) [
@@ -172,7 +180,8 @@ is_live-among text names name are named some =
       | inl there ↦ (
           let place = are.only name there in
           let opens = opened-opens text name place.0 place.2 place.3 in
-          is_some-true _ (λ none. false≢true (sym (first_place-none_is (opens_at text (opening_of name)) 0 (length text) none place.0 (omega arith) place.1) ∙ opens)) ∙ sym there)
+          is_some-true _ (λ none. false≢true (sym (first_place-none_is (opens_at text (opening_of name)) 0 (length text) none place.0 (omega arith) place.1)
+          ∙ opens)) ∙ sym there)
       | inr not_there ↦
           ap is_some (first_place-none (opens_at text (opening_of name)) 0 (length text) (λ k a lt. false_from_ne_true _ (λ there.
           let opened = opens-opened text name k named some there in

@@ -32,12 +32,14 @@ module _ (names : List (List ℕ)) (text : List ℕ) where
   NoMatch-without i n e = λ j a b. match_at-elsewhere names text j (first_place-none_is (λ j. slice_index text j == 91) i n e j a b)
 
   -- nor from a place on that no `]` follows
-  pub NoMatch-unended : (i first n : ℕ) → first_place (λ j. slice_index text j == 91) i (length text) ≡ Some first → bracket_from text first ≡ None → NoMatch names text i n
+  pub NoMatch-unended : (i first n : ℕ) → first_place (λ j. slice_index text j == 91) i (length text) ≡ Some first → bracket_from text first ≡ None
+      → NoMatch names text i n
   NoMatch-unended i first n e none =
       λ j a b. elim (cases_lt j first) [ inl lt ↦ NoMatch-before i (length text) first e j a lt | inr le ↦ match_at-unended names text first j le none _ refl ]
 
   -- one more match
-  pub PiecesFrom-match : (i : ℕ) (p : Piece) (ps : List Piece) → match_at names text i ≡ Some p → PiecesFrom names text (end_of p) ps → PiecesFrom names text i (p ∷ ps)
+  pub PiecesFrom-match : (i : ℕ) (p : Piece) (ps : List Piece) → match_at names text i ≡ Some p → PiecesFrom names text (end_of p) ps
+      → PiecesFrom names text i (p ∷ ps)
   PiecesFrom-match i (Plain s) ps e h = absurd (match_at-not_plain names text i s e)
   PiecesFrom-match i (Match _ _ _ _ _ _) ps e h = (e, h)
 
@@ -46,7 +48,8 @@ module _ (names : List (List ℕ)) (text : List ℕ) where
   match_first i (Match _ _ _ _ _ _) ps e = tt
 
   -- one more plain piece, unless it is empty
-  PiecesFrom-plain : (i j : ℕ) (ps : List Piece) → i ≤ j → NoMatch names text i j → BeginsNotPlain ps → PiecesFrom names text j ps → PiecesFrom names text i (plain_between i j ++ ps)
+  PiecesFrom-plain : (i j : ℕ) (ps : List Piece) → i ≤ j → NoMatch names text i j → BeginsNotPlain ps → PiecesFrom names text j ps
+      → PiecesFrom names text i (plain_between i j ++ ps)
   PiecesFrom-plain i j ps le none other h =
       cond_both (nat_lt i j) (Plain (span i j) ∷ []) [] (λ qs. PiecesFrom names text i (qs ++ ps))
       (λ lt. (refl, ltb-true i j lt, none, other, h))
@@ -59,9 +62,11 @@ module _ (names : List (List ℕ)) (text : List ℕ) where
   pub ArePiecesUpTo-match : (ps : List Piece) (i j : ℕ) (p : Piece) → i ≤ j → NoMatch names text i j → match_at names text j ≡ Some p
       → ArePiecesUpTo i ps → ArePiecesUpTo (end_of p) (ps ++ plain_between i j ++ p ∷ [])
   ArePiecesUpTo-match ps i j p le none e up rest h =
-      simp append_assoc (up (plain_between i j ++ (p ∷ rest)) (PiecesFrom-plain i j (p ∷ rest) le none (match_first j p rest e) (PiecesFrom-match j p rest e h)))
+      simp append_assoc (up (plain_between i j ++ (p ∷ rest)) (PiecesFrom-plain i j (p ∷ rest) le none (match_first j p rest e)
+      (PiecesFrom-match j p rest e h)))
 
-  pub IsPieces-end : (ps : List Piece) (i : ℕ) → i ≤ length text → NoMatch names text i (length text) → ArePiecesUpTo i ps → IsPieces names text (ps ++ plain_between i (length text))
+  pub IsPieces-end : (ps : List Piece) (i : ℕ) → i ≤ length text → NoMatch names text i (length text) → ArePiecesUpTo i ps
+      → IsPieces names text (ps ++ plain_between i (length text))
   IsPieces-end ps i le none up =
       subst (λ qs. IsPieces names text (ps ++ qs)) (append-nil (plain_between i (length text)))
       (up (plain_between i (length text) ++ []) (PiecesFrom-plain i (length text) [] le none tt refl))

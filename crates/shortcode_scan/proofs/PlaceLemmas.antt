@@ -26,7 +26,12 @@ found test (suc n) low k h =
     elim (cases_eq low k) [
       | inl e ↦ cond-true (test low) (Some low) _ (rw e h.here) ∙ ap Some e
       | inr ne ↦ cond-false (test low) (Some low) _ (h.before low (omega arith) (omega (arith, h.low_le))) ∙
-          found test n (low + 1) k (record { low_le = omega (arith, h.low_le); below = omega (arith, h.below); before = λ j a b. h.before j (omega arith) b; here = h.here })
+          found test n (low + 1) k (record {
+            low_le = omega (arith, h.low_le);
+            below = omega (arith, h.below);
+            before = λ j a b. h.before j (omega arith) b;
+            here = h.here;
+          })
     ]
 
 not_found : (test : ℕ → Bool) (n low : ℕ) → NonePasses test low (low + n) → find test (range_with_len low n) ≡ None

@@ -90,10 +90,12 @@ module _ (text : List ℕ) (utf8 : IsUtf8 text) where
     closing_spans (Some k) eq =
         let h = first_place-some (occurs_at text (closing_tag name)) (r + 1) (length text) k eq in
         let there = OccursAt-true text (closing_tag name) k h.here in
-        let long : length (closing_tag name) ≡ length name + 3 = omega (arith, length-append (codes "[/") name, length-append (codes "[/" ++ name) (codes "]")) in
+        let long : length (closing_tag name) ≡ length name + 3 = omega
+        (arith, length-append (codes "[/") name, length-append (codes "[/" ++ name) (codes "]")) in
         let opens : slice_index text k ≡ 91 = ap (slice_index text) (sym (add-zero k)) ∙ there.reads 0 (omega (arith, long)) in
         let last : slice_index text (k + (length name + 2)) ≡ 93 =
-        there.reads (length name + 2) (omega (arith, long)) ∙ get_or_push (codes "[/" ++ name) 93 0 (length name + 2) (omega (arith, length-append (codes "[/") name)) in
+        there.reads (length name + 2) (omega (arith, long)) ∙ get_or_push (codes "[/" ++ name) 93 0 (length name + 2)
+        (omega (arith, length-append (codes "[/") name)) in
         let same : k + (length name + 2) + 1 ≡ k + length (closing_tag name) = omega (arith, long) in (
           attributes_span,
           record { ordered = h.low_le; first = behind; last = before k 91 (rw opens refl) (omega arith) (omega arith) },
@@ -103,7 +105,8 @@ module _ (text : List ℕ) (utf8 : IsUtf8 text) where
     core_spans : HasCoreSpans (core_of text name e r)
     unfolding core_of
     core_spans =
-        cond_both (nat_lt e r && slice_index text (r - 1) == 47) (without_content (span e (r - 1)) (r + 1)) (with_closing name e r (closing_from text name (r + 1)))
+        cond_both (nat_lt e r && slice_index text (r - 1) == 47) (without_content (span e (r - 1)) (r + 1))
+        (with_closing name e r (closing_from text name (r + 1)))
         HasCoreSpans
         (λ slash.
         let parts = and_parts (nat_lt e r) (slice_index text (r - 1) == 47) slash in (
@@ -113,14 +116,16 @@ module _ (text : List ℕ) (utf8 : IsUtf8 text) where
         ))
         (λ _. closing_spans (closing_from text name (r + 1)) refl)
 
-  -- without the brackets round it, where a further one closes it
-  unescaped_span : (i : ℕ) (core : Core) (closing : Bool) → i < core.end → IsCharBoundary text (i + 1) → IsCharBoundary text core.end → closing ≡ true → IsSpanOf text (unescaped (span i (if closing then core.end + 1 else core.end)))
+  -- without the brackets round it, if a further one closes it
+  unescaped_span : (i : ℕ) (core : Core) (closing : Bool) → i < core.end → IsCharBoundary text (i + 1) → IsCharBoundary text core.end → closing ≡ true
+      → IsSpanOf text (unescaped (span i (if closing then core.end + 1 else core.end)))
   unescaped_span i core true lt b last e =
       let same : core.end + 1 - 1 ≡ core.end = omega arith in
       subst (λ n. IsSpanOf text (span (i + 1) n)) (sym same) (record { ordered = omega arith; first = b; last = last })
   unescaped_span i core false lt b last e = absurd (false≢true e)
 
-  extras_spans : (i : ℕ) (name : Span) (core : Core) → i < core.end → IsCharBoundary text i → IsCharBoundary text (i + 1) → IsSpanOf text name → HasCoreSpans core → HasSpansOf text (with_extras text i name core)
+  extras_spans : (i : ℕ) (name : Span) (core : Core) → i < core.end → IsCharBoundary text i → IsCharBoundary text (i + 1) → IsSpanOf text name
+      → HasCoreSpans core → HasSpansOf text (with_extras text i name core)
   unfolding with_extras
   extras_spans i name core lt b inner named h = (
     cond_both (slice_index text core.end == 93) (core.end + 1) core.end (λ n. IsSpanOf text (span i n))

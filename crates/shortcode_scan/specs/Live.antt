@@ -16,7 +16,7 @@ is_name_end text e = nat_le (length text) e || ends_name (slice_index text e)
 abbrev pub opening_of : List ℕ → List ℕ
 opening_of name = codes "[" ++ name
 
--- whether this opening, `[` and a name, stands at place k, and the name ends behind it (do_shortcode)
+-- whether this opening, `[` and a name, stands at place k, and the name ends after it (do_shortcode)
 abbrev pub opens_at : List ℕ → List ℕ → ℕ → Bool
 opens_at text opening k = occurs_at text opening k && is_name_end text (k + length opening)
 

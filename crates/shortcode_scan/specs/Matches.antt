@@ -22,11 +22,11 @@ closing_tag name = codes "[/" ++ name ++ codes "]"
 abbrev pub is_doubled : List ℕ → ℕ → Bool
 is_doubled text i = slice_index text (i + 1) == 91
 
--- where the name begins: behind the `[` at place i and an optional second one (get_shortcode_regex)
+-- where the name begins: after the `[` at place i and an optional second one (get_shortcode_regex)
 unfoldable pub name_start : List ℕ → ℕ → Option ℕ
 name_start text i = only_if (slice_index text i == 91) (if is_doubled text i then i + 2 else i + 1)
 
--- the whole name at place j, the longest run of name bytes, where it is one of the names (get_shortcode_regex)
+-- the whole name at place j, the longest run of name bytes, if it is one of the names (get_shortcode_regex)
 unfoldable pub name_at : List (List ℕ) → List ℕ → ℕ → Option (List ℕ)
 name_at names text j = let run = take_while is_name_byte (drop j text) in only_if (list_any (λ n. bytes_eq n run) names) run
 
@@ -43,13 +43,13 @@ closing_from text name e = first_place (occurs_at text (closing_tag name)) e (le
 abbrev pub without_content : Span → ℕ → Core
 without_content atts end = record { atts = atts; content = span end end; end = end }
 
--- attributes from e to r, and content up to the closing tag at k, where there is one (get_shortcode_regex)
+-- attributes from e to r, and content up to the closing tag at k, if there is one (get_shortcode_regex)
 abbrev pub with_closing : List ℕ → ℕ → ℕ → Option ℕ → Core
 with_closing name e r None = without_content (span e r) (r + 1)
 with_closing name e r (Some k) = record { atts = span e r; content = span (r + 1) k; end = k + length (closing_tag name) }
 
--- what stands from the end e of the name on, where the first `]` from there stands at r: a `/` right before it,
--- behind the name, closes the shortcode and is no attribute text (get_shortcode_regex)
+-- what stands from the end e of the name on, if the first `]` from there stands at r: a `/` right before it,
+-- after the name, closes the shortcode and is no attribute text (get_shortcode_regex)
 unfoldable pub core_of : List ℕ → List ℕ → ℕ → ℕ → Core
 core_of text name e r =
     if nat_lt e r && slice_index text (r - 1) == 47 then without_content (span e (r - 1)) (r + 1)

@@ -25,4 +25,5 @@ pub record Knows (names : List (List ℕ)) (text : List ℕ) (m : Memory) : Type
   pub bracket : m.bracket.next ≡ bracket_from text m.bracket.from
   pub tags : m.tags.items ≡ map closing_tag names
   pub count : length m.closings.items ≡ length names
-  pub closings : (k : ℕ) (n : List ℕ) (a : Ahead) → k < length names → IsAheadOf text (closing_tag (slice_index_or names k n)) (slice_index_or m.closings.items k a)
+  pub closings : (k : ℕ) (n : List ℕ) (a : Ahead) → k < length names
+      → IsAheadOf text (closing_tag (slice_index_or names k n)) (slice_index_or m.closings.items k a)

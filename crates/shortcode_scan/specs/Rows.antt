@@ -20,11 +20,14 @@ is_none_true None e = refl
 is_none_true (Some x) e = cc
 
 -- that no match begins in a stretch, by a test that computes
-none_in : (names : List (List ℕ)) (text : List ℕ) (i j : ℕ) → list_all (λ k. is_none (match_at names text k)) (range_with_len i (j - i)) ≡ true → NoMatch names text i j
+none_in : (names : List (List ℕ)) (text : List ℕ) (i j : ℕ) → list_all (λ k. is_none (match_at names text k)) (range_with_len i (j - i)) ≡ true
+    → NoMatch names text i j
 none_in names text i j e k a b =
-    let test = AllPass-from_list_all (λ k. is_none (match_at names text k)) (range_with_len i (j - i)) e (k - i) 0 (omega (arith, length-range_with_len i (j - i))) in
+    let test = AllPass-from_list_all (λ k. is_none (match_at names text k)) (range_with_len i (j - i)) e (k - i) 0
+    (omega (arith, length-range_with_len i (j - i))) in
     let at : i + (k - i) ≡ k = omega arith in
-    is_none_true (match_at names text k) (subst (λ k. is_none (match_at names text k) ≡ true) (get_or-range_with_len i (j - i) (k - i) 0 (omega arith) ∙ at) test)
+    is_none_true (match_at names text k) (subst (λ k. is_none (match_at names text k) ≡ true) (get_or-range_with_len i (j - i) (k - i) 0 (omega arith) ∙ at)
+    test)
 
 abbrev b : List (List ℕ)
 b = codes "b" ∷ []
@@ -76,7 +79,8 @@ closing_alone : IsPieces b (codes "[/b]") (Plain (span 0 4) ∷ [])
 unfolding computing
 closing_alone = (refl, lit< tt, none_in b (codes "[/b]") _ _ refl, tt, refl)
 
-comma : IsPieces b (codes "[b,x][b]") (Match (span 0 5) (span 1 2) (span 2 4) (span 5 5) false false ∷ Match (span 5 8) (span 6 7) (span 7 7) (span 8 8) false false ∷ [])
+comma : IsPieces b (codes "[b,x][b]") (Match (span 0 5) (span 1 2) (span 2 4) (span 5 5) false false
+    ∷ Match (span 5 8) (span 6 7) (span 7 7) (span 8 8) false false ∷ [])
 unfolding computing
 comma = (refl, (refl, refl))
 

@@ -29,7 +29,7 @@ pub(crate) struct Memory {
 }
 
 impl Ahead {
-    /// What is known where no search was made: that nothing begins at the end of the text.
+    /// What is known if no search was made: that nothing begins at the end of the text.
     fn unsearched(text: &[u8]) -> Ahead
         ensures { result ≡ unsearched text.now }
     {

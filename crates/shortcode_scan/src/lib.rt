@@ -40,7 +40,7 @@ pub enum Piece {
         name: Span,
         /// The attribute text: what stands between the name and the end of the opening tag.
         atts: Span,
-        /// The text up to the closing tag. Where there is none, an empty stretch at the end of the shortcode, before a
+        /// The text up to the closing tag. If there is none, an empty stretch at the end of the shortcode, before a
         /// closing extra.
         content: Span,
         /// Whether a second `[` stands before the name.
@@ -57,7 +57,7 @@ const FEW_NAMES: usize = 8;
 /// The names that the text opens, in the order of `names`: those that stand in it as `[` and the name, followed by the
 /// end or by one of `<`, `>`, `&`, `/`, `[`, `]`, `=` and the bytes up to the space (Shortcode API, do_shortcode).
 ///
-/// Refused for want of memory alone.
+/// It fails only if memory runs out.
 pub fn live(alloc: Global, names: &[TagName], text: &str) -> Result<Vec<TagName>, AllocError>
     ensures { IfOk result (λ found. found.items ≡ live names.now text.now) }
 {
@@ -72,10 +72,10 @@ pub fn live(alloc: Global, names: &[TagName], text: &str) -> Result<Vec<TagName>
     }
 }
 
-/// The pieces of the text, where `live` are the names that count (Shortcode API, get_shortcode_regex): from its first
+/// The pieces of the text, with `live` as the names that count (Shortcode API, get_shortcode_regex): from its first
 /// byte to its last, leftmost shortcode first, none within another.
 ///
-/// Refused for want of memory alone.
+/// It fails only if memory runs out.
 pub fn pieces(alloc: Global, live: &[TagName], text: &str) -> Result<Vec<Piece>, AllocError>
     ensures pieces { IfOk result (λ pieces. IsPieces live.now text.now pieces.items) }
     ensures value { IfOk result (λ pieces. pieces.items ≡ pieces_of live.now text.now) }

@@ -28,7 +28,7 @@ fn is_name_end(text: &[u8], end: usize) -> bool
     end == text.len() || ends_name(text[end])
 }
 
-/// Whether the text has this opening, `[` and a name, where the name ends behind it.
+/// Whether the text has this opening, `[` and a name, and the name ends after it.
 fn has_opening(text: &[u8], opening: &[u8]) -> bool
     requires { 0 < length opening.now }
     ensures { result ≡ has_opening text.now opening.now }

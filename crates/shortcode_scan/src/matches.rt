@@ -101,7 +101,7 @@ fn index_of(names: &[TagName], run: &[u8]) -> Option<usize>
     None
 }
 
-/// What follows the end of a name, where the first `]` from there on is at `bracket`.
+/// What follows the end of a name, if the first `]` from there on is at `bracket`.
 #[tactic(auto, unfolding(crate::specs::Matches::core_of))]
 fn core_of(
     text: &[u8],
@@ -149,7 +149,7 @@ fn core_of(
     }
 }
 
-/// What follows the end of a live name, where the first `]` from there on is at `bracket`.
+/// What follows the end of a live name, if the first `]` from there on is at `bracket`.
 fn core_named(
     names: &[TagName],
     text: &[u8],
@@ -219,7 +219,7 @@ fn match_at(names: &[TagName], text: &[u8], memory: &mut Memory, at: usize) -> O
     Some(with_extras(text, at, Span { start, end }, core))
 }
 
-/// The first match from a place on. Where no `]` is ahead no shortcode ends, and the search is over.
+/// The first match from a place on. If no `]` is ahead no shortcode ends, and the search is over.
 fn next_match(names: &[TagName], text: &[u8], memory: &mut Memory, from: usize) -> Option<Found>
     requires in_text { from ≤ length text.now }
     requires known { Knows names.now text.now memory.old }

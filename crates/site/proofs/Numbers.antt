@@ -4,10 +4,11 @@ use Rattle.std.specs.Prelude.{if◌then◌else◌}
 use Rattle.std.proofs.lemmas.List.{map-append, take_more}
 
 -- one more callback has the next number
-pub one_more : {X : Type 0} (id : X → ℕ) (old new : List X) (x : X) (numbers : List ℕ) (i : ℕ) → new ≡ old ++ x ∷ [] → id x ≡ slice_index_or numbers i 0 → i < length numbers
+pub one_more : {X : Type 0} (id : X → ℕ) (old new : List X) (x : X) (numbers : List ℕ) (i : ℕ) → new ≡ old ++ x ∷ [] → id x ≡ slice_index_or numbers i 0
+    → i < length numbers
     → map id old ≡ take i numbers → map id new ≡ take (i + 1) numbers
 one_more id old new x numbers i pushed numbered inside so_far = search (rules, pushed, numbered, so_far, map-append, take_more numbers i 0 inside)
 
--- what holds where a test does
+-- what holds if a test does
 pub where_true : {X : Type 0} (test : Bool) (new first second : X) → test ≡ true → new ≡ (if test then first else second) → new ≡ first
 where_true test new first second holds is = is ∙ ap (λ b. if b then first else second) holds

@@ -35,7 +35,7 @@ fn main(rt: HostRuntime) -> ExitCode {
     run(&rt, Listed::new(callbacks))
 }
 
-/// Does what the words behind the program's name ask for.
+/// Does what the command-line arguments ask for.
 fn run(rt: &HostRuntime, callbacks: Listed<Stored>) -> ExitCode
     requires { map ⟦<Stored as Stated>⟧.number callbacks ≡ numbers }
 {
@@ -84,7 +84,7 @@ fn serve(rt: &HostRuntime, callbacks: Listed<Stored>, calls: u32, cache: u32) ->
     }
 }
 
-/// The words behind the program's name.
+/// The command-line arguments.
 fn words(rt: &HostRuntime) -> io::Result<Vec<String>> {
     let mut words = Vec::new(rt.alloc());
     for word in env::args(rt)?.skip(1) {

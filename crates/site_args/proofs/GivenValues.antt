@@ -33,24 +33,30 @@ pub record IsNumberArg (c : Command) (k : ℕ) (a : Arg) (id : Text) (most : ℕ
   pub named : id ≡ [] → ⊥
 
 -- an argument of the built command under that id keeps the rules
-same_rules : (old : Command) (k : ℕ) (a : Arg) (id : Text) (most : ℕ) → IsNumberArg old k a id most → (m : ArgMatches) (p : IsParsedFrom old m) → (j : ℕ) (x : Arg) → j < length (args_of p.built) → slice_index_or (args_of p.built) j x ≡ x → bytes_eq x.id.now id ≡ true → SameRules a x
+same_rules : (old : Command) (k : ℕ) (a : Arg) (id : Text) (most : ℕ) → IsNumberArg old k a id most → (m : ArgMatches) (p : IsParsedFrom old m)
+    → (j : ℕ) (x : Arg) → j < length (args_of p.built) → slice_index_or (args_of p.built) j x ≡ x → bytes_eq x.id.now id ≡ true → SameRules a x
 same_rules old k a id most n m p j x lt at same =
     let id_at : (slice_index_or (args_of old) k a).id.now ≡ id = ap (λ (w : Arg). w.id.now) n.is ∙ n.id_is in
-    let unique : (i : ℕ) (e : Arg) → i < length (args_of old) → bytes_eq (slice_index_or (args_of old) i e).id.now (slice_index_or (args_of old) k a).id.now ≡ true → i ≡ k = λ i e under alike. n.alone i e under (subst (λ (w : Text). bytes_eq (slice_index_or (args_of old) i e).id.now w ≡ true) id_at alike) in
-    let kept : SameRules (slice_index_or (args_of old) k a) x = same_rules_by_id old m p k a n.within unique (λ auto. n.own (elim auto [ inl h ↦ inl (sym id_at ∙ h) | inr h ↦ inr (sym id_at ∙ h) ])) j x lt at (subst (λ (w : Text). bytes_eq x.id.now w ≡ true) (sym id_at) same) in
+    let unique : (i : ℕ) (e : Arg) → i < length (args_of old) → bytes_eq (slice_index_or (args_of old) i e).id.now (slice_index_or (args_of old) k a).id.now
+    ≡ true → i ≡ k = λ i e under alike. n.alone i e under (subst (λ (w : Text). bytes_eq (slice_index_or (args_of old) i e).id.now w ≡ true) id_at alike) in
+    let kept : SameRules (slice_index_or (args_of old) k a) x = same_rules_by_id old m p k a n.within unique
+    (λ auto. n.own (elim auto [ inl h ↦ inl (sym id_at ∙ h) | inr h ↦ inr (sym id_at ∙ h) ])) j x lt at
+    (subst (λ (w : Text). bytes_eq x.id.now w ≡ true) (sym id_at) same) in
     subst (λ (w : Arg). SameRules w x) n.is kept
 
 parser_kept : (a x : Arg) (q : ValueParser) → SameRules a x → a.value_parser ≡ Some q → parser_of x ≡ q
 parser_kept a x q s given = ap parser_of_value (s.parser q given)
 
 -- a value of the id is a number in the range
-accepted : (old : Command) (k : ℕ) (a : Arg) (id : Text) (most : ℕ) → IsNumberArg old k a id most → (m : ArgMatches) (p : IsParsedFrom old m) (t : Text) → PassesArg p.built id t → IsSignedIn (pos 1) (pos most) t
+accepted : (old : Command) (k : ℕ) (a : Arg) (id : Text) (most : ℕ) → IsNumberArg old k a id most → (m : ArgMatches) (p : IsParsedFrom old m) (t : Text)
+    → PassesArg p.built id t → IsSignedIn (pos 1) (pos most) t
 accepted old k a id most n m p t any =
     let is : parser_of any.1 ≡ Signed (pos 1) (pos most) = parser_kept a any.1 _ (same_rules old k a id most n m p any.0 any.1 any.2 any.3 any.4.0) n.parser in
     subst (λ (q : ValueParser). Accepts any.1.ignore_case q t) is any.4.1
 
 -- and it is read without a minus
-read_so : (old : Command) (k : ℕ) (a : Arg) (id : Text) (most : ℕ) → IsNumberArg old k a id most → (m : ArgMatches) (p : IsParsedFrom old m) (how : Reading) → HasReading p.built id how → how ≡ WithoutMinus
+read_so : (old : Command) (k : ℕ) (a : Arg) (id : Text) (most : ℕ) → IsNumberArg old k a id most → (m : ArgMatches) (p : IsParsedFrom old m) (how : Reading)
+    → HasReading p.built id how → how ≡ WithoutMinus
 read_so old k a id most n m p how any =
     let is : parser_of any.1 ≡ Signed (pos 1) (pos most) = parser_kept a any.1 _ (same_rules old k a id most n m p any.0 any.1 any.2 any.3 any.4.0) n.parser in
     sym any.4.1 ∙ ap reading_of is
@@ -59,32 +65,46 @@ read_so old k a id most n m p how any =
 abbrev pub IsRead : Text → ℕ → Type 0
 IsRead t most = (raw : Text) × (t ≡ without_minus raw) × IsSignedIn (pos 1) (pos most) raw
 
-first_read : (P : Bor Text → Type 0) (most : ℕ) (how : Reading) (vs : List (Bor Text)) (t : Text) → ((v : Bor Text) → P v → IsSignedIn (pos 1) (pos most) v.now) → how ≡ WithoutMinus → All P vs → option_map (λ s. read_as how s.now) (slice_get vs 0) ≡ Some t → IsRead t most
+first_read : (P : Bor Text → Type 0) (most : ℕ) (how : Reading) (vs : List (Bor Text)) (t : Text)
+    → ((v : Bor Text) → P v → IsSignedIn (pos 1) (pos most) v.now) → how ≡ WithoutMinus → All P vs
+    → option_map (λ s. read_as how s.now) (slice_get vs 0) ≡ Some t → IsRead t most
 first_read P most how [] t passes minus all h = cc
 first_read P most how (v ∷ vs) t passes minus all h =
     let same : Some (read_as how v.now) ≡ Some t = h in
     let read : read_as how v.now ≡ t = cc in
     (v.now, sym read ∙ ap (λ (w : Reading). read_as w v.now) minus, passes v (All-get_or P (v ∷ vs) 0 v (omega arith) all))
 
-entry_read : (old : Command) (k : ℕ) (a : Arg) (id : Text) (most : ℕ) → IsNumberArg old k a id most → (m : ArgMatches) (p : IsParsedFrom old m) → groups_of p.built ≡ [] → (x : MatchedArg) (t : Text) → ((e : Entry) × (e.1 ≡ x) × (bytes_eq e.0.now id ≡ true) × EntryPasses p.built e) → option_map (λ s. read_as x.reading s.now) (slice_get x.vals.items 0) ≡ Some t → IsRead t most
+entry_read : (old : Command) (k : ℕ) (a : Arg) (id : Text) (most : ℕ) → IsNumberArg old k a id most → (m : ArgMatches) (p : IsParsedFrom old m)
+    → groups_of p.built ≡ [] → (x : MatchedArg) (t : Text) → ((e : Entry) × (e.1 ≡ x) × (bytes_eq e.0.now id ≡ true) × EntryPasses p.built e)
+    → option_map (λ s. read_as x.reading s.now) (slice_get x.vals.items 0) ≡ Some t → IsRead t most
 entry_read old k a id most n m p none x t got h =
     let e : Entry = got.0 in
     let key : e.0.now ≡ id = (bytes_eq-Decides e.0.now id).0 got.2 in
-    let no_group : e.1.is_group ≡ true → ⊥ = λ g. elim (got.3.3 g) [ inl empty ↦ n.named (sym key ∙ empty) | inr lots ↦ let bad : 0 < 0 = rw none at lots in absurd (omega arith) ] in
-    let how : e.1.reading ≡ WithoutMinus = elim got.3.4 [ inl g ↦ absurd (no_group g) | inr r ↦ read_so old k a id most n m p e.1.reading (subst (λ (w : Text). HasReading p.built w e.1.reading) key r) ] in
-    let all : All (λ v. PassesArg p.built id v.now) e.1.vals.items = elim got.3.0 [ inl g ↦ absurd (no_group g) | inr vals ↦ subst (λ (w : Text). All (λ v. PassesArg p.built w v.now) e.1.vals.items) key vals ] in
-    first_read (λ v. PassesArg p.built id v.now) most e.1.reading e.1.vals.items t (λ v pass. accepted old k a id most n m p v.now pass) how all (subst (λ (w : MatchedArg). option_map (λ s. read_as w.reading s.now) (slice_get w.vals.items 0) ≡ Some t) (sym got.1) h)
+    let no_group : e.1.is_group ≡ true → ⊥ = λ g. elim (got.3.3 g)
+    [ inl empty ↦ n.named (sym key ∙ empty) | inr lots ↦ let bad : 0 < 0 = rw none at lots in absurd (omega arith) ] in
+    let how : e.1.reading ≡ WithoutMinus = elim got.3.4 [
+      | inl g ↦ absurd (no_group g)
+      | inr r ↦ read_so old k a id most n m p e.1.reading
+          (subst (λ (w : Text). HasReading p.built w e.1.reading) key r)
+    ] in
+    let all : All (λ v. PassesArg p.built id v.now) e.1.vals.items = elim got.3.0
+    [ inl g ↦ absurd (no_group g) | inr vals ↦ subst (λ (w : Text). All (λ v. PassesArg p.built w v.now) e.1.vals.items) key vals ] in
+    first_read (λ v. PassesArg p.built id v.now) most e.1.reading e.1.vals.items t (λ v pass. accepted old k a id most n m p v.now pass) how all
+    (subst (λ (w : MatchedArg). option_map (λ s. read_as w.reading s.now) (slice_get w.vals.items 0) ≡ Some t) (sym got.1) h)
 
 -- a text that is read of an option of the program comes of a number in its range
-pub given : (old : Command) (k : ℕ) (a : Arg) (id : Text) (most : ℕ) → IsNumberArg old k a id most → (m : ArgMatches) (p : IsParsedFrom old m) → app_of old ≡ site_app → (t : Text) → one_text (found_of m) id ≡ Some t → IsRead t most
+pub given : (old : Command) (k : ℕ) (a : Arg) (id : Text) (most : ℕ) → IsNumberArg old k a id most → (m : ArgMatches) (p : IsParsedFrom old m)
+    → app_of old ≡ site_app → (t : Text) → one_text (found_of m) id ≡ Some t → IsRead t most
 given old k a id most n m p is t text = go (matched_of (found_of m) id) refl text
   where
     none : groups_of p.built ≡ []
     none = (p.from.same_groups (no_groups old is)).1 ∙ (plain old is).groups
 
-    go : (o : Option MatchedArg) → matched_of (found_of m) id ≡ o → option_and_then (λ x. option_map (λ s. read_as x.reading s.now) (slice_get x.vals.items 0)) (matched_of (found_of m) id) ≡ Some t → IsRead t most
+    go : (o : Option MatchedArg) → matched_of (found_of m) id ≡ o
+        → option_and_then (λ x. option_map (λ s. read_as x.reading s.now) (slice_get x.vals.items 0)) (matched_of (found_of m) id) ≡ Some t → IsRead t most
     go None e h = let bad : None ≡ Some t = rw e at h in cc
-    go (Some x) e h = entry_read old k a id most n m p none x t (entry_by_id (EntryPasses p.built) (found_of m).entries.items id x (p.parsed (p.from.globals ∙ (plain old is).globals)).values e) (rw e at h)
+    go (Some x) e h = entry_read old k a id most n m p none x t (entry_by_id (EntryPasses p.built) (found_of m).entries.items id x
+        (p.parsed (p.from.globals ∙ (plain old is).globals)).values e) (rw e at h)
 
 -- a list whose items are seen as these two
 record AreTwo {A B : Type 0} (f : A → B) (xs : List A) (r s : B) : Type 0 where
@@ -101,12 +121,14 @@ two_items f (a ∷ b ∷ []) r s e = let same : f a ∷ f b ∷ [] ≡ r ∷ s �
 two_items f (a ∷ b ∷ x ∷ xs) r s e = let same : f a ∷ f b ∷ f x ∷ map f xs ≡ r ∷ s ∷ [] = e in cc
 
 -- an id of one option is not that of the other
-calls_alone : (a b : Arg) → a.id.now ≡ codes "calls" → b.id.now ≡ codes "cache" → (j : ℕ) (e : Arg) → j < 2 → bytes_eq (slice_index_or (a ∷ b ∷ []) j e).id.now (codes "calls") ≡ true → j ≡ 0
+calls_alone : (a b : Arg) → a.id.now ≡ codes "calls" → b.id.now ≡ codes "cache" → (j : ℕ) (e : Arg) → j < 2
+    → bytes_eq (slice_index_or (a ∷ b ∷ []) j e).id.now (codes "calls") ≡ true → j ≡ 0
 calls_alone a b p q zero e lt same = refl
 calls_alone a b p q (suc zero) e lt same = let no : bytes_eq (codes "cache") (codes "calls") ≡ true = rw q at same in cc
 calls_alone a b p q (suc (suc j)) e lt same = absurd (omega arith)
 
-cache_alone : (a b : Arg) → a.id.now ≡ codes "calls" → b.id.now ≡ codes "cache" → (j : ℕ) (e : Arg) → j < 2 → bytes_eq (slice_index_or (a ∷ b ∷ []) j e).id.now (codes "cache") ≡ true → j ≡ 1
+cache_alone : (a b : Arg) → a.id.now ≡ codes "calls" → b.id.now ≡ codes "cache" → (j : ℕ) (e : Arg) → j < 2
+    → bytes_eq (slice_index_or (a ∷ b ∷ []) j e).id.now (codes "cache") ≡ true → j ≡ 1
 cache_alone a b p q zero e lt same = let no : bytes_eq (codes "calls") (codes "cache") ≡ true = rw p at same in cc
 cache_alone a b p q (suc zero) e lt same = refl
 cache_alone a b p q (suc (suc j)) e lt same = absurd (omega arith)
@@ -146,14 +168,19 @@ cache_arg c is =
     )
 
 -- what is read of the two options
-pub calls_read : (c : Command) (m : ArgMatches) → app_of c ≡ site_app → IsParsedFrom c m → (t : Text) → one_text (found_of m) (codes "calls") ≡ Some t → IsRead t 100000
+pub calls_read : (c : Command) (m : ArgMatches) → app_of c ≡ site_app → IsParsedFrom c m → (t : Text) → one_text (found_of m) (codes "calls") ≡ Some t
+    → IsRead t 100000
 calls_read c m is p = let arg = calls_arg c is in given c 0 arg.0 _ _ arg.1 m p is
 
-pub cache_read : (c : Command) (m : ArgMatches) → app_of c ≡ site_app → IsParsedFrom c m → (t : Text) → one_text (found_of m) (codes "cache") ≡ Some t → IsRead t 4096
+pub cache_read : (c : Command) (m : ArgMatches) → app_of c ≡ site_app → IsParsedFrom c m → (t : Text) → one_text (found_of m) (codes "cache") ≡ Some t
+    → IsRead t 4096
 cache_read c m is p = let arg = cache_arg c is in given c 1 arg.0 _ _ arg.1 m p is
 
--- a number that is read so is the one that the text says, and in the range; where there is no text, it is the default
-pub number_is : {E : Type 0} (G : Text → Result ℕ E → Type 0) (default most : ℕ) (o : Option Text) (r : Option ℕ) → ((u : Text) (x : Result ℕ E) → G u x → ParsesUnsigned 32 10 u x) → most < 2 ^ 32 → (1 ≤ default) × (default ≤ most) → (o ≡ None → r ≡ None) → ((t : Text) → o ≡ Some t → ReadsOne G t r) → ((t : Text) → o ≡ Some t → IsRead t most) → (1 ≤ unwrap_or r default) × (unwrap_or r default ≤ most) × (unwrap_or r default ≡ number_or default o)
+-- a number that is read so is the one that the text says, and in the range; if there is no text, it is the default
+pub number_is : {E : Type 0} (G : Text → Result ℕ E → Type 0) (default most : ℕ) (o : Option Text) (r : Option ℕ)
+    → ((u : Text) (x : Result ℕ E) → G u x → ParsesUnsigned 32 10 u x) → most < 2 ^ 32 → (1 ≤ default) × (default ≤ most) → (o ≡ None → r ≡ None)
+    → ((t : Text) → o ≡ Some t → ReadsOne G t r) → ((t : Text) → o ≡ Some t → IsRead t most)
+    → (1 ≤ unwrap_or r default) × (unwrap_or r default ≤ most) × (unwrap_or r default ≡ number_or default o)
 number_is {E} G default most None r only fits range none value read = rw (none refl) (range.0, range.1, refl)
 number_is {E} G default most (Some t) r only fits range none value read =
     let got = read t refl in

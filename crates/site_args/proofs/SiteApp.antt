@@ -16,11 +16,12 @@ pub simple_and_free : is_simple_and_free site_app ≡ true
 unfolding clap_on_literals site_app
 simple_and_free = refl
 
--- a command line of words that stand behind the program's name
+-- a command line of words that stand after the program's name
 abbrev pub without_name : App → App
 without_name a = on_top (λ s. record s { no_binary_name = true }) a
 
-pub app_is : (a : App) (r s : Rule) → a ≡ without_name (new_app (codes "site")) → r ≡ number_rule (codes "calls") 100000 → s ≡ number_rule (codes "cache") 4096 → with_rule (with_rule a r) s ≡ site_app
+pub app_is : (a : App) (r s : Rule) → a ≡ without_name (new_app (codes "site")) → r ≡ number_rule (codes "calls") 100000
+    → s ≡ number_rule (codes "cache") 4096 → with_rule (with_rule a r) s ≡ site_app
 unfolding site_app
 app_is a r s p q t = ap₂ with_rule (ap₂ with_rule p q) t
 

@@ -17,7 +17,7 @@ abbrev pub HasNumbers : List Text → ArgsAnswer → Type 0
 HasNumbers words (Run calls cache) = (calls ≡ calls_of words) × (cache ≡ cache_of words)
 HasNumbers words _ = Unit {0}
 
--- clap takes the words, or asks to show help, or turns them down; of a want of memory nothing is said
+-- clap accepts the arguments, or asks to show help, or refuses them; of an allocation failure nothing is said
 abbrev pub IsOutcome : Kinds → ArgsAnswer → Type 0
 IsOutcome kinds (Run calls cache) = kinds ≡ []
 IsOutcome kinds (Help text) = IsAmong DisplayHelp kinds

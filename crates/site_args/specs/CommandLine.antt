@@ -15,17 +15,17 @@ number_rule name most = record (new_rule name) {
   parser = Some (parser.Signed (pos 1) (pos most));
 }
 
--- `site [--calls N] [--cache N]`, of words that stand behind the program's name; clap adds `--help`
+-- `site [--calls N] [--cache N]`, of the command-line arguments; clap adds `--help`
 unfoldable pub site_app : App
 site_app =
     with_rule (with_rule (on_top (λ s. record s { no_binary_name = true }) (new_app (codes "site")))
     (number_rule (codes "calls") 100000)) (number_rule (codes "cache") 4096)
 
--- why clap turns the words down, by the first of its steps that does, and nothing where it takes them
+-- why clap refuses the arguments, by the first of its steps that does, and nothing if it accepts them
 abbrev pub reasons : List Text → Kinds
 reasons words = fault_of site_app words
 
--- the number that is given in decimal digits, or the default where none is given
+-- the number that is given in decimal digits, or the default if none is given
 abbrev pub number_or : ℕ → Option Text → ℕ
 number_or default None = default
 number_or default (Some text) = digits_value 10 (without_leading_plus text)

@@ -9,14 +9,14 @@ use clap::Error;
 use clap::error::ErrorKind;
 use std::alloc::Global;
 
-/// What the words behind the program's name ask for.
+/// What the command-line arguments ask for.
 #[derive(Drop)]
 pub enum ArgsAnswer {
     /// Serve.
     Run {
-        /// How many callbacks each page may call: 1 to 100,000, and 10,000 where no word says it.
+        /// How many callbacks each page may call: 1 to 100,000, and 10,000 if no argument says it.
         calls: u32,
-        /// How many texts keep their pieces: 1 to 4,096, and 64 where no word says it.
+        /// How many texts keep their pieces: 1 to 4,096, and 64 if no argument says it.
         cache: u32,
     },
     /// Show this help, and serve nothing.
@@ -27,7 +27,7 @@ pub enum ArgsAnswer {
     OutOfMemory,
 }
 
-/// Reads the words behind the program's name: `--calls N`, `--cache N` (also as `--calls=N`) and
+/// Parses the command-line arguments: `--calls N`, `--cache N` (also as `--calls=N`) and
 /// `--help`. An option given twice, a number out of its range, any other option and any other word
 /// are [`ArgsAnswer::Bad`]. The last clause says in clap's terms which answer it is.
 pub fn read_args(alloc: Global, words: &[String]) -> ArgsAnswer
@@ -56,7 +56,7 @@ fn read_numbers(alloc: Global, words: &[String]) -> Result<(u32, u32), Error>
     Ok((calls, cache))
 }
 
-/// What an error of clap's means. Where its text has no memory, that is all that is said.
+/// What an error of clap's means. If its text has no memory, that is all that is said.
 fn refusal(alloc: Global, error: &Error) -> ArgsAnswer
     ensures outcome { (kinds : Kinds) → HasKind kinds error.now → IsOutcome kinds result }
     ensures refusal { IsRefusal result }

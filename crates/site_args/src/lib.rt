@@ -1,4 +1,4 @@
-//! The words behind the program's name: how many calls a page has, and how many texts are kept.
+//! The command-line arguments: how many calls a page has, and how many texts are kept.
 //! `clap` reads them.
 #![tactic(auto)]
 

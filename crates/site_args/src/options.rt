@@ -32,7 +32,7 @@ fn cache_option<'a>(alloc: Global) -> Arg<'a>
         .value_parser(value_parser!(u32).range(1..=4_096))
 }
 
-/// The whole command line, for words that begin behind the program's name.
+/// The whole command line, for arguments that begin after the program's name.
 pub(crate) fn site_command<'a>(alloc: Global) -> Result<Command<'a>, AllocError>
     ensures { IfOk result (λ command. app_of command ≡ site_app) }
 {

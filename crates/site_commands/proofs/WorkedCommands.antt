@@ -16,15 +16,18 @@ computes : ℕ
 unfolding tree_of command_of put_of edit_of delete_of option_of activate_of deactivate_of template_of import_of get_of serde_json_on_literals is_utf8 chars
 computes = 0
 
-pub defaults : line_command (codes "{\"cmd\":\"put\",\"date\":\"2024-05-01 10:00:00\"}") ≡ Some (put Post Publish (codes "") (codes "") (codes "2024-05-01 10:00:00"))
+pub defaults : line_command (codes "{\"cmd\":\"put\",\"date\":\"2024-05-01 10:00:00\"}")
+    ≡ Some (put Post Publish (codes "") (codes "") (codes "2024-05-01 10:00:00"))
 unfolding computes
 defaults = refl
 
-pub page_draft : line_command (codes "{\"cmd\":\"put\",\"kind\":\"page\",\"status\":\"draft\",\"date\":\"D\"}") ≡ Some (put Page Draft (codes "") (codes "") (codes "D"))
+pub page_draft : line_command (codes "{\"cmd\":\"put\",\"kind\":\"page\",\"status\":\"draft\",\"date\":\"D\"}")
+    ≡ Some (put Page Draft (codes "") (codes "") (codes "D"))
 unfolding computes
 page_draft = refl
 
-pub texts : line_command (codes "{\"cmd\":\"put\",\"title\":\"T\",\"content\":\"C\",\"date\":\"D\"}") ≡ Some (put Post Publish (codes "T") (codes "C") (codes "D"))
+pub texts : line_command (codes "{\"cmd\":\"put\",\"title\":\"T\",\"content\":\"C\",\"date\":\"D\"}")
+    ≡ Some (put Post Publish (codes "T") (codes "C") (codes "D"))
 unfolding computes
 texts = refl
 
@@ -106,7 +109,8 @@ pub deactivated : line_command (codes "{\"cmd\":\"deactivate\",\"plugin\":\"bold
 unfolding computes
 deactivated = refl
 
-pub templated : line_command (codes "{\"cmd\":\"template\",\"name\":\"index\",\"body\":[\"x\"]}") ≡ Some (template (codes "index") (array (item (string (codes "x")) no_items)))
+pub templated : line_command (codes "{\"cmd\":\"template\",\"name\":\"index\",\"body\":[\"x\"]}")
+    ≡ Some (template (codes "index") (array (item (string (codes "x")) no_items)))
 unfolding computes
 templated = refl
 

@@ -29,11 +29,11 @@ use site_values::{
 pub enum Command<'v> {
     /// Store one more post or page.
     Put {
-        /// A post where the line doesn't say.
+        /// A post if the line doesn't say.
         kind: PostKind,
-        /// Published where the line doesn't say.
+        /// Published if the line doesn't say.
         status: PostStatus,
-        /// Empty where the line doesn't say, as is the content.
+        /// Empty if the line doesn't say, as is the content.
         title: &'v str,
         content: &'v str,
         /// Any text: `site_records::PostDate` reads it.
@@ -86,10 +86,10 @@ pub enum Command<'v> {
     },
 }
 
-/// The command of a tree, or `None` where it is none: where the tree is no object, its `cmd` is no
+/// The command of a tree, or `None` if it isn't one: if the tree is no object, its `cmd` is no
 /// text that names a command, or a key of that command is missing and has no default, is of another
 /// kind or out of its range. `null` is of another kind than any. Other keys are ignored.
-/// It takes no memory.
+/// It does not allocate.
 #[tactic(auto, unfolding(crate::specs::Asked::command_of))]
 pub fn read_command(value: &Value) -> Option<Command<'_>>
     ensures { option_map asked_by result ≡ command_of (view value.now) }

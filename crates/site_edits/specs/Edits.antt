@@ -11,21 +11,25 @@ use Rattle.site_values.specs.Limits.{max_title, max_content, max_value, fits}
 use Rattle.site_replies.specs.declared.reply.Refusal.TheVariants.{NoSuchPost, BadDate, UnknownPlugin, TooLarge, IdsUsedUp}
 use Rattle.site_replies.specs.Reply.{Answer, done, done_id, refused}
 
--- the greatest ID of a post
+-- the largest ID of a post
 abbrev pub max_id : ℕ
 max_id = 2147483647
 
--- where an edit leaves a text out, nothing of it can be wrong
+-- if an edit leaves a text out, nothing of it can be wrong
 abbrev pub if_given : (Text → Bool) → Option Text → Bool
 if_given test text = option_map_or test text true
 
--- `put`: one more post, under the ID after the greatest one ever given (wp_insert_post)
+-- `put`: one more post, under the ID after the largest one ever given (wp_insert_post)
 unfoldable pub put : Rows → PostKind → PostStatus → (title content date : Text) → Rows × Answer
 put rows kind status title content date =
     if not (fits max_title title && fits max_content content) then (rows, refused TooLarge)
     else (if not (is_post_date date) then (rows, refused BadDate)
     else (if nat_lt rows.largest max_id
-    then (with_new (record { id = rows.largest + 1; kind = kind; status = status; title = title; content = content; date = date }) rows, done_id (rows.largest + 1))
+    then (
+      with_new (record { id = rows.largest + 1; kind = kind; status = status; title = title; content = content; date = date }) rows,
+      done_id
+          (rows.largest + 1),
+    )
     else (rows, refused IdsUsedUp)))
 
 -- the post with the ID, edited, if there is one

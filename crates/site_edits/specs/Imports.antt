@@ -22,7 +22,7 @@ import_refusal fault.OutOfMemory = refused OutOfMemory
 abbrev pub are_known : List Shape → List Text → Bool
 are_known plugins names = list_all (λ name. is_some (load_of plugins name)) names
 
--- the records are added, where no ID of theirs stands twice or is there already
+-- the records are added, if no ID of theirs stands twice or is there already
 abbrev pub added : Rows → SiteRecords → Rows × Answer
 added rows records =
     if are_new records.posts rows.posts

@@ -37,7 +37,7 @@ pub fn import<S: Stated>(
     }
 }
 
-/// The records of a site file are added, where there is each plugin that is active in it.
+/// The records of a site file are added, if there is each plugin that is active in it.
 fn add_known<S: Stated>(
     plugins: &Plugins<S>,
     tables: &mut Tables,

@@ -25,12 +25,12 @@ use Rattle.site_import.specs.declared.fault.Section.TheVariants.{Posts}
 abbrev pub HasId : Post → Type 0
 HasId post = (1 ≤ post.id) × (post.id ≤ 2147483647)
 
--- what was found, where something follows from it
+-- what was found, if something follows from it
 found_first : {A B : Type 0} (found : Option A) (next : A → Option B) (b : B) → with_found found next ≡ Some b → (a : A) × (found ≡ Some a) × (next a ≡ Some b)
 found_first None next b e = absurd (cc)
 found_first (Some a) next b e = (a, refl, e)
 
--- what was read, where something was read behind it
+-- what was read, if something was read after it
 read_first : {A B : Type 0} (read : Read A) (next : A → Read B) (b : B) → and_read read next ≡ Ok b → (a : A) × (read ≡ Ok a) × (next a ≡ Ok b)
 read_first (Err fault) next b e = absurd (cc)
 read_first (Ok a) next b e = (a, refl, e)
@@ -63,7 +63,11 @@ of_form-some place (Some b) a e = cc
 checked_post-same : (place : Place) (post read : Post) → checked_post place post ≡ Ok read → post ≡ read
 checked_post-same place post read e =
     elim (cases_Bool (nat_le (length post.title) 65536 && nat_le (length post.content) 524288)) [
-      | inl fits ↦ elim (cases_Bool (is_post_date post.date)) [ inl date ↦ let f = rw (fits, date) at e in cc | inr date ↦ let f = rw (fits, date) at e in absurd (cc) ]
+      | inl fits ↦ elim (cases_Bool (is_post_date post.date)) [
+        | inl date ↦ let f = rw (fits, date) at e in cc
+        | inr date ↦ let f = rw (fits, date) at e in
+            absurd (cc)
+      ]
       | inr fits ↦ let f = rw fits at e in absurd (cc)
     ]
 
@@ -73,7 +77,8 @@ post_at-id n tree post e =
     let shape = shape_of-id tree first.0 (of_form-some _ _ first.0 first.1) in
     subst HasId (checked_post-same _ first.0 post first.2) shape
 
-each_from-all : {A B : Type 0} (reads : ℕ → A → Read B) (P : B → Type 0) → ((n : ℕ) (x : A) (b : B) → reads n x ≡ Ok b → P b) → (n : ℕ) (xs : List A) (bs : List B) → each_from reads n xs ≡ Ok bs → All P bs
+each_from-all : {A B : Type 0} (reads : ℕ → A → Read B) (P : B → Type 0) → ((n : ℕ) (x : A) (b : B) → reads n x ≡ Ok b → P b)
+    → (n : ℕ) (xs : List A) (bs : List B) → each_from reads n xs ≡ Ok bs → All P bs
 each_from-all reads P each n [] bs e = let nil : [] ≡ bs = cc in subst (All P) nil (All-nil P)
 each_from-all reads P each n (x ∷ xs) bs e =
     let first = read_first _ _ bs e in
@@ -107,17 +112,21 @@ abbrev posts_read : Read SiteRecords → Read (List Post)
 posts_read (Ok records) = Ok records.posts
 posts_read (Err fault) = Err fault
 
-joined-posts : (posts : Read (List Post)) (options templates : Read (List (List ℕ × List ℕ))) (active : Read (List (List ℕ))) (records : SiteRecords) → joined posts options templates active ≡ Ok records → posts ≡ Ok records.posts
+joined-posts : (posts : Read (List Post)) (options templates : Read (List (List ℕ × List ℕ))) (active : Read (List (List ℕ))) (records : SiteRecords)
+    → joined posts options templates active ≡ Ok records → posts ≡ Ok records.posts
 joined-posts (Err f) options templates active records e = absurd (cc)
 joined-posts (Ok p) (Err f) templates active records e = absurd (cc)
 joined-posts (Ok p) (Ok o) (Err f) active records e = absurd (cc)
 joined-posts (Ok p) (Ok o) (Ok t) (Err f) records e = absurd (cc)
 joined-posts (Ok p) (Ok o) (Ok t) (Ok a) records e = ap posts_read e
 
-sections-ids : (tree : Data) (records : SiteRecords) → joined (section_of posts_of (get (codes "posts") tree)) (section_of options_of (get (codes "options") tree)) (section_of templates_of (get (codes "templates") tree)) (section_of active_of (get (codes "active") tree)) ≡ Ok records → All HasId records.posts
+sections-ids : (tree : Data) (records : SiteRecords) → joined (section_of posts_of (get (codes "posts") tree))
+    (section_of options_of (get (codes "options") tree)) (section_of templates_of (get (codes "templates") tree))
+    (section_of active_of (get (codes "active") tree)) ≡ Ok records → All HasId records.posts
 sections-ids tree records e =
     section-ids (get (codes "posts") tree) records.posts
-    (joined-posts (section_of posts_of (get (codes "posts") tree)) (section_of options_of (get (codes "options") tree)) (section_of templates_of (get (codes "templates") tree)) (section_of active_of (get (codes "active") tree)) records e)
+    (joined-posts (section_of posts_of (get (codes "posts") tree)) (section_of options_of (get (codes "options") tree))
+    (section_of templates_of (get (codes "templates") tree)) (section_of active_of (get (codes "active") tree)) records e)
 
 pub site_file_of-ids : (tree : Data) (records : SiteRecords) → site_file_of tree ≡ Ok records → All HasId records.posts
 unfolding site_file_of

@@ -7,17 +7,19 @@ use Rattle.serde_json.specs.View.{view, items_view, members_view}
 use Rattle.serde_json.specs.declared.value.Value.{Value}
 use Rattle.site_import.specs.Walks.{Read, and_read, each_from, list_of, members_of}
 
--- what a walk gives behind what was read before it
+-- what a walk gives after what was read before it
 abbrev pub in_front : {B : Type 0} → List B → Read (List B) → Read (List B)
 in_front before (Ok rest) = Ok (before ++ rest)
 in_front before (Err fault) = Err fault
 
-pub in_front-one : {B : Type 0} (before : List B) (one : B) (walk : Read (List B)) → in_front before (and_read walk (λ rest. Ok (one ∷ rest))) ≡ in_front (before ++ one ∷ []) walk
+pub in_front-one : {B : Type 0} (before : List B) (one : B) (walk : Read (List B))
+    → in_front before (and_read walk (λ rest. Ok (one ∷ rest))) ≡ in_front (before ++ one ∷ []) walk
 in_front-one before one (Ok rest) = ap Ok (sym (append_assoc before (one ∷ []) rest))
 in_front-one before one (Err fault) = refl
 
 -- one member of an object on
-pub members_step : {B : Type 0} (reads : ℕ → (List ℕ × Data) → Read B) (walk : Read (List B)) (found : List B) (one : B) (n : ℕ) (name : String Global) (value : Value) (s t : List (String Global × Value))
+pub members_step : {B : Type 0} (reads : ℕ → (List ℕ × Data) → Read B) (walk : Read (List B)) (found : List B) (one : B) (n : ℕ) (name : String Global)
+    (value : Value) (s t : List (String Global × Value))
     → walk ≡ in_front found (each_from reads n (members_of (members_view s))) → s ≡ (name, value) ∷ t → reads n (string_bytes name, view value) ≡ Ok one
     → walk ≡ in_front (found ++ one ∷ []) (each_from reads (n + 1) (members_of (members_view t)))
 members_step reads walk found one n name value s t before cut read =

@@ -18,7 +18,8 @@ use Rattle.site_import.specs.Worked.{no_records}
 
 -- what computes in the files below
 computes : ℕ
-unfolding site_file_in site_file_of shape_of posts_of options_of templates_of active_of is_post_date template_of tree_of is_template_name part_named all_of node_of node_in element_of item_of fits count_of text_bytes serde_json_on_literals is_utf8 chars
+unfolding site_file_in site_file_of shape_of posts_of options_of templates_of active_of is_post_date template_of tree_of is_template_name part_named all_of
+    node_of node_in element_of item_of fits count_of text_bytes serde_json_on_literals is_utf8 chars
 computes = 0
 
 pub no_text : site_file_in (codes "{\"version\":1") ≡ Err (BadImport (whole Text))
@@ -81,7 +82,8 @@ pub first_post_first : site_file_in (codes "{\"version\":1,\"posts\":[{\"id\":1,
 unfolding computes
 first_post_first = refl
 
-pub options : site_file_in (codes "{\"version\":1,\"options\":{\"b\":\"2\",\"a\":\"1\"}}") ≡ Ok (record no_records { options = (codes "a", codes "1") ∷ (codes "b", codes "2") ∷ [] })
+pub options : site_file_in (codes "{\"version\":1,\"options\":{\"b\":\"2\",\"a\":\"1\"}}")
+    ≡ Ok (record no_records { options = (codes "a", codes "1") ∷ (codes "b", codes "2") ∷ [] })
 unfolding computes
 options = refl
 
@@ -97,7 +99,8 @@ pub options_in_a_list : site_file_in (codes "{\"version\":1,\"options\":[]}") �
 unfolding computes
 options_in_a_list = refl
 
-pub template : site_file_in (codes "{\"version\":1,\"templates\":{\"index\":[ \"x\" ]}}") ≡ Ok (record no_records { templates = (codes "index", codes "[\"x\"]") ∷ [] })
+pub template : site_file_in (codes "{\"version\":1,\"templates\":{\"index\":[ \"x\" ]}}")
+    ≡ Ok (record no_records { templates = (codes "index", codes "[\"x\"]") ∷ [] })
 unfolding computes
 template = refl
 

@@ -26,7 +26,7 @@ pub enum Section {
 #[derive(Clone, Copy, Debug, PartialEq, Eq)]
 pub struct Place {
     pub section: Section,
-    /// Counted from 0 in the order in which the section's entries are read; `None` where the section itself is at
+    /// Counted from 0 in the order in which the section's entries are read; `None` if the section itself is at
     /// fault.
     pub entry: Option<usize>,
 }
@@ -53,7 +53,7 @@ impl Place {
     }
 }
 
-/// Shows the section, and the entry where there is one, as `Posts 3`.
+/// Shows the section, and the entry if there is one, as `Posts 3`.
 impl fmt::Display for Place {
     fn fmt<W: fmt::Write>(&self, f: &mut fmt::Formatter<W>) -> fmt::Result {
         match self.entry {
@@ -63,7 +63,7 @@ impl fmt::Display for Place {
     }
 }
 
-/// Why a site file is refused: its first fault, or want of memory.
+/// Why a site file is refused: its first fault, or an allocation failure.
 #[derive(Clone, Copy, Debug, PartialEq, Eq, Drop, Error)]
 pub enum ImportFault {
     /// Something is missing, of another kind than it should be, or out of its range.
@@ -72,7 +72,7 @@ pub enum ImportFault {
     /// A text is no date of a post.
     #[error("no date: {0}")]
     BadDate(Place),
-    /// A name or a tree is none of a template.
+    /// A name or a tree isn't that of a template.
     #[error("no template: {0}")]
     BadTemplate(Place),
     /// There are more than 10,000 posts, or a title, content, value or template is too large.

@@ -37,7 +37,8 @@ fn read_each(
     alloc: Global,
     members: &Map<String, Value>,
 ) -> Result<Listed<(Text, Text)>, ImportFault>
-    ensures ok { IfOk result (λ pairs. each_from option_at 0 (members_of (members_view members.now.entries)) ≡ Ok pairs) }
+    ensures ok { IfOk result (λ pairs.
+        each_from option_at 0 (members_of (members_view members.now.entries)) ≡ Ok pairs) }
     ensures err { IfErr result (λ fault. fault ≢ ImportFault.OutOfMemory
         → each_from option_at 0 (members_of (members_view members.now.entries)) ≡ Err fault) }
 {

@@ -27,7 +27,8 @@ carried_out-limit engine calls rows (Some (asked.import site)) = import-limit en
 carried_out-limit engine calls rows (Some (asked.get path)) = got-limit engine calls rows path
 
 -- the rows after a line have the limit that the rows before it had
-pub step-limit : (engine : Engine) (calls : ℕ) (rows new : Rows) (line : List ℕ) (reply : Answer) → (new, reply) ≡ step engine calls rows line → new.step_limit ≡ rows.step_limit
+pub step-limit : (engine : Engine) (calls : ℕ) (rows new : Rows) (line : List ℕ) (reply : Answer) → (new, reply) ≡ step engine calls rows line
+    → new.step_limit ≡ rows.step_limit
 unfolding step
 step-limit engine calls rows new line reply done =
     ap (λ p. p.0.step_limit) done ∙ carried_out-limit engine calls rows (option_and_then command_of (tree_of line))

@@ -33,14 +33,16 @@ lines_of-ended (line ∷ lines) rest h =
     let first = All-head IsLine line lines h in
     let cut : (ended line ++ flat_map ended lines) ++ rest ≡ line ++ (10 ∷ (flat_map ended lines ++ rest)) =
     append_assoc (ended line) (flat_map ended lines) rest ∙ append_assoc line (10 ∷ []) (flat_map ended lines ++ rest) in
-    ap lines_of cut ∙ lines_of-line line (flat_map ended lines ++ rest) first.one ∙ ap (λ ls. line ∷ ls) (lines_of-ended lines rest (All-tail IsLine line lines h))
+    ap lines_of cut ∙ lines_of-line line (flat_map ended lines ++ rest) first.one
+    ∙ ap (λ ls. line ∷ ls) (lines_of-ended lines rest (All-tail IsLine line lines h))
 
 -- a last stretch with a byte is a line
 pub lines_of-last : (line : List ℕ) → HasNoNewline line → 0 < length line → lines_of line ≡ line ∷ []
 lines_of-last [] h some = absurd (omega arith)
 lines_of-last (b ∷ []) h some = lines_of-other b [] (All-head (λ b. b ≢ 10) b [] h) ∙ ap (onto_first b) lines_of-nil
 lines_of-last (b ∷ a ∷ line) h some =
-    lines_of-other b (a ∷ line) (All-head (λ b. b ≢ 10) b (a ∷ line) h) ∙ ap (onto_first b) (lines_of-last (a ∷ line) (All-tail (λ b. b ≢ 10) b (a ∷ line) h) (omega arith))
+    lines_of-other b (a ∷ line) (All-head (λ b. b ≢ 10) b (a ∷ line) h)
+    ∙ ap (onto_first b) (lines_of-last (a ∷ line) (All-tail (λ b. b ≢ 10) b (a ∷ line) h) (omega arith))
 
 abbrev first_length : List (List ℕ) → ℕ
 first_length [] = 0
@@ -72,7 +74,7 @@ some_line : (b : ℕ) (bytes : List ℕ) → 0 < length (lines_of (b ∷ bytes))
 unfolding lines_of
 some_line b bytes = elim (cases_Bool (b == 10)) [ inl e ↦ rw e (omega arith) | inr e ↦ rw e (length-onto_first b (lines_of bytes)) ]
 
--- where a byte stands there is a line
+-- if a byte stands there is a line
 pub lines_of-some : (bytes : List ℕ) → 0 < length bytes → 0 < length (lines_of bytes)
 lines_of-some [] h = absurd (omega arith)
 lines_of-some (b ∷ bytes) h = some_line b bytes

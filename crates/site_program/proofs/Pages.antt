@@ -5,7 +5,7 @@ use Rattle.std.specs.Prelude.{Result, IfErr, false, ◌||◌}
 use Rattle.hook_machine.specs.World.{Text, World, fresh, loaded}
 use Rattle.hook_machine.specs.declared.fault.RunFault.{RunFault}
 use Rattle.hook_machine.specs.declared.fault.RunFault.TheVariants as fault
-use Rattle.hook_machine.specs.Trace.{End, Ended, Fault}
+use Rattle.hook_machine.specs.Trace.{Outcome, Ended, Fault}
 use Rattle.hook_machine.specs.Meaning.{Engine}
 use Rattle.site_records.specs.declared.found.Found.{Found}
 use Rattle.post_tables.specs.Rows.{Rows}
@@ -25,7 +25,8 @@ use Rattle.site_program.specs.Requests.{Texts, settings_for, page_pass, page_of,
 module _ (engine : Engine) (calls : ℕ) (found : Found) (options templates : Texts) (active : List Text) where
   -- the work that the page went through is the page's work
   pub work_is : (e : Engine) (settings : Settings) (f : Found) (world : World) → e ≡ engine → settings ≡ settings_for found.kind options templates → f ≡ found
-      → world ≡ loaded engine.plugins (fresh calls options active) → template.page_pass e settings f.posts world ≡ page_pass engine calls found options templates active
+      → world ≡ loaded engine.plugins (fresh calls options active)
+      → template.page_pass e settings f.posts world ≡ page_pass engine calls found options templates active
   unfolding page_pass
   work_is e settings f world e_is settings_are f_is world_is = rw (e_is, settings_are, f_is, world_is) refl
 
@@ -33,16 +34,18 @@ module _ (engine : Engine) (calls : ℕ) (found : Found) (options templates : Te
   pub page_forgone : (why : RunFault) → why ≡ fault.OutOfMemory → IsRefusedBy (page_pass engine calls found options templates active) why
   page_forgone why is = λ other. absurd (other is)
 
-  pub page_made : (text : Text) → IsPage (page_pass engine calls found options templates active) text → page found.status text ≡ page_of engine calls found options templates active
+  pub page_made : (text : Text) → IsPage (page_pass engine calls found options templates active) text
+      → page found.status text ≡ page_of engine calls found options templates active
   page_made text made = ap (page found.status) made.whole ∙ ap (shown found.status) (sym made.made)
 
-  pub page_refused : (why : RunFault) → IsRefusedBy (page_pass engine calls found options templates active) why → why ≢ fault.OutOfMemory → refusal_of why ≡ page_of engine calls found options templates active
+  pub page_refused : (why : RunFault) → IsRefusedBy (page_pass engine calls found options templates active) why → why ≢ fault.OutOfMemory
+      → refusal_of why ≡ page_of engine calls found options templates active
   page_refused why refused other = ap (shown found.status) (sym (refused other))
 
 -- ---- the answer to a path
 
 -- however a page ended, its reply rests on the rows
-shown-rests : (status : ℕ) (end : End (Unit {0})) → rests_on_rows (shown status end) ≡ true
+shown-rests : (status : ℕ) (end : Outcome (Unit {0})) → rests_on_rows (shown status end) ≡ true
 shown-rests status (Ended world nothing) = refl
 shown-rests status (Fault fault.TooManyCalls) = refl
 shown-rests status (Fault fault.TooDeep) = refl
@@ -54,13 +57,15 @@ or_true false = refl
 
 module _ (engine : Engine) (calls : ℕ) (rows : Rows) (path : Text) where
   -- by what was read of the rows
-  pub request-is : (answer : Answer) (found : Found) (options templates : Texts) (active : List Text) → found ≡ found_by rows path → options ≡ options_of rows → templates ≡ templates_of rows → active ≡ active_of rows
+  pub request-is : (answer : Answer) (found : Found) (options templates : Texts) (active : List Text) → found ≡ found_by rows path → options ≡ options_of rows
+      → templates ≡ templates_of rows → active ≡ active_of rows
       → answer ≡ page_of engine calls found options templates active → answer ≡ request engine calls rows path
   unfolding request
   request-is answer found options templates active f o t a is = rw (is, f, o, t, a) refl
 
   -- a path that isn't too long
-  pub got-short : (new : Rows) (answer : Answer) → length path ≤ max_path → new ≡ rows → answer ≡ request engine calls rows path → (new, answer) ≡ got engine calls rows path
+  pub got-short : (new : Rows) (answer : Answer) → length path ≤ max_path → new ≡ rows → answer ≡ request engine calls rows path
+      → (new, answer) ≡ got engine calls rows path
   unfolding got
   got-short new answer short same is = rw (le-leb _ _ short, same, is) refl
 
@@ -69,7 +74,8 @@ module _ (engine : Engine) (calls : ℕ) (rows : Rows) (path : Text) where
   rests = shown-rests _ _
 
   -- the database refuses it only with a limit on steps, in place of a reply that rests on the rows
-  pub got-late : length path ≤ max_path → (why : StoreFault) → IsReadFault rows.step_limit why → why ≡ store.Store → may_be_late rows.step_limit (got engine calls rows path).1 ≡ true
+  pub got-late : length path ≤ max_path → (why : StoreFault) → IsReadFault rows.step_limit why → why ≡ store.Store
+      → may_be_late rows.step_limit (got engine calls rows path).1 ≡ true
   unfolding got
   got-late short why (inl none) is = absurd (let clash = sym none ∙ is in cc)
   got-late short why (inr late) is = rw (le-leb _ _ short, late.1, rests) (or_true _)

@@ -29,7 +29,8 @@ carried_out-keeps engine calls rows (Some (asked.import site)) = import-keeps en
 carried_out-keeps engine calls rows (Some (asked.get path)) = got-keeps engine calls rows path
 
 -- a line whose step is a refusal keeps the rows
-pub step-refused : (engine : Engine) (calls : ℕ) (rows new : Rows) (line : List ℕ) (reply : Answer) (r : Refusal) → (new, reply) ≡ step engine calls rows line → reply ≡ refused r → new ≡ rows
+pub step-refused : (engine : Engine) (calls : ℕ) (rows new : Rows) (line : List ℕ) (reply : Answer) (r : Refusal) → (new, reply) ≡ step engine calls rows line
+    → reply ≡ refused r → new ≡ rows
 unfolding step
 step-refused engine calls rows new line reply r done is =
     ap (λ p. p.0) done ∙ carried_out-keeps engine calls rows (option_and_then command_of (tree_of line)) r (sym (ap (λ p. p.1) done) ∙ is)

@@ -36,7 +36,8 @@ newline_at hay end found = let here : get_or hay end 0 ≡ 10 = eqb-true _ _ fou
 pub IsLine-nil : IsLine []
 IsLine-nil = record { one = All-nil (λ b. b ≢ 10); short = omega arith }
 
-pub IsLine-before : (held hay part : List ℕ) (end : ℕ) → part ≡ take end hay → IsLine held → IsFirstByte (is_byte 10) hay (Some end) → end ≤ max_line - length held → IsLine (held ++ part)
+pub IsLine-before : (held hay part : List ℕ) (end : ℕ) → part ≡ take end hay → IsLine held → IsFirstByte (is_byte 10) hay (Some end)
+    → end ≤ max_line - length held → IsLine (held ++ part)
 IsLine-before held hay part end e line found short = rw e (record {
   one = All-append (λ b. b ≢ 10) held (take end hay) line.one (no_newline_before hay end found);
   short = let within = line.short in let h = length-take-le end hay in simp length-append (omega arith);
@@ -48,7 +49,8 @@ IsLine-whole held hay line none short = record {
   short = let within = line.short in simp length-append (omega arith);
 }
 
-pub IsTooLong-before : (held hay : List ℕ) (end : ℕ) → IsLine held → IsFirstByte (is_byte 10) hay (Some end) → max_line - length held < end → IsTooLong (held ++ hay)
+pub IsTooLong-before : (held hay : List ℕ) (end : ℕ) → IsLine held → IsFirstByte (is_byte 10) hay (Some end) → max_line - length held < end
+    → IsTooLong (held ++ hay)
 IsTooLong-before held hay end line found long = record {
   front = held ++ take end hay;
   back = drop end hay;
@@ -107,22 +109,32 @@ sound_without_memory (Err e) failed same is = rw is same
 -- ---- what a chunk does
 
 -- the stretch goes on by the line and its newline
-pub whole_line : (stretch rest later part all : List ℕ) (end : ℕ) → part ≡ take end rest → later ≡ drop (end + 1) rest → IsFirstByte (is_byte 10) rest (Some end) → stretch ++ rest ≡ all → (stretch ++ (part ++ 10 ∷ [])) ++ later ≡ all
+pub whole_line : (stretch rest later part all : List ℕ) (end : ℕ) → part ≡ take end rest → later ≡ drop (end + 1) rest
+    → IsFirstByte (is_byte 10) rest (Some end) → stretch ++ rest ≡ all → (stretch ++ (part ++ 10 ∷ [])) ++ later ≡ all
 whole_line stretch rest later part all end part_is later_is found e =
     let cut : rest ≡ take end rest ++ (10 ∷ drop (end + 1) rest) = sym (take-append-drop end rest) ∙ ap (λ l. take end rest ++ l) (newline_at rest end found) in
     let joined : (stretch ++ (take end rest ++ 10 ∷ [])) ++ drop (end + 1) rest ≡ stretch ++ (take end rest ++ (10 ∷ drop (end + 1) rest)) =
-    append_assoc stretch (take end rest ++ 10 ∷ []) (drop (end + 1) rest) ∙ ap (λ l. stretch ++ l) (append_assoc (take end rest) (10 ∷ []) (drop (end + 1) rest)) in
+    append_assoc stretch (take end rest ++ 10 ∷ []) (drop (end + 1) rest)
+    ∙ ap (λ l. stretch ++ l) (append_assoc (take end rest) (10 ∷ []) (drop (end + 1) rest)) in
     rw (part_is, later_is) (joined ∙ ap (λ l. stretch ++ l) (sym cut) ∙ e)
 
 module _ (steps : Rows → List ℕ → Rows × Answer) where
   -- ---- replies
 
-  pub IsReplies-push : (old mid new : Rows) (lines : List (List ℕ)) (line : List ℕ) (reply : Answer) (out : List ℕ) → IsReplies steps old lines out mid → Answers steps mid line reply new → IsReplies steps old (lines ++ line ∷ []) (out ++ bytes_of reply) new
+  pub IsReplies-push : (old mid new : Rows) (lines : List (List ℕ)) (line : List ℕ) (reply : Answer) (out : List ℕ) → IsReplies steps old lines out mid
+      → Answers steps mid line reply new → IsReplies steps old (lines ++ line ∷ []) (out ++ bytes_of reply) new
   IsReplies-push old mid new [] line reply out done answered =
       let same : mid ≡ old = done.1 in
       (reply, new, [], subst (λ s. Answers steps s line reply new) same answered, rw done.0 (sym (append-nil (bytes_of reply))), (refl, refl))
-  IsReplies-push old mid new (first ∷ lines) line reply out done answered =
-      (done.0, done.1, done.2 ++ bytes_of reply, done.3, ap (λ o. o ++ bytes_of reply) done.4 ∙ append_assoc (bytes_of done.0) done.2 (bytes_of reply), IsReplies-push done.1 mid new lines line reply done.2 done.5 answered)
+  IsReplies-push old mid new (first ∷ lines) line reply out done answered = (
+    done.0,
+    done.1,
+    done.2 ++ bytes_of reply,
+    done.3,
+    ap (λ o. o ++ bytes_of reply) done.4
+        ∙ append_assoc (bytes_of done.0) done.2 (bytes_of reply),
+    IsReplies-push done.1 mid new lines line reply done.2 done.5 answered,
+  )
 
   -- ---- stretches
 
@@ -139,7 +151,8 @@ module _ (steps : Rows → List ℕ → Rows × Answer) where
   }
 
   -- more bytes come
-  pub Takes-more : (old mid : Rows) (limit left : ℕ) (stretch kept more : List ℕ) (before after : Option (List ℕ)) → Takes steps old limit stretch before after mid left kept → Takes steps old limit (stretch ++ more) before after mid left (kept ++ more)
+  pub Takes-more : (old mid : Rows) (limit left : ℕ) (stretch kept more : List ℕ) (before after : Option (List ℕ))
+      → Takes steps old limit stretch before after mid left kept → Takes steps old limit (stretch ++ more) before after mid left (kept ++ more)
   Takes-more old mid limit left stretch kept more before after t = record {
     lines = t.lines;
     out = t.out;
@@ -151,17 +164,22 @@ module _ (steps : Rows → List ℕ → Rows × Answer) where
   }
 
   -- what follows the last newline is held
-  pub Takes-held : (old mid : Rows) (limit left : ℕ) (stretch kept more all : List ℕ) (before after : Option (List ℕ)) → Takes steps old limit stretch before after mid left kept → stretch ++ more ≡ all → Takes steps old limit all before after mid left (kept ++ more)
-  Takes-held old mid limit left stretch kept more all before after t e = subst (λ l. Takes steps old limit l before after mid left (kept ++ more)) e (Takes-more old mid limit left stretch kept more before after t)
+  pub Takes-held : (old mid : Rows) (limit left : ℕ) (stretch kept more all : List ℕ) (before after : Option (List ℕ))
+      → Takes steps old limit stretch before after mid left kept → stretch ++ more ≡ all → Takes steps old limit all before after mid left (kept ++ more)
+  Takes-held old mid limit left stretch kept more all before after t e = subst (λ l. Takes steps old limit l before after mid left (kept ++ more)) e
+      (Takes-more old mid limit left stretch kept more before after t)
 
   -- the next line ends
-  pub Takes-line : (old mid new : Rows) (limit left : ℕ) (stretch kept part : List ℕ) (before between after : Option (List ℕ)) (reply : Answer) → Takes steps old limit stretch before between mid left kept → IsLine (kept ++ part) → 0 < left
-      → Answers steps mid (kept ++ part) reply new → Appends between after (bytes_of reply) → Takes steps old limit (stretch ++ (part ++ 10 ∷ [])) before after new (left - 1) []
+  pub Takes-line : (old mid new : Rows) (limit left : ℕ) (stretch kept part : List ℕ) (before between after : Option (List ℕ)) (reply : Answer)
+      → Takes steps old limit stretch before between mid left kept → IsLine (kept ++ part) → 0 < left
+      → Answers steps mid (kept ++ part) reply new → Appends between after (bytes_of reply)
+      → Takes steps old limit (stretch ++ (part ++ 10 ∷ [])) before after new (left - 1) []
   Takes-line old mid new limit left stretch kept part before between after reply t line room answered written = record {
     lines = t.lines ++ (kept ++ part) ∷ [];
     out = t.out ++ bytes_of reply;
     whole =
-        let pushed : flat_map ended (t.lines ++ (kept ++ part) ∷ []) ≡ flat_map ended t.lines ++ (ended (kept ++ part) ++ []) = flat_map-append ended t.lines ((kept ++ part) ∷ []) in
+        let pushed : flat_map ended (t.lines ++ (kept ++ part) ∷ [])
+        ≡ flat_map ended t.lines ++ (ended (kept ++ part) ++ []) = flat_map-append ended t.lines ((kept ++ part) ∷ []) in
         rw (t.whole, pushed) (simp (append_assoc, append-nil));
     each = All-push IsLine t.lines (kept ++ part) t.each line;
     count = let c = t.count in simp length-append (omega arith);
@@ -171,8 +189,9 @@ module _ (steps : Rows → List ℕ → Rows × Answer) where
 
   -- ---- what a chunk does
 
-  -- the fault comes where the held line goes on
-  pub fault_at : (old mid new : Rows) (limit left : ℕ) (stretch held rest all : List ℕ) (before between after : Option (List ℕ)) (fault : ServeFault) → Takes steps old limit stretch before between mid left held → stretch ++ rest ≡ all
+  -- the fault comes if the held line goes on
+  pub fault_at : (old mid new : Rows) (limit left : ℕ) (stretch held rest all : List ℕ) (before between after : Option (List ℕ)) (fault : ServeFault)
+      → Takes steps old limit stretch before between mid left held → stretch ++ rest ≡ all
       → FaultsAt steps mid left (held ++ rest) between after new fault → Faults steps old limit all before after new fault
   fault_at old mid new limit left stretch held rest all before between after fault t e f = record {
     mid = mid;
@@ -183,22 +202,27 @@ module _ (steps : Rows → List ℕ → Rows × Answer) where
     faults = f;
   }
 
-  pub FaultsAt-line : (old new : Rows) (left : ℕ) (held rest part : List ℕ) (end : ℕ) (before after : Option (List ℕ)) → part ≡ take end rest → IsFirstByte (is_byte 10) rest (Some end) → IsLine (held ++ part) → 0 < left → FailsAt steps old (held ++ part) before after new
+  pub FaultsAt-line : (old new : Rows) (left : ℕ) (held rest part : List ℕ) (end : ℕ) (before after : Option (List ℕ)) → part ≡ take end rest
+      → IsFirstByte (is_byte 10) rest (Some end) → IsLine (held ++ part) → 0 < left → FailsAt steps old (held ++ part) before after new
       → FaultsAt steps old left (held ++ rest) before after new fault_of.Write
   FaultsAt-line old new left held rest part end before after part_is found line room fails =
-      let cut : rest ≡ part ++ (10 ∷ drop (end + 1) rest) = sym (take-append-drop end rest) ∙ ap (λ l. take end rest ++ l) (newline_at rest end found) ∙ ap (λ l. l ++ (10 ∷ drop (end + 1) rest)) (sym part_is) in
+      let cut : rest ≡ part ++ (10 ∷ drop (end + 1) rest) = sym (take-append-drop end rest) ∙ ap (λ l. take end rest ++ l) (newline_at rest end found)
+      ∙ ap (λ l. l ++ (10 ∷ drop (end + 1) rest)) (sym part_is) in
       let whole : held ++ rest ≡ ended (held ++ part) ++ drop (end + 1) rest =
       ap (λ l. held ++ l) cut ∙ sym (append_assoc held part (10 ∷ drop (end + 1) rest)) ∙ sym (append_assoc (held ++ part) (10 ∷ []) (drop (end + 1) rest)) in
       (held ++ part, drop (end + 1) rest, whole, line, fails, room)
 
   -- the line that ends with this part found no memory, or its reply was not written
-  pub FaultsAt-finish : (old new : Rows) (left : ℕ) (held rest part : List ℕ) (end : ℕ) (before after : Option (List ℕ)) (fault : ServeFault) → part ≡ take end rest → IsFirstByte (is_byte 10) rest (Some end) → IsLine (held ++ part) → 0 < left
+  pub FaultsAt-finish : (old new : Rows) (left : ℕ) (held rest part : List ℕ) (end : ℕ) (before after : Option (List ℕ)) (fault : ServeFault)
+      → part ≡ take end rest → IsFirstByte (is_byte 10) rest (Some end) → IsLine (held ++ part) → 0 < left
       → (fault ≡ fault_of.Write) ⊎ (fault ≡ fault_of.OutOfMemory)
       → (fault ≡ fault_of.Write → FailsAt steps old (held ++ part) before after new) → (fault ≡ fault_of.OutOfMemory → (new ≡ old) × (after ≡ before))
       → FaultsAt steps old left (held ++ rest) before after new fault
   FaultsAt-finish old new left held rest part end before after fault part_is found line room which write memory =
       elim which [
-        | inl e ↦ subst (FaultsAt steps old left (held ++ rest) before after new) (sym e) (FaultsAt-line old new left held rest part end before after part_is found line room (write e))
+        | inl e ↦ subst (FaultsAt steps old left (held ++ rest) before after new) (sym e)
+            (FaultsAt-line old new left held rest part end before after part_is found line room (write e))
         | inr e ↦ let m = memory e in
-            subst (FaultsAt steps old left (held ++ rest) before after new) (sym e) (m.0, rw m.1 (Appends-nil before), (let high = found.0.high in simp length-append (omega arith)))
+            subst (FaultsAt steps old left (held ++ rest) before after new) (sym e)
+            (m.0, rw m.1 (Appends-nil before), (let high = found.0.high in simp length-append (omega arith)))
       ]

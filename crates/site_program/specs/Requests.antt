@@ -3,7 +3,7 @@ use Rattle.std.specs.Prelude.{ℕ, List, [], map, find, codes, Option, option_ma
 use Rattle.std.specs.FinMap.{entries, keys}
 use Rattle.std.specs.Str.{bytes_eq}
 use Rattle.hook_machine.specs.World.{Text, fresh, loaded}
-use Rattle.hook_machine.specs.Trace.{End, Ended, Fault, end_of}
+use Rattle.hook_machine.specs.Trace.{Outcome, Ended, Fault, outcome_of}
 use Rattle.hook_machine.specs.Meaning.{Engine}
 use Rattle.hook_machine.specs.declared.fault.RunFault.{RunFault}
 use Rattle.hook_machine.specs.declared.fault.RunFault.TheVariants as fault
@@ -27,7 +27,7 @@ refusal_of fault.TooDeep = refused TooDeep
 refusal_of fault.OutOfMemory = refused OutOfMemory
 
 -- a page as it ended: all that was printed, or why it was refused
-abbrev pub shown : ℕ → End (Unit {0}) → Answer
+abbrev pub shown : ℕ → Outcome (Unit {0}) → Answer
 shown status (Ended world nothing) = page status world.output
 shown status (Fault why) = refusal_of why
 
@@ -53,11 +53,11 @@ found_by rows path = found rows.posts (options_of rows) (query_of path)
 abbrev pub text_named : Text → Texts → Option Text
 text_named name texts = option_map (λ t. t.1) (find (λ t. bytes_eq t.0 name) texts)
 
--- the template of that name, where one is stored
+-- the template of that name, if one is stored
 abbrev pub template_named : Text → Texts → Option Template
 template_named name templates = option_and_then (stored_template name) (text_named name templates)
 
--- the template for what was found, where one is stored, and else the default (Theme Handbook, Template Hierarchy)
+-- the template for what was found, if one is stored, and else the default (Theme Handbook, Template Hierarchy)
 abbrev pub template_for : FoundKind → Texts → Template
 template_for kind templates =
     unwrap_or (template_named (template_choice kind (map (λ t. t.0) templates)) templates) (record { nodes = default_index })
@@ -82,7 +82,7 @@ page_pass engine calls found options templates active =
 -- the answer to a request that found this
 abbrev pub page_of : Engine → ℕ → Found → (options templates : Texts) → List Text → Answer
 page_of engine calls found options templates active =
-    shown found.status (end_of (page_pass engine calls found options templates active))
+    shown found.status (outcome_of (page_pass engine calls found options templates active))
 
 -- the answer to a request of a path
 unfoldable pub request : Engine → ℕ → Rows → Text → Answer

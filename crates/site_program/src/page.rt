@@ -2,7 +2,7 @@
 ghost use Rattle.std.specs.Prelude.{◌≡◌, IfOk, OnErr, IfErr, true};
 ghost use Rattle.callback_store.specs.Shape.{shapes_of};
 ghost use Rattle.hook_machine.specs.World.{fresh, loaded};
-ghost use Rattle.hook_machine.specs.Ends.{engine_with};
+ghost use Rattle.hook_machine.specs.Outcomes.{engine_with};
 ghost use Rattle.hook_machine.specs.Runs.{world_of, IsReady};
 ghost use Rattle.hook_machine.specs.Runs as runs;
 ghost use Rattle.site_replies.specs.Reply.{answer_of};

@@ -28,7 +28,7 @@ impl<'p, S: Stated> Site<'p, S> {
 
     /// Carries out each line of the input, and writes its reply before the next line is carried out.
     ///
-    /// A last line without a newline counts where it has a byte. At most 1,000,000 lines of at most 1,048,576 bytes are
+    /// A last line without a newline counts if it has a byte. At most 1,000,000 lines of at most 1,048,576 bytes are
     /// served. At `Read`, `TooMuchInput` and `OutOfMemory` the lines before the fault are carried out and answered; at
     /// `Write` the line whose reply could not be written is carried out too.
     pub fn serve<R: Source, W: Sink>(
@@ -54,7 +54,7 @@ impl<'p, S: Stated> Site<'p, S> {
             (rows_of self.old) (R.remaining reader.old) (R.remaining reader.new)
             (W.contents writer.old) (W.contents writer.new) (rows_of self.new)) }
 
-        // Two of them come only where an end failed.
+        // Two of them come only if an end failed.
         ensures read { R.has_failed reader.new ≡ is_read result }
         ensures write { W.has_failed writer.new ≡ is_write result }
 
@@ -196,7 +196,7 @@ impl<'p, S: Stated> Setup<'p, S> {
     }
 }
 
-// Holds these bytes behind those that are held.
+// Holds these bytes after those that are held.
 fn hold(held: &mut Vec<u8>, part: &[u8]) -> Result<(), ServeFault>
     ensures ok { OnOk result (held.new.items ≡ held.old.items ++ part.now) }
     ensures err { IfErr result (λ e. e ≡ ServeFault.OutOfMemory) }

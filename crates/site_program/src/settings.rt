@@ -27,7 +27,7 @@ pub(crate) fn settings_for(
     })
 }
 
-/// The option `blogname`, empty where it isn't set.
+/// The option `blogname`, empty if it isn't set.
 fn site_name(alloc: Global, options: &[(Text, Text)]) -> Result<Text, AllocError>
     ensures { IfOk result (λ name. name ≡ unwrap_or (text_named (codes "blogname") options.now) []) }
 {
@@ -37,7 +37,7 @@ fn site_name(alloc: Global, options: &[(Text, Text)]) -> Result<Text, AllocError
     }
 }
 
-/// The template for what was found, or the default where none is stored.
+/// The template for what was found, or the default if none is stored.
 fn template_for(
     alloc: Global,
     kind: FoundKind,
@@ -62,7 +62,7 @@ fn names_of(alloc: Global, templates: &[(Text, Text)]) -> Result<Listed<Text>, A
     Ok(names)
 }
 
-/// The template of that name, where one is stored.
+/// The template of that name, if one is stored.
 fn template_named(
     alloc: Global,
     name: &str,

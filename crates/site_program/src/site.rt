@@ -71,8 +71,8 @@ impl<'p, S: Stated> Site<'p, S> {
     }
 
     /// Carries out one line, given without its newline. A line that is no command is refused as such, and a refused
-    /// command leaves the rows as they were. For want of memory any command may be refused, and by the database any
-    /// that would change rows; where the steps of a statement are limited, any that needs one.
+    /// command leaves the rows as they were. On allocation failure any command may be refused, and by the database any
+    /// that would change rows; if the steps of a statement are limited, any that needs one.
     pub fn command(&mut self, line: &[u8]) -> SiteReply
         ensures answers { Answers (steps_of S.says S.number (setup_of self.old))
             (rows_of self.old) line.now (answer_of result) (rows_of self.new) }

@@ -8,7 +8,7 @@ use std::alloc::AllocError;
 use std::marker::Model;
 use std::str;
 
-/// The number that some digits spell, and nothing where another byte stands among them.
+/// The number that some digits spell, and nothing if another byte stands among them.
 fn number(digits: &[u8]) -> Option<u16>
     requires { length digits.now ≤ 4 }
     ensures value { result ≡ number digits.now }
@@ -83,7 +83,7 @@ fn is_post_date(text: &str) -> bool
 
 /// The date and time of a post, which contracts see as its 19 bytes: `YYYY-MM-DD HH:MM:SS`, as `2024-02-29 10:00:00`
 /// (WordPress, wp_insert_post, `post_date`). The year is 0001 to 9999, the day is one of the Gregorian calendar, hours
-/// are 00 to 23, minutes and seconds 00 to 59. There is no time zone. Of two dates the earlier one is the lesser text.
+/// are 00 to 23, minutes and seconds 00 to 59. There is no time zone. Of two dates the earlier one is the smaller text.
 #[derive(Drop)]
 pub struct PostDate {
     bytes: [u8; 19],
@@ -101,8 +101,8 @@ impl Model for PostDate {
 }
 
 impl PostDate {
-    /// Reads a text as a date, and answers `None` where it isn't one: another length, another byte in place of a digit
-    /// or a mark, or a day or a time that there is not. It takes no memory.
+    /// Reads a text as a date, and returns `None` if it isn't one: another length, another byte in place of a digit
+    /// or a mark, or a day or a time that there is not. It does not allocate.
     pub fn read(text: &str) -> Option<PostDate>
         ensures some { is_some result ≡ is_post_date text.now }
         ensures text { IfSome result (λ d. d ≡ text.now) }
@@ -127,7 +127,7 @@ impl PostDate {
     }
 }
 
-/// A copy takes no memory and is never refused.
+/// A copy does not allocate and is never refused.
 impl Clone for PostDate {
     ghost use Rattle.std.specs.Prelude.{⊤};
 

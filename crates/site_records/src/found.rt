@@ -18,6 +18,6 @@ pub struct Found {
     pub kind: FoundKind,
     /// In the order in which they are shown.
     pub posts: Listed<Post>,
-    /// 404 where nothing is found, and else 200 (RFC 9110).
+    /// 404 if nothing is found, and else 200 (RFC 9110).
     pub status: u16,
 }

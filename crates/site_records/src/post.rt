@@ -35,9 +35,9 @@ pub struct Post {
 #[derive(Drop)]
 pub struct SiteRecords {
     pub posts: Listed<Post>,
-    /// Names and values. Where a name stands twice, the later value counts.
+    /// Names and values. If a name stands twice, the later value counts.
     pub options: Listed<(Text, Text)>,
-    /// Names and compact JSON texts. Where a name stands twice, the later text counts.
+    /// Names and compact JSON texts. If a name stands twice, the later text counts.
     pub templates: Listed<(Text, Text)>,
     /// The names of the plugins that become active.
     pub active: Listed<Text>,

@@ -56,7 +56,7 @@ name_of TooManyPages = codes "TooManyPages"
 abbrev pub newline : List ℕ
 newline = 10 ∷ []
 
--- the bytes that are written for a reply: one line, and for a page its bytes and a newline behind it
+-- the bytes that are written for a reply: one line, and for a page its bytes and a newline after it
 unfoldable pub bytes_of : Answer → List ℕ
 bytes_of done = codes "ok" ++ newline
 bytes_of (done_id id) = codes "ok " ++ (decimal id ++ newline)

@@ -35,7 +35,7 @@ pub enum Refusal {
     OutOfMemory,
     /// The database refused.
     Store,
-    /// The greatest number that a post can have was given.
+    /// The largest number that a post can have was given.
     IdsUsedUp,
     /// No open page has that number.
     NoSuchPage,
@@ -111,7 +111,7 @@ impl SiteReply {
     ghost use Rattle.site_replies.specs.Reply.{answer_of};
 
     /// Writes the reply's bytes: `ok`, `ok N` or `refused N Name` and a newline, or `page STATUS LENGTH`, a newline,
-    /// the page and a newline. It takes no memory, and writes a short reply in one piece, a long page in three. At an
+    /// the page and a newline. It does not allocate, and writes a short reply in one piece, a long page in three. At an
     /// `Err`, which is always [`ServeFault::Write`], some of the bytes were written, from their front.
     pub fn write_to<W: Sink>(&self, writer: &mut W) -> Result<(), ServeFault>
         requires { W.has_failed writer.old ≡ false }

@@ -3,7 +3,7 @@ use Rattle.std.specs.Prelude.{ℕ, List, Option, None, Some, option_and_then, op
 use Rattle.serde_json.specs.Data.{Data}
 use Rattle.serde_json.specs.Find.{get, as_str, as_number, as_u64}
 
--- what follows from what was found, and nothing where nothing was
+-- what follows from what was found, and nothing if nothing was
 abbrev pub with_found : {A B : Type 0} → Option A → (A → Option B) → Option B
 with_found found next = option_and_then next found
 
@@ -11,12 +11,12 @@ with_found found next = option_and_then next found
 abbrev pub text_at : List ℕ → Data → Option (List ℕ)
 text_at key tree = option_and_then as_str (get key tree)
 
--- what is read of a member, or the default where there is no such member
+-- what is read of a member, or the default if there is no such member
 abbrev pub read_or : {A : Type 0} → A → (Data → Option A) → Option Data → Option A
 read_or default reads None = Some default
 read_or default reads (Some found) = reads found
 
--- the text at a key, or a default where the key is missing
+-- the text at a key, or a default if the key is missing
 abbrev pub text_or : List ℕ → List ℕ → Data → Option (List ℕ)
 text_or key default tree = read_or default as_str (get key tree)
 

@@ -13,17 +13,17 @@ ghost use Rattle.site_values.specs.Named.{
 use serde_json::Value;
 use site_records::{PostKind, PostStatus};
 
-/// The greatest ID that a post can have.
+/// The largest ID that a post can have.
 const MAX_ID: u64 = 2_147_483_647;
 
-/// The text at a key, where there is one.
+/// The text at a key, if there is one.
 pub fn text_at<'v>(value: &'v Value, key: &str) -> Option<&'v str>
     ensures { option_map (λ s. s.now) result ≡ text_at key.now (view value.now) }
 {
     value.get(key).and_then(Value::as_str)
 }
 
-/// The text at a key, or a default where the key is missing.
+/// The text at a key, or a default if the key is missing.
 pub fn text_or<'v>(value: &'v Value, key: &str, default: &'static str) -> Option<&'v str>
     ensures { option_map (λ s. s.now) result ≡ text_or key.now default.now (view value.now) }
 {
@@ -66,7 +66,7 @@ pub fn status_named(name: &str) -> Option<PostStatus>
     }
 }
 
-/// The status at the key `status`, which may be missing. Where it stands and names none, the result is `None`.
+/// The status at the key `status`, which may be missing. If it stands and names none, the result is `None`.
 pub fn status_given(value: &Value) -> Option<Option<PostStatus>>
     ensures { result ≡ status_given (view value.now) }
 {
@@ -88,7 +88,7 @@ pub fn id_at(value: &Value) -> Option<u32>
     }
 }
 
-/// The name of an option, where its length is one that names have, 1 to 64 bytes.
+/// The name of an option, if its length is one that names have, 1 to 64 bytes.
 pub fn option_named(name: &str) -> Option<&str>
     ensures { option_map (λ s. s.now) result ≡ option_named name.entry.now }
 {

@@ -33,7 +33,8 @@ module _ (settings : Settings) where
   -- one place more
   pub place_more : (places : List Place) (p : Place) → items_of settings (places ++ p ∷ []) ≡ items_of settings places ++ option_to_list (item_at settings p)
   place_more places p =
-      flat_map-append (λ q. option_to_list (item_at settings q)) places (p ∷ []) ∙ ap (λ l. items_of settings places ++ l) (append-nil (option_to_list (item_at settings p)))
+      flat_map-append (λ q. option_to_list (item_at settings q)) places (p ∷ [])
+      ∙ ap (λ l. items_of settings places ++ l) (append-nil (option_to_list (item_at settings p)))
 
   -- an item of a node
   bare : (o : Option Node) → option_to_list (option_and_then node_item o) ≡ flat_map part_node_items (option_to_list o)
@@ -43,19 +44,23 @@ module _ (settings : Settings) where
   bare (Some (node.Loop body otherwise)) = refl
 
   -- one node of a part more
-  pub node_more : (part : Part) (template : Template) (places : List Place) (before : List Item) (at : ℕ) → template_of settings part ≡ Some template → at < length template.nodes
+  pub node_more : (part : Part) (template : Template) (places : List Place) (before : List Item) (at : ℕ) → template_of settings part ≡ Some template
+      → at < length template.nodes
       → items_of settings places ≡ before ++ flat_map part_node_items (take at template.nodes)
       → items_of settings (places ++ place.Stored (stored.Part part at) ∷ []) ≡ before ++ flat_map part_node_items (take (at + 1) template.nodes)
   node_more part template places before at is inside so_far =
       place_more places (place.Stored (stored.Part part at))
-      ∙ ap (λ l. items_of settings places ++ l) (ap (λ o. option_to_list (option_and_then (λ t. option_and_then node_item (slice_get t.nodes at)) o)) is ∙ bare (slice_get template.nodes at))
+      ∙ ap (λ l. items_of settings places ++ l) (ap (λ o. option_to_list (option_and_then (λ t. option_and_then node_item (slice_get t.nodes at)) o)) is
+      ∙ bare (slice_get template.nodes at))
       ∙ ap (λ l. l ++ flat_map part_node_items (option_to_list (slice_get template.nodes at))) so_far
       ∙ append_assoc before (flat_map part_node_items (take at template.nodes)) (flat_map part_node_items (option_to_list (slice_get template.nodes at)))
-      ∙ ap (λ l. before ++ l) (each_more part_node_items (λ o. flat_map part_node_items (option_to_list o)) template.nodes at (λ n. append-nil (part_node_items n)) inside)
+      ∙ ap (λ l. before ++ l) (each_more part_node_items (λ o. flat_map part_node_items (option_to_list o)) template.nodes at
+      (λ n. append-nil (part_node_items n)) inside)
 
   module _ (posts : List Post) where
     -- the places of some items, over one post
-    pub over_one : (post : Option ℕ) (places : List Place) → items_left settings posts (map (λ p. record { post = post; place = p }) places) ≡ over (post_at posts post) (items_of settings places)
+    pub over_one : (post : Option ℕ) (places : List Place) → items_left settings posts (map (λ p. record { post = post; place = p }) places)
+        ≡ over (post_at posts post) (items_of settings places)
     over_one post [] = refl
     over_one post (p ∷ ps) =
         ap (λ l. over (post_at posts post) (option_to_list (item_at settings p)) ++ l) (over_one post ps)
@@ -81,7 +86,8 @@ module _ (settings : Settings) where
         ∙ ap (λ l. before ++ l) (each_more (λ p. over (Some p) (items_of settings places)) (λ o. over o (items_of settings places)) posts at (λ p. refl) inside)
 
     -- some places, gathered anew, over no post
-    pub over_none : (steps news : List Step) (none places slice : List Place) (items : List Item) → none ≡ [] → slice ≡ places → items_of settings places ≡ items_of settings none ++ items
+    pub over_none : (steps news : List Step) (none places slice : List Place) (items : List Item) → none ≡ [] → slice ≡ places
+        → items_of settings places ≡ items_of settings none ++ items
         → news ≡ steps ++ map (λ p. record { post = None; place = p }) slice
         → items_left settings posts news ≡ items_left settings posts steps ++ over None items
     over_none steps news none places slice items is same gathered all =

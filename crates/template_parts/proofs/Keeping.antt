@@ -21,7 +21,8 @@ abbrev Kept : (World → Type 0) → ℕ → Work → Type 0
 Kept I calls work = Agree I calls work work
 
 module _ (engine : Engine) (settings : Settings) (I : World → Type 0) (keep : Keeps engine.plugins I) where
-  kept-shown : (c : ℕ) (shown : Text → Text) (w : World) (hook value : Text) (args : List Text) → Within I c w → Kept I c (shown_pass engine settings shown w hook value args)
+  kept-shown : (c : ℕ) (shown : Text → Text) (w : World) (hook value : Text) (args : List Text) → Within I c w
+      → Kept I c (shown_pass engine settings shown w hook value args)
   unfolding shown_pass
   kept-shown c shown w hook value args h =
       agree_then _ _ (agree_more c h.0 (kept-filtered engine I keep w hook value args h.1)) (λ d l v x e. agree_done (e.0, keep.output v _ e.1))

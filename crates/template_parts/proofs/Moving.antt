@@ -32,30 +32,35 @@ busy x is = absurd (let none : Some x ≡ None = is in cc)
 
 module _ (engine : Engine) (settings : Settings) where
   -- an action that was started stands for the action
-  pub action_begun : (world now : World) (hook given : Text) (args : List Text) (left : Trace Text) → given ≡ hook → args ≡ [] → left ≡ job_left engine world (Action given args)
+  pub action_begun : (world now : World) (hook given : Text) (args : List Text) (left : Trace Text) → given ≡ hook → args ≡ []
+      → left ≡ job_left engine world (Action given args)
       → action_pass engine settings world hook ≡ begun now left (Some Dropped)
   unfolding action_pass acted
   action_begun world now hook given args left same none is = rw (is, same, none) refl
 
   -- a filter that was started stands for the value that is shown
-  pub filter_begun : (world now : World) (shown : Shown) (hook given value : Text) (args : List Text) (left : Trace Text) → given ≡ hook → left ≡ job_left engine world (Filters given value args)
+  pub filter_begun : (world now : World) (shown : Shown) (hook given value : Text) (args : List Text) (left : Trace Text) → given ≡ hook
+      → left ≡ job_left engine world (Filters given value args)
       → shown_pass engine settings (shown_as shown) world hook value args ≡ begun now left (Some (Printed shown))
   unfolding shown_pass filtered
   filter_begun world now shown hook given value args left same is = rw (is, same) refl
 
   -- the item of the first step, and then those of the others
   pub step_first : (posts : List Post) (world : World) (step : Step) (items : List Placed)
-      → each (placed_pass engine settings) world (step_items settings posts step ++ items) ≡ then_items engine settings (step_pass engine settings posts world step) items
+      → each (placed_pass engine settings) world (step_items settings posts step ++ items)
+      ≡ then_items engine settings (step_pass engine settings posts world step) items
   unfolding each
   step_first posts world step items = go (post_at posts step.post) (item_at settings step.place)
     where
       go : (post : Option Post) (o : Option Item)
-          → each (placed_pass engine settings) world (over post (option_to_list o) ++ items) ≡ then_items engine settings (item_or_nothing engine settings world post o) items
+          → each (placed_pass engine settings) world (over post (option_to_list o) ++ items)
+          ≡ then_items engine settings (item_or_nothing engine settings world post o) items
       go post None = refl
       go post (Some item) = refl
 
   -- all of a page is left
-  pub all_left : (posts : List Post) (world : World) (items : List Placed) → items ≡ page_items settings posts → page_pass engine settings posts world ≡ then_items engine settings (Done world tt) items
+  pub all_left : (posts : List Post) (world : World) (items : List Placed) → items ≡ page_items settings posts
+      → page_pass engine settings posts world ≡ then_items engine settings (Done world tt) items
   unfolding page_pass
   all_left posts world items is = ap (each (placed_pass engine settings) world) (sym is)
 
@@ -66,7 +71,8 @@ module _ (engine : Engine) (settings : Settings) where
   hook_step posts world step hook name is same = rw (is, same) refl
 
   -- the item of a step that stands in a template
-  pub item_step : (posts : List Post) (world : World) (step : Step) (stored : Stored) (post : Option Post) (item : Item) → step.place ≡ place.Stored stored → stored_item settings stored ≡ Some item
+  pub item_step : (posts : List Post) (world : World) (step : Step) (stored : Stored) (post : Option Post) (item : Item) → step.place ≡ place.Stored stored
+      → stored_item settings stored ≡ Some item
       → post ≡ post_at posts step.post → item_pass engine settings post world item ≡ step_pass engine settings posts world step
   item_step posts world step stored post item is found over_it = rw (is, found, over_it) refl
 
@@ -79,13 +85,16 @@ module _ (engine : Engine) (settings : Settings) where
     -- the next step was begun
     pub step_move : (later : World) (now : Trace Text) (waits : Option Hand) (step : Step) (rest : List Step) → hand ≡ None → steps ≡ step ∷ rest
         → step_pass engine settings posts world step ≡ begun later now waits
-        → then_items engine settings (begun world left hand) (items_left settings posts steps) ≡ then_items engine settings (begun later now waits) (items_left settings posts rest)
+        → then_items engine settings (begun world left hand) (items_left settings posts steps)
+        ≡ then_items engine settings (begun later now waits) (items_left settings posts rest)
     step_move later now waits step rest free is first =
-        rw (free, is) (step_first posts world step (items_left settings posts rest) ∙ ap (λ work. then_items engine settings work (items_left settings posts rest)) first)
+        rw (free, is) (step_first posts world step (items_left settings posts rest)
+        ∙ ap (λ work. then_items engine settings work (items_left settings posts rest)) first)
 
   module _ (hand : Hand) (items : List Placed) (world : World) where
     -- the job under way is refused
-    pub refused_move : (left now : Trace Text) (why : RunFault) (w v : World) (n : Work) → run.Turns left (Err why) w now → Moves (then_items engine settings (begun world left (Some hand)) items) (Err why) v n
+    pub refused_move : (left now : Trace Text) (why : RunFault) (w v : World) (n : Work) → run.Turns left (Err why) w now
+        → Moves (then_items engine settings (begun world left (Some hand)) items) (Err why) v n
     refused_move left now TooManyCalls w v n is = rw is refl
     refused_move left now TooDeep w v n is = rw is refl
     refused_move left now OutOfMemory w v n is = tt
@@ -96,7 +105,8 @@ module _ (engine : Engine) (settings : Settings) where
     more_move left now x later is more = rw (is, more) refl
 
     -- the job under way is done, and its result was handed on
-    pub done_move : (left now : Trace Text) (x : result.Turn) (text : Text) (later last : World) → left ≡ run.turn_gives x later now → x ≡ turn.Done text → handed_on hand later text ≡ Done last tt
+    pub done_move : (left now : Trace Text) (x : result.Turn) (text : Text) (later last : World) → left ≡ run.turn_gives x later now → x ≡ turn.Done text
+        → handed_on hand later text ≡ Done last tt
         → then_items engine settings (begun world left (Some hand)) items ≡ each (placed_pass engine settings) last items
     done_move left now x text later last is done handed = rw (is, done, handed) refl
 

@@ -34,7 +34,7 @@ abbrev pub handed_on : Hand → World → Text → Work
 handed_on (Printed shown) world text = printed world (shown_as shown text)
 handed_on Dropped world text = Done world tt
 
--- the job that an item began, whose result is handed on; or nothing, where it began none
+-- the job that an item began, whose result is handed on; or nothing, if it began none
 abbrev pub begun : World → Trace Text → Option Hand → Work
 begun world left None = Done world tt
 begun world left (Some hand) = and_then left (λ later x. handed_on hand later x)
@@ -74,7 +74,7 @@ module _ {S : Type 0} where
   abbrev pub run_left : Engine → Settings → List Post → Run S → Ahead → Work
   run_left engine settings posts run ahead = ahead_of engine settings posts (world_of run) (left_of engine run) ahead
 
-  -- where nothing is left, no job is under way
+  -- if nothing is left, no job is under way
   abbrev pub IsIdleIfOver : Result Moved RunFault → Run S → Type 0
   IsIdleIfOver (Ok moved.Over) run = IsIdle run
   IsIdleIfOver (Ok moved.On) run = ⊤

@@ -6,7 +6,7 @@ use Rattle.site_records.specs.declared.post.PostKind.TheVariants as kind
 use Rattle.hook_machine.specs.World.{Text, World}
 use Rattle.hook_machine.specs.declared.fault.RunFault.{RunFault}
 use Rattle.hook_machine.specs.declared.fault.RunFault.TheVariants as fault
-use Rattle.hook_machine.specs.Trace.{Trace, Done, Ended, Fault, end_of, and_then}
+use Rattle.hook_machine.specs.Trace.{Trace, Done, Ended, Fault, outcome_of, and_then}
 use Rattle.hook_machine.specs.Meaning.{Engine, filtered, acted}
 use Rattle.page_escapes.specs.Escapes.{ends_escaped, html_escaped}
 use Rattle.template_trees.specs.declared.tree.Tag.{Tag}
@@ -117,7 +117,7 @@ stored_part_items None = []
 stored_part_items (Some template) = flat_map part_node_items template.nodes
 
 module _ (settings : Settings) where
-  -- a header and a footer are announced, also where none is stored (Code Reference, get_header, get_footer)
+  -- a header and a footer are announced, also if none is stored (Code Reference, get_header, get_footer)
   abbrev pub part_items : Part → List Item
   part_items part.Header = item.Action (codes "get_header") ∷ stored_part_items settings.header
   part_items part.Footer = item.Action (codes "get_footer") ∷ stored_part_items settings.footer
@@ -130,7 +130,7 @@ module _ (settings : Settings) where
   abbrev pub elements_items : List Element → List Item
   elements_items elements = flat_map element_items elements
 
-  -- a loop: its body for each post that was found, or its other body where none was (Theme Handbook, The Loop)
+  -- a loop: its body for each post that was found, or its other body if none was (Theme Handbook, The Loop)
   abbrev pub loop_items : List Element → List Element → List Post → List Placed
   loop_items body otherwise [] = over None (elements_items otherwise)
   loop_items body otherwise (post ∷ posts) = flat_map (λ p. over (Some p) (elements_items body)) (post ∷ posts)
@@ -150,9 +150,9 @@ page_pass engine settings posts world = each (placed_pass engine settings) world
 -- the page was made, and this is its text
 pub record IsPage (work : Work) (text : Text) : Type 0 where
   pub world : World
-  pub made : end_of work ≡ Ended world tt
+  pub made : outcome_of work ≡ Ended world tt
   pub whole : text ≡ world.output
 
--- the work was refused so, unless it was for want of memory
+-- the work was refused so, unless it was for an allocation failure
 abbrev pub IsRefusedBy : Work → RunFault → Type 0
-IsRefusedBy work why = why ≢ fault.OutOfMemory → end_of work ≡ Fault why
+IsRefusedBy work why = why ≢ fault.OutOfMemory → outcome_of work ≡ Fault why

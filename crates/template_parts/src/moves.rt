@@ -34,7 +34,7 @@ pub enum Moved {
     Over,
 }
 
-/// Where a page stops.
+/// If a page stops.
 #[derive(Clone, Copy, Debug)]
 pub enum Stop {
     /// A callback was invoked.
@@ -43,7 +43,7 @@ pub enum Stop {
     Over,
 }
 
-/// The post at a place, where there is one.
+/// The post at a place, if there is one.
 fn post_at(posts: &[Post], place: Option<usize>) -> Option<&Post>
     ensures { option_map (λ p. p.now) result ≡ post_at posts.entry.now place }
 {

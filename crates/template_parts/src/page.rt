@@ -181,7 +181,7 @@ impl<'p, S: Stated> Page<'p, S> {
         }
     }
 
-    /// Ends the page. All that a page owns is dropped here, so that what dropping does is proved once.
+    /// RunsAs the page. All that a page owns is dropped here, so that what dropping does is proved once.
     fn end(self) {
         drop(self);
     }

@@ -39,7 +39,7 @@ pub enum Stored {
     Part { part: Part, at: usize },
 }
 
-/// Where an item stands.
+/// If an item stands.
 #[derive(Clone, Copy)]
 pub enum Place {
     /// In no template.
@@ -106,7 +106,7 @@ pub(crate) fn template_of(settings: &Settings, part: Part) -> Option<&Template>
     }
 }
 
-/// The item at a place, where there is one.
+/// The item at a place, if there is one.
 pub(crate) fn stored_item(settings: &Settings, place: Stored) -> Option<&Item>
     ensures { option_map (λ i. i.now) result ≡ stored_item settings.entry.now place }
 {

@@ -5,7 +5,7 @@ use template_trees::Template;
 /// What a page needs of its site, beside the posts that were found.
 #[derive(Drop)]
 pub struct Settings {
-    /// The option `blogname`, empty where it isn't set.
+    /// The option `blogname`, empty if it isn't set.
     pub site_name: Text,
     /// The template that was chosen for what was found.
     pub template: Template,

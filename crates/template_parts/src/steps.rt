@@ -39,7 +39,7 @@ fn push_nodes(
     Ok(())
 }
 
-/// Adds the template of a part, where one is stored.
+/// Adds the template of a part, if one is stored.
 fn push_stored(places: &mut Vec<Place>, settings: &Settings, part: Part) -> Result<(), AllocError>
     ensures { OnOk result (items_of settings.now places.new.items ≡ items_of settings.now places.old.items
         ++ stored_part_items (template_of settings.now part)) }

@@ -80,21 +80,24 @@ list_shallow n (object found) trees e small = absurd (cc)
 object_shallow : (n : ℕ) (found : Members) → AreShallow n found → IsShallow (n + 1) (object found)
 object_shallow n found small = let d = small.deep in record { deep = omega arith; whole = small.whole }
 
--- what is found under a key is the first member, or one behind it
-found_at : {P : Type 0} → (o : Ordering) (key name : List ℕ) (here there : Data) (later : Option Data) → slice_cmp nat_cmp key name ≡ o → match_ordering o later (Some here) later ≡ Some there
+-- what is found under a key is the first member, or one after it
+found_at : {P : Type 0} → (o : Ordering) (key name : List ℕ) (here there : Data) (later : Option Data) → slice_cmp nat_cmp key name ≡ o
+    → match_ordering o later (Some here) later ≡ Some there
     → (key ≡ name → here ≡ there → P) → (later ≡ Some there → P) → P
 found_at Less key name here there later is e first second = second e
 found_at Equal key name here there later is e first second = first ((bytes_eq-Decides key name).0 (sym (is_eq-slice_cmp key name) ∙ ap is_eq is)) (cc)
 found_at Greater key name here there later is e first second = second e
 
-found : {P : Type 0} → (key name : List ℕ) (here there : Data) (rest : Members) → get_member key (member name here rest) ≡ Some there → (key ≡ name → here ≡ there → P) → (get_member key rest ≡ Some there → P) → P
+found : {P : Type 0} → (key name : List ℕ) (here there : Data) (rest : Members) → get_member key (member name here rest) ≡ Some there
+    → (key ≡ name → here ≡ there → P) → (get_member key rest ≡ Some there → P) → P
 found key name here there rest e first second = found_at _ key name here there (get_member key rest) refl e first second
 
 nowhere : {P : Type 0} → (key : List ℕ) (there : Data) → get_member key no_members ≡ Some there → P
 nowhere key there e = absurd (cc)
 
 -- the one member of an object
-one_shallow : (n : ℕ) (key : List ℕ) (members : Members) (there : Data) → members_len members ≡ 1 → get_member key members ≡ Some there → IsShallow n there → AreShallow n members
+one_shallow : (n : ℕ) (key : List ℕ) (members : Members) (there : Data) → members_len members ≡ 1 → get_member key members ≡ Some there → IsShallow n there
+    → AreShallow n members
 one_shallow n key no_members there one e small = absurd (omega arith)
 one_shallow n key (member name here no_members) there one e small =
     let same : here ≡ there = found key name here there no_members e (λ k h. h) (nowhere key there) in
@@ -102,14 +105,16 @@ one_shallow n key (member name here no_members) there one e small =
     record { deep = rw same (omega arith); whole = rw (same, small.whole) }
 one_shallow n key (member name here (member name' here' rest)) there one e small = absurd (omega arith)
 
-both_shallow : (n : ℕ) (name name' : List ℕ) (here here' : Data) → IsShallow n here → IsShallow n here' → AreShallow n (member name here (member name' here' no_members))
+both_shallow : (n : ℕ) (name name' : List ℕ) (here here' : Data) → IsShallow n here → IsShallow n here'
+    → AreShallow n (member name here (member name' here' no_members))
 both_shallow n name name' here here' small small' =
     let d = small.deep in
     let d' = small'.deep in
     record { deep = omega arith; whole = rw (small.whole, small'.whole) }
 
 -- the two members of an object that has two
-two_shallow : (n : ℕ) (key key' : List ℕ) (members : Members) (there there' : Data) → (key ≡ key' → ⊥) → members_len members ≡ 2 → get_member key members ≡ Some there → get_member key' members ≡ Some there'
+two_shallow : (n : ℕ) (key key' : List ℕ) (members : Members) (there there' : Data) → (key ≡ key' → ⊥) → members_len members ≡ 2
+    → get_member key members ≡ Some there → get_member key' members ≡ Some there'
     → IsShallow n there → IsShallow n there' → AreShallow n members
 two_shallow n key key' no_members there there' apart two e e' small small' = absurd (omega arith)
 two_shallow n key key' (member name here no_members) there there' apart two e e' small small' = absurd (omega arith)
@@ -132,13 +137,15 @@ sole_shallow n key (string s) there one e small = absurd (cc)
 sole_shallow n key (array trees) there one e small = absurd (cc)
 sole_shallow n key (object found) there one e small = object_shallow n found (one_shallow n key found there one e small)
 
-pair_shallow : (n : ℕ) (key key' : List ℕ) (tree there there' : Data) → (key ≡ key' → ⊥) → member_count tree ≡ 2 → get key tree ≡ Some there → get key' tree ≡ Some there' → IsShallow n there → IsShallow n there' → IsShallow (n + 1) tree
+pair_shallow : (n : ℕ) (key key' : List ℕ) (tree there there' : Data) → (key ≡ key' → ⊥) → member_count tree ≡ 2 → get key tree ≡ Some there
+    → get key' tree ≡ Some there' → IsShallow n there → IsShallow n there' → IsShallow (n + 1) tree
 pair_shallow n key key' null there there' apart two e e' small small' = absurd (cc)
 pair_shallow n key key' (boolean b) there there' apart two e e' small small' = absurd (cc)
 pair_shallow n key key' (number k) there there' apart two e e' small small' = absurd (cc)
 pair_shallow n key key' (string s) there there' apart two e e' small small' = absurd (cc)
 pair_shallow n key key' (array trees) there there' apart two e e' small small' = absurd (cc)
-pair_shallow n key key' (object found) there there' apart two e e' small small' = object_shallow n found (two_shallow n key key' found there there' apart two e e' small small')
+pair_shallow n key key' (object found) there there' apart two e e' small small' = object_shallow n found
+    (two_shallow n key key' found there there' apart two e e' small small')
 
 alone_shallow : (n : ℕ) (key : List ℕ) (tree there : Data) → alone_at key tree ≡ Some there → IsShallow n there → IsShallow (n + 1) tree
 alone_shallow n key tree there e small =
@@ -149,7 +156,8 @@ unfolding text_alone
 text_alone_shallow key tree text e =
     option_and_then_some as_str (alone_at key tree) text e (λ there at is. alone_shallow 0 key tree there at (text_shallow there text is))
 
-keyed_shallow : {A B : Type 0} → (key : List ℕ) (named : List ℕ → Option A) (f : A → B) (tree : Data) (one : B) → option_map f (option_and_then named (text_alone key tree)) ≡ Some one → IsShallow 1 tree
+keyed_shallow : {A B : Type 0} → (key : List ℕ) (named : List ℕ → Option A) (f : A → B) (tree : Data) (one : B)
+    → option_map f (option_and_then named (text_alone key tree)) ≡ Some one → IsShallow 1 tree
 keyed_shallow key named f tree one e =
     option_map_some f (option_and_then named (text_alone key tree)) one e
     (λ word is. option_and_then_some named (text_alone key tree) word is (λ text at _. text_alone_shallow key tree text at))
@@ -170,7 +178,8 @@ element_shallow tree one e =
     (λ h. option_map_some element.Item (item_of tree) one h (λ x is. item_shallow tree x is))
     (λ h. keyed_shallow (codes "part") part_named element.Part tree one h)
 
-all_shallow : {A : Type 0} → (n : ℕ) (is : Data → Option A) (trees : Items) (all : List A) → ((tree : Data) (one : A) → is tree ≡ Some one → IsShallow n tree) → all_of is trees ≡ Some all → AllShallow n trees
+all_shallow : {A : Type 0} → (n : ℕ) (is : Data → Option A) (trees : Items) (all : List A) → ((tree : Data) (one : A) → is tree ≡ Some one → IsShallow n tree)
+    → all_of is trees ≡ Some all → AllShallow n trees
 unfolding all_of
 all_shallow n is no_items all each e = record { deep = omega arith; whole = refl }
 all_shallow n is (json.item tree trees) all each e =
@@ -183,8 +192,10 @@ all_shallow n is (json.item tree trees) all each e =
     let d' = others.deep in
     record { deep = omega arith; whole = rw (small.whole, others.whole) }))
 
-list_of_shallow : {A : Type 0} → (n : ℕ) (is : Data → Option A) (tree : Data) (all : List A) → ((one_tree : Data) (one : A) → is one_tree ≡ Some one → IsShallow n one_tree) → list_of is tree ≡ Some all → IsShallow (n + 1) tree
-list_of_shallow n is tree all each e = option_and_then_some _ (as_array tree) all e (λ trees at are. list_shallow n tree trees at (all_shallow n is trees all each are))
+list_of_shallow : {A : Type 0} → (n : ℕ) (is : Data → Option A) (tree : Data) (all : List A)
+    → ((one_tree : Data) (one : A) → is one_tree ≡ Some one → IsShallow n one_tree) → list_of is tree ≡ Some all → IsShallow (n + 1) tree
+list_of_shallow n is tree all each e = option_and_then_some _ (as_array tree) all e
+    (λ trees at are. list_shallow n tree trees at (all_shallow n is trees all each are))
 
 elements_shallow : (tree : Data) (all : List Element) → list_of element_of tree ≡ Some all → IsShallow 2 tree
 elements_shallow tree all e = list_of_shallow 1 element_of tree all element_shallow e
@@ -201,10 +212,12 @@ loop_shallow tree one e =
     let small = elements_shallow there body are in
     elim (cases_Bool (member_count tree == 1)) [
       | inl alone ↦ sole_shallow 2 (codes "loop") tree there (eqb-true _ _ alone) found small
-      | inr other ↦ if_some (member_count tree == 2) (option_map (λ otherwise. node.Loop body otherwise) (elements_at (codes "else") tree)) one (rw other at made)
+      | inr other ↦ if_some (member_count tree == 2) (option_map (λ otherwise. node.Loop body otherwise) (elements_at (codes "else") tree)) one
+          (rw other at made)
           (λ two h. option_map_some _ (elements_at (codes "else") tree) one h
           (λ otherwise at'. option_and_then_some elements_of (get (codes "else") tree) otherwise at'
-          (λ there' found' are'. pair_shallow 2 (codes "loop") (codes "else") tree there there' keys_apart (eqb-true _ _ two) found found' small (elements_shallow there' otherwise are'))))
+          (λ there' found' are'. pair_shallow 2 (codes "loop") (codes "else") tree there there' keys_apart (eqb-true _ _ two) found found' small
+          (elements_shallow there' otherwise are'))))
     ]))
 
 node_shallow : (tree : Data) (one : Node) → node_of tree ≡ Some one → IsShallow 3 tree
@@ -225,7 +238,8 @@ tree_shallow name tree nodes e =
     if_some (is_template_name name) (nodes_of (is_part_name name) tree) nodes e
     (λ named h. list_of_shallow 3 (node_in (is_part_name name)) tree nodes (node_in_shallow (is_part_name name)) h)
 
-of_size_ok : {P : Type 0} → (found : Option (List Node)) (template : Template) → of_size found ≡ Ok template → ((nodes : List Node) → found ≡ Some nodes → P) → P
+of_size_ok : {P : Type 0} → (found : Option (List Node)) (template : Template) → of_size found ≡ Ok template → ((nodes : List Node) → found ≡ Some nodes → P)
+    → P
 of_size_ok None template e next = absurd (cc)
 of_size_ok (Some nodes) template e next = next nodes refl
 
@@ -234,6 +248,7 @@ unfolding template_of
 template_shallow name tree template e = of_size_ok (tree_of name tree) template e (λ nodes is. tree_shallow name tree nodes is)
 
 -- a text that reads as the tree is the template that the tree is
-pub stored_template-read : (name text : List ℕ) (tree : Data) (template : Template) → read text ≡ Some tree → template_of name tree ≡ Ok template → stored_template name text ≡ Some template
+pub stored_template-read : (name text : List ℕ) (tree : Data) (template : Template) → read text ≡ Some tree → template_of name tree ≡ Ok template
+    → stored_template name text ≡ Some template
 unfolding stored_template
 stored_template-read name text tree template e is = ap (λ found. option_and_then (λ one. result_ok (template_of name one)) found) e ∙ ap result_ok is

@@ -15,7 +15,8 @@ use Rattle.template_trees.specs.Worked.{template_in, taken, refused, plain}
 
 -- what computes in the cases below
 computes : ℕ
-unfolding tag_named part_named is_template_name text_alone all_of item_of element_of loop_of node_of node_in tree_of count_of text_bytes fits template_of template_in serde_json_on_literals
+unfolding tag_named part_named is_template_name text_alone all_of item_of element_of loop_of node_of node_in tree_of count_of text_bytes fits template_of
+    template_in serde_json_on_literals
 computes = 0
 
 pub default : template_in (codes "index")

@@ -95,7 +95,7 @@ text_item tree = option_map item.Text (as_str tree)
 abbrev pub tag_item : Data → Option Item
 tag_item tree = option_map item.Tag (option_and_then tag_named (text_alone (codes "tag") tree))
 
--- a name, where it is one of a hook
+-- a name, if it is one of a hook
 abbrev pub hook_named : List ℕ → Option (List ℕ)
 hook_named name = if is_hook_name name then Some name else None
 
@@ -123,7 +123,7 @@ elements_of tree = list_of element_of tree
 abbrev pub elements_at : List ℕ → Data → Option (List Element)
 elements_at key tree = option_and_then elements_of (get key tree)
 
--- the loop over a body: without another body where the object has no other key
+-- the loop over a body: without another body if the object has no other key
 abbrev pub loop_over : List Element → Data → Option Node
 loop_over body tree =
     if member_count tree == 1 then Some (node.Loop body [])
@@ -183,12 +183,12 @@ text_bytes nodes = sum_by node_bytes nodes
 unfoldable pub fits : List Node → Bool
 fits nodes = nat_le (count_of nodes) 4096 && nat_le (text_bytes nodes) 262144
 
--- the template of these nodes: a tree that is none is refused before one that is too large
+-- the template of these nodes: a tree that isn't one is refused before one that is too large
 abbrev pub of_size : Option (List Node) → Result Template TemplateFault
 of_size None = Err BadTemplate
 of_size (Some nodes) = if fits nodes then Ok (record { nodes = nodes }) else Err TooLarge
 
--- the template of that name that a JSON tree is, or why it is none
+-- the template of that name that a JSON tree is, or why it isn't one
 unfoldable pub template_of : List ℕ → Data → Result Template TemplateFault
 template_of name tree = of_size (tree_of name tree)
 
@@ -196,7 +196,7 @@ template_of name tree = of_size (tree_of name tree)
 unfoldable pub stored_template : List ℕ → List ℕ → Option Template
 stored_template name text = option_and_then (λ tree. result_ok (template_of name tree)) (read text)
 
--- what stands in place of a template `index` where none is stored
+-- what stands in place of a template `index` if none is stored
 abbrev pub default_index : List Node
 default_index =
     node.Element (element.Item (item.Tag tag.WpHead))

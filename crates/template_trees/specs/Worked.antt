@@ -10,7 +10,7 @@ use Rattle.template_trees.specs.declared.tree.Node.TheVariants as node
 use Rattle.template_trees.specs.declared.tree.Template.{Template}
 use Rattle.template_trees.specs.Trees.{template_of}
 
--- the template of that name that a JSON text is, or why it is none
+-- the template of that name that a JSON text is, or why it isn't one
 unfoldable pub template_in : List ℕ → List ℕ → Option (Result Template TemplateFault)
 template_in name text = option_map (template_of name) (read text)
 

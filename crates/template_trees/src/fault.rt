@@ -1,4 +1,4 @@
-// Why a template is refused.
+//! Why a template is refused.
 use std::alloc::AllocError;
 use thiserror::Error;
 

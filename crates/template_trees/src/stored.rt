@@ -25,7 +25,7 @@ pub fn template_text(alloc: Global, value: &Value) -> Result<Text, AllocError>
     Ok(Text::new(value.to_string(alloc)?))
 }
 
-/// The template of that name that a stored text is, or `None` where the text is none. The one refusal is for
+/// The template of that name that a stored text is, or `None` if the text isn't one. The one refusal is for
 /// want of memory.
 #[tactic(auto, unfolding(crate::specs::Trees::stored_template))]
 pub fn read_stored(alloc: Global, name: &str, text: &str) -> Result<Option<Template>, AllocError>

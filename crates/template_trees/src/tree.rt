@@ -17,11 +17,11 @@ pub enum Tag {
 /// A template tag that speaks of a post.
 #[derive(Clone, Copy, PartialEq, Eq)]
 pub enum PostTag {
-    /// The title, behind the filter `the_title`.
+    /// The title, after the filter `the_title`.
     TheTitle,
     /// The same, with the characters that HTML reads as its own escaped.
     TitleEscaped,
-    /// The content, behind the filter `the_content`.
+    /// The content, after the filter `the_content`.
     TheContent,
     /// The post's number.
     TheId,
@@ -62,7 +62,7 @@ pub enum Element {
 #[derive(Drop)]
 pub enum Node {
     Element(Element),
-    /// The body once for each post that was found, in order, and the other body once where none was.
+    /// The body once for each post that was found, in order, and the other body once if none was.
     Loop {
         body: Listed<Element>,
         otherwise: Listed<Element>,

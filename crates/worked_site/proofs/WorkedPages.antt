@@ -26,7 +26,9 @@ use Rattle.worked_site.specs.Worked.{bundled, IsMarked, one_post}
 
 -- what computes in the pages below
 computes : ℕ
-unfolding loaded deeper group_pass priorities_pass pass filter_pass action_pass handled piece_pass pieces_pass shortcodes_pass answered follow invoked invoked_with invoke_within invoke filtered acted has_opening first_place match_at name_start name_at core_of with_extras match_from pieces_within each shown_pass says template.action_pass post_tag_pass tag_pass item_pass template.page_pass page_pass bytes_of digits
+unfolding loaded deeper group_pass priorities_pass pass filter_pass action_pass handled piece_pass pieces_pass shortcodes_pass answered follow invoked
+    invoked_with invoke_within invoke filtered acted has_opening first_place match_at name_start name_at core_of with_extras match_from pieces_within each
+    shown_pass says template.action_pass post_tag_pass tag_pass item_pass template.page_pass page_pass bytes_of digits
 computes = 0
 
 -- the posts that the front of the worked site shows, and the answer that they give

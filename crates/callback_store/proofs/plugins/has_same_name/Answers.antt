@@ -8,5 +8,6 @@ loop-at-init g c = repeats-start (λ p q. bytes_eq p.name q.name) c.args.list.no
 pub loop-at-preserved : goal.loop-at-preserved
 loop-at-preserved g c =
     c.loop-at.invariant
-    ∙ repeats-more_at (λ p q. bytes_eq p.name q.name) c.args.list.now c.loop-at.at c.index-list-at.result c.index-list-at.result (omega arith) c.index-list-at.is
+    ∙ repeats-more_at (λ p q. bytes_eq p.name q.name) c.args.list.now c.loop-at.at c.index-list-at.result c.index-list-at.result (omega arith)
+    c.index-list-at.is
     (sym (rw c.as_str.ensures at c.is_named_before.ensures) ∙ c.if-is_named_before.false)

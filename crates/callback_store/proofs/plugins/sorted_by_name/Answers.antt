@@ -7,4 +7,5 @@ use Rattle.callback_store.proofs.plugins.sorted_by_name.Goals as goal
 pub returns-clause-in_order : goal.returns-clause-in_order
 returns-clause-in_order g c =
     rw c.new.ensures
-    (c.sort_unstable_by.ensures.sorted (λ p q. is_lt (slice_cmp nat_cmp p.name q.name)) (ranks_by nat_list_cmp_total (λ p. p.name)) (answers_always _ _ _ (λ f a r h k. search rules)))
+    (c.sort_unstable_by.ensures.sorted (λ p q. is_lt (slice_cmp nat_cmp p.name q.name)) (ranks_by nat_list_cmp_total (λ p. p.name))
+    (answers_always _ _ _ (λ f a r h k. search rules)))

@@ -1,4 +1,4 @@
-use Rattle.hook_machine.specs.Ends.{engine_over}
+use Rattle.hook_machine.specs.Outcomes.{engine_over}
 use Rattle.hook_machine.proofs.Steps.{answer_goes}
 use Rattle.hook_machine.proofs.Moving.{handed_moves}
 use Rattle.hook_changes.specs.declared.reply.Then.TheVariants as next
@@ -8,4 +8,7 @@ use Rattle.hook_machine.proofs.asking.follow_turn.Goals as goal
 
 pub returns-in-Answer-clause-moves : goal.returns-in-Answer-clause-moves
 returns-in-Answer-clause-moves g c =
-    rw (c.in-Answer.is, c.keep_call.ensures) (handed_moves (engine_over g.S.Stated.says g.S.Stated.number c.args.plugins.now) (pending_left (engine_over g.S.Stated.says g.S.Stated.number c.args.plugins.now) c.args.state.now c.args.callback c.args.call (Next (next.Answer c.in-Answer.text))) c.args.state.now c.in-Answer.text c.args.stack.now (answer_goes (engine_over g.S.Stated.says g.S.Stated.number c.args.plugins.now) c.args.state.now c.args.callback c.args.call c.in-Answer.text))
+    rw (c.in-Answer.is, c.keep_call.ensures) (handed_moves (engine_over g.S.Stated.says g.S.Stated.number c.args.plugins.now)
+    (pending_left (engine_over g.S.Stated.says g.S.Stated.number c.args.plugins.now) c.args.state.now c.args.callback c.args.call
+    (Next (next.Answer c.in-Answer.text))) c.args.state.now c.in-Answer.text c.args.stack.now
+    (answer_goes (engine_over g.S.Stated.says g.S.Stated.number c.args.plugins.now) c.args.state.now c.args.callback c.args.call c.in-Answer.text))

@@ -1,24 +1,29 @@
 use Rattle.std.proofs.Common.{◌∙◌}
-use Rattle.hook_machine.specs.Ends.{engine_over}
+use Rattle.hook_machine.specs.Outcomes.{engine_over}
 use Rattle.hook_machine.proofs.Moving.{text_handed, nothing_handed, core_handed, next_handed, begun_handed}
 use Rattle.hook_machine.proofs.asking.waiting_turn.Goals as goal
 
 pub returns-in-ForText-clause-moves : goal.returns-in-ForText-clause-moves
 returns-in-ForText-clause-moves g c =
-    rw c.in-ForText.is (text_handed (engine_over g.S.Stated.says g.S.Stated.number c.args.plugins.now) c.args.state.now c.rise.new.self c.args.invoked.callback c.args.invoked.call c.args.text c.args.stack.now c.rise.ensures _ _ _ c.invoke_again.ensures.moves)
+    rw c.in-ForText.is (text_handed (engine_over g.S.Stated.says g.S.Stated.number c.args.plugins.now) c.args.state.now c.rise.new.self
+    c.args.invoked.callback c.args.invoked.call c.args.text c.args.stack.now c.rise.ensures _ _ _ c.invoke_again.ensures.moves)
 
 pub returns-in-ForNothing-clause-moves : goal.returns-in-ForNothing-clause-moves
 returns-in-ForNothing-clause-moves g c =
-    rw c.in-ForNothing.is (nothing_handed (engine_over g.S.Stated.says g.S.Stated.number c.args.plugins.now) c.args.state.now c.rise-in-ForNothing.new.self c.args.invoked.callback c.args.invoked.call c.args.text c.args.stack.now c.rise-in-ForNothing.ensures _ _ _ c.invoke_again-in-ForNothing.ensures.moves)
+    rw c.in-ForNothing.is (nothing_handed (engine_over g.S.Stated.says g.S.Stated.number c.args.plugins.now) c.args.state.now c.rise-in-ForNothing.new.self
+    c.args.invoked.callback c.args.invoked.call c.args.text c.args.stack.now c.rise-in-ForNothing.ensures _ _ _ c.invoke_again-in-ForNothing.ensures.moves)
 
 pub returns-in-ForCore-clause-moves : goal.returns-in-ForCore-clause-moves
 returns-in-ForCore-clause-moves g c =
-    rw c.in-ForCore.is (core_handed (engine_over g.S.Stated.says g.S.Stated.number c.args.plugins.now) c.args.state.now c.keep_call.new.self c.args.invoked.callback c.args.invoked.call c.args.text c.args.stack.now (c.keep_call.ensures ∙ c.rise-in-ForCore.ensures))
+    rw c.in-ForCore.is (core_handed (engine_over g.S.Stated.says g.S.Stated.number c.args.plugins.now) c.args.state.now c.keep_call.new.self
+    c.args.invoked.callback c.args.invoked.call c.args.text c.args.stack.now (c.keep_call.ensures ∙ c.rise-in-ForCore.ensures))
 
 pub returns-in-Next-clause-moves : goal.returns-in-Next-clause-moves
 returns-in-Next-clause-moves g c =
-    rw c.in-Next.is (next_handed (engine_over g.S.Stated.says g.S.Stated.number c.args.plugins.now) c.args.state.now c.args.invoked.callback c.args.invoked.call c.in-Next.next c.args.text c.args.stack.now)
+    rw c.in-Next.is (next_handed (engine_over g.S.Stated.says g.S.Stated.number c.args.plugins.now) c.args.state.now c.args.invoked.callback
+    c.args.invoked.call c.in-Next.next c.args.text c.args.stack.now)
 
 pub returns-in-Core-clause-moves : goal.returns-in-Core-clause-moves
 returns-in-Core-clause-moves g c =
-    rw c.in-Core.is (begun_handed (engine_over g.S.Stated.says g.S.Stated.number c.args.plugins.now) c.args.state.now c.args.invoked.callback c.args.invoked.call c.args.text c.args.stack.now)
+    rw c.in-Core.is (begun_handed (engine_over g.S.Stated.says g.S.Stated.number c.args.plugins.now) c.args.state.now c.args.invoked.callback
+    c.args.invoked.call c.args.text c.args.stack.now)

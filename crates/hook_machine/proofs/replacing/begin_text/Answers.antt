@@ -1,4 +1,4 @@
-use Rattle.hook_machine.specs.Ends.{engine_over}
+use Rattle.hook_machine.specs.Outcomes.{engine_over}
 use Rattle.hook_machine.specs.Meaning.{invoke}
 use Rattle.hook_machine.proofs.Moving.{text_back, text_begin}
 use Rattle.hook_machine.proofs.replacing.begin_text.Goals as goal
@@ -7,8 +7,11 @@ use Rattle.hook_machine.proofs.replacing.begin_text.Goals as goal
 pub returns-then-is_one_stretch-clause-moves : goal.returns-then-is_one_stretch-clause-moves
 returns-then-is_one_stretch-clause-moves g c =
     let engine = engine_over g.S.Stated.says g.S.Stated.number c.args.plugins.now in
-    text_back engine c.args.state.now c.args.text c.as_str.result.now c.in_ok-pieces.pieces c.args.stack.now c.as_str.ensures c.in_ok-pieces.ensures.pieces (rw (c.as_slice.ensures, c.as_str-2.ensures) at (c.is_one_stretch.ensures c.if-is_one_stretch.true (invoke engine) c.args.state.now))
+    text_back engine c.args.state.now c.args.text c.as_str.result.now c.in_ok-pieces.pieces c.args.stack.now c.as_str.ensures c.in_ok-pieces.ensures.pieces
+    (rw (c.as_slice.ensures, c.as_str-2.ensures) at (c.is_one_stretch.ensures c.if-is_one_stretch.true (invoke engine) c.args.state.now))
 
 pub returns-clause-moves : goal.returns-clause-moves
 returns-clause-moves g c =
-    text_begin (engine_over g.S.Stated.says g.S.Stated.number c.args.plugins.now) c.args.state.now c.args.text c.as_str.result.now c.empty.result c.in_ok-pieces.pieces c.new.result c.args.stack.now c.as_str.ensures c.in_ok-pieces.ensures.pieces c.new.ensures c.empty.ensures _ _ _ c.text_turn.ensures.moves
+    text_begin (engine_over g.S.Stated.says g.S.Stated.number c.args.plugins.now) c.args.state.now c.args.text c.as_str.result.now c.empty.result
+    c.in_ok-pieces.pieces c.new.result c.args.stack.now c.as_str.ensures c.in_ok-pieces.ensures.pieces c.new.ensures c.empty.ensures _ _ _
+    c.text_turn.ensures.moves

@@ -1,6 +1,6 @@
 use Rattle.std.proofs.Common.{◌≡◌, Ok, length}
-use Rattle.hook_machine.specs.Ends.{engine_over}
-use Rattle.hook_machine.specs.Trace.{end_of, turns_of}
+use Rattle.hook_machine.specs.Outcomes.{engine_over}
+use Rattle.hook_machine.specs.Trace.{outcome_of, turns_of}
 use Rattle.hook_machine.specs.Rest.{rest}
 use Rattle.hook_machine.specs.Jobs.{left_from}
 use Rattle.hook_machine.specs.Moves.{turn_gives, IsOver}
@@ -11,7 +11,7 @@ abbrev pub invariant-turns : goal.invariant-turns
 invariant-turns g l =
     let engine = engine_over g.S.Stated.says g.S.Stated.number l.plugins in
     record {
-      ends : end_of (turn_gives l.turned l.state (rest engine l.state l.stack)) ≡ end_of (left_from engine l.fn.state l.fn.job l.fn.stack);
+      ends : outcome_of (turn_gives l.turned l.state (rest engine l.state l.stack)) ≡ outcome_of (left_from engine l.fn.state l.fn.job l.fn.stack);
       over : IsOver (Ok l.turned) l.stack;
     }
 

@@ -1,5 +1,5 @@
 use Rattle.std.proofs.Common.{◌≡◌}
-use Rattle.hook_machine.specs.Ends.{engine_over}
+use Rattle.hook_machine.specs.Outcomes.{engine_over}
 use Rattle.hook_machine.specs.Moves.{still_left, way_of}
 use Rattle.hook_machine.proofs.resuming.hand_on.Given as goal
 

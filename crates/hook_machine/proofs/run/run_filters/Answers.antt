@@ -1,7 +1,7 @@
 use Rattle.std.proofs.Common.{subst}
-use Rattle.hook_machine.specs.Ends.{engine_over}
+use Rattle.hook_machine.specs.Outcomes.{engine_over}
 use Rattle.hook_machine.specs.declared.resuming.Job.{Job}
-use Rattle.hook_machine.specs.Ends.{Ends}
+use Rattle.hook_machine.specs.Outcomes.{RunsAs}
 use Rattle.hook_machine.specs.Jobs.{job_left}
 use Rattle.hook_machine.specs.Meaning.{filtered}
 use Rattle.hook_machine.proofs.run.run_filters.Goals as goal
@@ -9,4 +9,5 @@ use Rattle.hook_machine.proofs.run.run_filters.Goals as goal
 pub returns-clause-ends : goal.returns-clause-ends
 unfolding filtered
 returns-clause-ends g c =
-    subst (λ (j : Job). Ends (job_left (engine_over g.S.Stated.says g.S.Stated.number c.args.plugins.now) c.args.state.now j) c.run_job.result c.run_job.new.state) c.in_ok-job.ensures c.run_job.ensures.ends
+    subst (λ (j : Job). RunsAs (job_left (engine_over g.S.Stated.says g.S.Stated.number c.args.plugins.now) c.args.state.now j) c.run_job.result
+    c.run_job.new.state) c.in_ok-job.ensures c.run_job.ensures.ends

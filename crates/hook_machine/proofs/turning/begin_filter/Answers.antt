@@ -1,13 +1,15 @@
 use Rattle.std.proofs.Common.{Err, ap}
-use Rattle.hook_machine.specs.Ends.{engine_over}
+use Rattle.hook_machine.specs.Outcomes.{engine_over}
 use Rattle.hook_machine.proofs.Ending.{not_false, ok_not_err}
 use Rattle.hook_machine.proofs.Moving.{filter_moves, filter_back}
 use Rattle.hook_machine.proofs.turning.begin_filter.Goals as goal
 
 pub returns-in-Ok-clause-moves : goal.returns-in-Ok-clause-moves
 returns-in-Ok-clause-moves g c =
-    filter_moves (engine_over g.S.Stated.says g.S.Stated.number c.args.plugins.now) c.args.state.now c.args.hook.now c.in-Ok.hook c.args.value c.args.args c.args.stack.now c.in-Ok.ensures.ok (not_false _ (λ h. ok_not_err _ _ (c.in-Ok.ensures.bad_name.1 h))) _ _ _ c.begin_pass.ensures.moves
+    filter_moves (engine_over g.S.Stated.says g.S.Stated.number c.args.plugins.now) c.args.state.now c.args.hook.now c.in-Ok.hook c.args.value c.args.args
+    c.args.stack.now c.in-Ok.ensures.ok (not_false _ (λ h. ok_not_err _ _ (c.in-Ok.ensures.bad_name.1 h))) _ _ _ c.begin_pass.ensures.moves
 
 pub returns-in-Err-BadName-clause-moves : goal.returns-in-Err-BadName-clause-moves
 returns-in-Err-BadName-clause-moves g c =
-    filter_back (engine_over g.S.Stated.says g.S.Stated.number c.args.plugins.now) c.args.state.now c.args.hook.now c.args.value c.args.args c.args.stack.now (c.in-Err-BadName.ensures.bad_name.0 (ap Err c.in-Err-BadName.field-0-is))
+    filter_back (engine_over g.S.Stated.says g.S.Stated.number c.args.plugins.now) c.args.state.now c.args.hook.now c.args.value c.args.args c.args.stack.now
+    (c.in-Err-BadName.ensures.bad_name.0 (ap Err c.in-Err-BadName.field-0-is))

@@ -8,7 +8,8 @@ use Rattle.hook_registry.proofs.list.add_to.Goals as goal
 pub loop-i-init : goal.loop-i-init
 loop-i-init c = record {
   same = refl;
-  passed = λ k d l h. not_of-below c.args.priority c.args.callback (get_or c.args.list.now.items k d) ((rw c.deref-2.ensures.value at c.start_of-i.ensures.point).0 k d l h);
+  passed = λ k d l h. not_of-below c.args.priority c.args.callback (get_or c.args.list.now.items k d)
+      ((rw c.deref-2.ensures.value at c.start_of-i.ensures.point).0 k d l h);
 }
 
 pub returns-then-eq-clause-added : goal.returns-then-eq-clause-added
@@ -21,7 +22,8 @@ returns-then-eq-clause-added c =
     rw c.loop-i.invariant.same
     (sym
     (added-there new c.args.list.now.items c.loop-i.i c.index.result.now c.index_mut.result.now within
-    (λ k d l h. (c.loop-i.invariant.passed k d l h, end.point.0 k d l (omega (arith, h, c.loop-i-test.true)))) item (rw c.loop-i.invariant.same at c.index_mut.ensures.value)
+    (λ k d l h. (c.loop-i.invariant.passed k d l h, end.point.0 k d l (omega (arith, h, c.loop-i-test.true)))) item
+    (rw c.loop-i.invariant.same at c.index_mut.ensures.value)
     (of-between c.args.priority c.args.callback c.index.result.now
     (subst (λ r. is_below c.args.priority r ≡ false) (sym item) (start.point.1 c.loop-i.i c.index.result.now c.loop-i.auto.i within))
     (subst (λ r. is_above (Some c.args.priority) r ≡ false) (sym item) (end.point.0 c.loop-i.i c.index.result.now (omega arith) c.loop-i-test.true))
@@ -31,7 +33,8 @@ pub loop-i-preserved : goal.loop-i-preserved
 loop-i-preserved c = record {
   same = c.loop-i.invariant.same;
   passed =
-      within_more (λ r. is_of c.args.priority c.args.callback r ≡ false) c.args.list.now.items c.loop-i.i c.index.result.now (omega (arith, c.loop-i-test.true, c.end_of-end.ensures.within, ap length c.deref.ensures.value)) (rw c.loop-i.invariant.same at c.index.ensures)
+      within_more (λ r. is_of c.args.priority c.args.callback r ≡ false) c.args.list.now.items c.loop-i.i c.index.result.now
+      (omega (arith, c.loop-i-test.true, c.end_of-end.ensures.within, ap length c.deref.ensures.value)) (rw c.loop-i.invariant.same at c.index.ensures)
       (not_of-callback c.args.priority c.args.callback c.index.result.now (sym c.eq.ensures ∙ c.if-eq.false)) c.loop-i.invariant.passed;
 }
 

@@ -22,5 +22,6 @@ moment-requires-2 c =
     let first_month : c.in-Some.first.month ≡ c.args.month = cc in
     let length : days_in_month c.in-Some.first.year c.in-Some.first.month ≡ days_in_month (pos c.args.year) c.args.month = rw (y, first_month) refl in
     let day : c.last_of_month.result.day ≡ days_in_month (pos c.args.year) c.args.month = cc in
-    let text : date_text c.last_of_month.result ≡ day_text c.args.year c.args.month (days_in_month (pos c.args.year) c.args.month) = rw (year, month, day) refl in
+    let text : date_text c.last_of_month.result ≡ day_text c.args.year c.args.month (days_in_month (pos c.args.year) c.args.month) = rw (year, month, day)
+    refl in
     ap (λ t. is_post_date (t ++ codes " " ++ codes "23:59:59")) text ∙ last_day_dated c.args.year c.args.month (sym c.in-Some.ensures.there)

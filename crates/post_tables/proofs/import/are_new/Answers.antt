@@ -32,6 +32,7 @@ loop-post-preserved c =
     let free : has_post post.id stored ≡ false = sym (ap (λ s. has_post post.id s.posts) before.reads.same) ∙ unlike in
     record {
       reads = record { site = reads.site; same = reads.same ∙ before.reads.same };
-      rest = ap (λ n. none_met c.meet.new.met.keys (drop n posts) && are_new (drop n posts) stored) next ∙ ap (λ k. none_met k left && are_new left stored) c.in_ok-meet.ensures.keys
+      rest = ap (λ n. none_met c.meet.new.met.keys (drop n posts) && are_new (drop n posts) stored) next
+          ∙ ap (λ k. none_met k left && are_new left stored) c.in_ok-meet.ensures.keys
           ∙ sym (next_new met post left stored fresh free) ∙ ap (λ l. none_met met l && are_new l stored) (sym this) ∙ before.rest;
     }

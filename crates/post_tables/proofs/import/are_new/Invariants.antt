@@ -7,5 +7,6 @@ use Rattle.post_tables.proofs.import.are_new.Given as goal
 abbrev pub invariant-loop-post : goal.invariant-loop-post
 invariant-loop-post l = record {
   reads : Reads l.fn.conn l.conn;
-  rest : (none_met l.met.keys (drop l.post-index l.posts) && are_new (drop l.post-index l.posts) (rows_of l.fn.conn).posts) ≡ are_new l.posts (rows_of l.fn.conn).posts;
+  rest : (none_met l.met.keys (drop l.post-index l.posts) && are_new (drop l.post-index l.posts) (rows_of l.fn.conn).posts)
+      ≡ are_new l.posts (rows_of l.fn.conn).posts;
 }

@@ -13,7 +13,8 @@ use Rattle.post_tables.proofs.listing.posts_with.Goals as goal
 pub read_id-requires : goal.read_id-requires
 read_id-requires c =
     let row : Row = c.row-item.result in
-    subst (λ (r : Row). IsId (column r 0)) (sym c.row-item.is) (All-get_or (λ (r : Row). IsId (column r 0)) c.args.ids.now c.loop-row.row-index row c.loop-row-test.true c.requires.readable)
+    subst (λ (r : Row). IsId (column r 0)) (sym c.row-item.is) (All-get_or (λ (r : Row). IsId (column r 0)) c.args.ids.now c.loop-row.row-index row
+    c.loop-row-test.true c.requires.readable)
 
 pub loop-row-preserved : goal.loop-row-preserved
 loop-row-preserved c =
@@ -28,6 +29,8 @@ loop-row-preserved c =
     let pushed = c.in_ok-push_post.ensures in
     record {
       reads = record { site = pushed.reads.site; same = pushed.reads.same ∙ before.reads.same };
-      posts = pushed.posts ∙ ap (λ s. had ++ found_of s.posts c.in_ok-id.id) before.reads.same ∙ ap (λ n. had ++ found_of stored n) c.in_ok-id.ensures.ok ∙ ap (λ l. l ++ found row) before.posts
-          ∙ ap (λ l. flat_map found (take i ids) ++ l) (sym (append-nil (found row))) ∙ sym (flat_map-append found (take i ids) (row ∷ [])) ∙ ap (flat_map found) (sym more);
+      posts = pushed.posts ∙ ap (λ s. had ++ found_of s.posts c.in_ok-id.id) before.reads.same ∙ ap (λ n. had ++ found_of stored n) c.in_ok-id.ensures.ok
+          ∙ ap (λ l. l ++ found row) before.posts
+          ∙ ap (λ l. flat_map found (take i ids) ++ l) (sym (append-nil (found row))) ∙ sym (flat_map-append found (take i ids) (row ∷ []))
+          ∙ ap (flat_map found) (sym more);
     }

@@ -9,6 +9,7 @@ use Rattle.post_tables.proofs.named.put_active.Goals as goal
 pub returns : goal.returns
 returns c =
     let end = c.execute.new.self in
-    makes (λ s. record s { active = insert s.active c.args.name.now tt }) c.args.conn.now end put_active_text (Text c.args.name.now ∷ []) c.requires c.execute.ensures.survives.limit
+    makes (λ s. record s { active = insert s.active c.args.name.now tt }) c.args.conn.now end put_active_text (Text c.args.name.now ∷ []) c.requires
+    c.execute.ensures.survives.limit
     (λ count. puts_active c.args.conn.now end c.requires.holds count c.args.name.now c.utf8.name) c.execute.result
     (rw (c.params-to_sql.ensures) at (c.execute.ensures.runs (memory_is_clean end)))

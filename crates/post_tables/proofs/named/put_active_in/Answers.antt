@@ -10,6 +10,7 @@ pub returns-clause-made : goal.returns-clause-made
 returns-clause-made c =
     let begin = c.args.tx.now.conn.now in
     let end = c.execute.new.self.conn.now in
-    makes_inside (λ s. record s { active = insert s.active c.args.name.now tt }) begin end put_active_text (Text c.args.name.now ∷ []) c.requires.holds c.execute.ensures.survives.limit
+    makes_inside (λ s. record s { active = insert s.active c.args.name.now tt }) begin end put_active_text (Text c.args.name.now ∷ []) c.requires.holds
+    c.execute.ensures.survives.limit
     (λ count. puts_active begin end c.requires.holds count c.args.name.now c.utf8.name) c.execute.result
     (rw (c.params-to_sql.ensures) at (c.execute.ensures.runs (memory_is_clean end) c.requires.inside))

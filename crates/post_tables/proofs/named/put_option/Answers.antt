@@ -9,6 +9,7 @@ use Rattle.post_tables.proofs.named.put_option.Goals as goal
 pub returns : goal.returns
 returns c =
     let end = c.execute.new.self in
-    makes (λ s. record s { options = insert s.options c.args.name.now c.args.value.now }) c.args.conn.now end put_option_text (Text c.args.name.now ∷ Text c.args.value.now ∷ []) c.requires c.execute.ensures.survives.limit
+    makes (λ s. record s { options = insert s.options c.args.name.now c.args.value.now }) c.args.conn.now end put_option_text
+    (Text c.args.name.now ∷ Text c.args.value.now ∷ []) c.requires c.execute.ensures.survives.limit
     (λ count. puts_option c.args.conn.now end c.requires.holds count c.args.name.now c.utf8.name c.args.value.now c.utf8.value) c.execute.result
     (rw (c.params-to_sql.ensures, c.params-to_sql-2.ensures) at (c.execute.ensures.runs (memory_is_clean end)))

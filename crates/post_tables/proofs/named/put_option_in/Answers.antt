@@ -10,6 +10,7 @@ pub returns-clause-made : goal.returns-clause-made
 returns-clause-made c =
     let begin = c.args.tx.now.conn.now in
     let end = c.execute.new.self.conn.now in
-    makes_inside (λ s. record s { options = insert s.options c.args.name.now c.args.value.now }) begin end put_option_text (Text c.args.name.now ∷ Text c.args.value.now ∷ []) c.requires.holds c.execute.ensures.survives.limit
+    makes_inside (λ s. record s { options = insert s.options c.args.name.now c.args.value.now }) begin end put_option_text
+    (Text c.args.name.now ∷ Text c.args.value.now ∷ []) c.requires.holds c.execute.ensures.survives.limit
     (λ count. puts_option begin end c.requires.holds count c.args.name.now c.utf8.name c.args.value.now c.utf8.value) c.execute.result
     (rw (c.params-to_sql.ensures, c.params-to_sql-2.ensures) at (c.execute.ensures.runs (memory_is_clean end) c.requires.inside))

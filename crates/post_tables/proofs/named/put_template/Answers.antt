@@ -9,6 +9,7 @@ use Rattle.post_tables.proofs.named.put_template.Goals as goal
 pub returns : goal.returns
 returns c =
     let end = c.execute.new.self in
-    makes (λ s. record s { templates = insert s.templates c.args.name.now c.args.text.now }) c.args.conn.now end put_template_text (Text c.args.name.now ∷ Text c.args.text.now ∷ []) c.requires c.execute.ensures.survives.limit
+    makes (λ s. record s { templates = insert s.templates c.args.name.now c.args.text.now }) c.args.conn.now end put_template_text
+    (Text c.args.name.now ∷ Text c.args.text.now ∷ []) c.requires c.execute.ensures.survives.limit
     (λ count. puts_template c.args.conn.now end c.requires.holds count c.args.name.now c.utf8.name c.args.text.now c.utf8.text) c.execute.result
     (rw (c.params-to_sql.ensures, c.params-to_sql-2.ensures) at (c.execute.ensures.runs (memory_is_clean end)))

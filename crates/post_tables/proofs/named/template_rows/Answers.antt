@@ -11,13 +11,17 @@ pub returns-clause-reads : goal.returns-clause-reads
 returns-clause-reads c =
     let end = c.query_all.new.self in
     let clean = memory_is_clean end in
-    reads templates_text templates_is.plain [] c.args.conn.now end c.requires c.query_all.ensures.survives.limit c.query_all.result (c.query_all.ensures.ok clean) (c.query_all.ensures.err clean)
+    reads templates_text templates_is.plain [] c.args.conn.now end c.requires c.query_all.ensures.survives.limit c.query_all.result
+    (c.query_all.ensures.ok clean) (c.query_all.ensures.err clean)
 
 pub returns-clause-rows : goal.returns-clause-rows
-returns-clause-rows c = templates_rows c.args.conn.now c.query_all.new.self c.requires c.query_all.result (c.query_all.ensures.ok (memory_is_clean c.query_all.new.self))
+returns-clause-rows c = templates_rows c.args.conn.now c.query_all.new.self c.requires c.query_all.result
+    (c.query_all.ensures.ok (memory_is_clean c.query_all.new.self))
 
 pub returns-clause-readable : goal.returns-clause-readable
-returns-clause-readable c = templates_readable c.args.conn.now c.query_all.new.self c.requires c.query_all.result (c.query_all.ensures.ok (memory_is_clean c.query_all.new.self))
+returns-clause-readable c = templates_readable c.args.conn.now c.query_all.new.self c.requires c.query_all.result
+    (c.query_all.ensures.ok (memory_is_clean c.query_all.new.self))
 
 pub returns-clause-stopped : goal.returns-clause-stopped
-returns-clause-stopped c = read_stopped c.args.conn.now c.query_all.new.self templates_text [] (names_safe templates templates_text templates_is) c.requires c.query_all.result (c.query_all.ensures.err (memory_is_clean c.query_all.new.self))
+returns-clause-stopped c = read_stopped c.args.conn.now c.query_all.new.self templates_text [] (names_safe templates templates_text templates_is) c.requires
+    c.query_all.result (c.query_all.ensures.err (memory_is_clean c.query_all.new.self))

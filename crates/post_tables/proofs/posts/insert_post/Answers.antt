@@ -13,7 +13,27 @@ pub returns : goal.returns
 returns c =
     let end = c.execute.new.self in
     let post : Post = shown c.args.post.now in
-    let good : IsReadable post = record { id = omega arith; title = c.as_text.ensures.utf8; content = c.as_text-2.ensures.utf8; date = rw c.as_str.ensures.text at c.as_str.utf8; dated = rw c.as_str.ensures.text at c.as_str.ensures.date } in
+    let good : IsReadable post = record {
+      id = omega arith;
+      title = c.as_text.ensures.utf8;
+      content = c.as_text-2.ensures.utf8;
+      date = rw
+          c.as_str.ensures.text at c.as_str.utf8;
+      dated = rw c.as_str.ensures.text at c.as_str.ensures.date;
+    } in
     makes (with_new post) c.args.conn.now end insert_text (given post) c.requires c.execute.ensures.survives.limit
     (λ count. puts_post c.args.conn.now end c.requires.holds count post good) c.execute.result
-    (rw (c.params-to_sql.ensures, c.params-to_sql-2.ensures, c.params-to_sql-3.ensures, c.params-to_sql-4.ensures, c.params-to_sql-5.ensures, c.params-to_sql-6.ensures, c.kind_text.ensures, c.status_text.ensures, c.as_str.ensures.text, c.as_text.ensures.same, c.as_text-2.ensures.same) at (c.execute.ensures.runs (memory_is_clean end)))
+    (rw (
+      c.params-to_sql.ensures,
+      c.params-to_sql-2.ensures,
+      c.params-to_sql-3.ensures,
+      c.params-to_sql-4.ensures,
+      c.params-to_sql-5.ensures,
+      c.params-to_sql-6.ensures,
+      c.kind_text.ensures,
+      c.status_text.ensures,
+      c.as_str.ensures.text,
+      c.as_text.ensures.same,
+      c.as_text-2.ensures.same,
+    ) at
+    (c.execute.ensures.runs (memory_is_clean end)))

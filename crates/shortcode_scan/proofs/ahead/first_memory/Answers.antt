@@ -24,7 +24,8 @@ loop-name-preserved c =
       tags = tags ∙ ap (λ ts. ts ++ closing_tag name ∷ []) before.tags ∙ ap (λ n. map closing_tag (take i names) ++ closing_tag n ∷ []) c.name-item.is
           ∙ sym (map_more closing_tag names i name c.loop-name-test.true);
       count = ap length closings ∙ length_push c.loop-name.closings.items (unsearched text) ∙ ap (λ n. n + 1) before.count;
-      closings = closings_more text names c.loop-name.closings.items c.push_search.new.closings.items name i c.loop-name-test.true c.name-item.is before.count closings before.closings;
+      closings = closings_more text names c.loop-name.closings.items c.push_search.new.closings.items name i c.loop-name-test.true c.name-item.is before.count
+          closings before.closings;
     }
 
 pub returns : goal.returns

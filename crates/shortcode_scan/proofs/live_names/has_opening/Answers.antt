@@ -4,7 +4,8 @@ use Rattle.shortcode_scan.proofs.live_names.has_opening.Goals as goal
 
 pub returns-then-is_name_end : goal.returns-then-is_name_end
 returns-then-is_name_end c =
-    sym (has_opening-true c.args.text.now c.args.opening.now _ _ (omega (arith, c.in-Some.ensures.within, ap length c.new-tag.ensures)) c.search.invariant.1 (sym (rw c.new-tag.ensures at c.in-Some.ensures.value)) (sym c.if-is_name_end.ensures))
+    sym (has_opening-true c.args.text.now c.args.opening.now _ _ (omega (arith, c.in-Some.ensures.within, ap length c.new-tag.ensures)) c.search.invariant.1
+    (sym (rw c.new-tag.ensures at c.in-Some.ensures.value)) (sym c.if-is_name_end.ensures))
 
 pub search-preserved : goal.search-preserved
 search-preserved c =

@@ -18,6 +18,7 @@ loop-name-preserved c =
     let same : is_live text name ≡ c.contains.result = among ∙ sym found in
     elim c.if-contains.branch [
       | then-contains+in_ok-clone+in_ok-push w ↦
-          rw (w.found-is, w.in_ok-push.ensures.items, w.in_ok-clone.ensures, c.loop-name.invariant) (sym (live-one names text name i within c.name-item.is (same ∙ w.if-contains.true)))
+          rw (w.found-is, w.in_ok-push.ensures.items, w.in_ok-clone.ensures, c.loop-name.invariant)
+          (sym (live-one names text name i within c.name-item.is (same ∙ w.if-contains.true)))
       | else-contains w ↦ rw (w.found-is, c.loop-name.invariant) (sym (live-none names text name i within c.name-item.is (same ∙ w.if-contains.false)))
     ]

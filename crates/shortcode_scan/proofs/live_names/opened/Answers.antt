@@ -17,7 +17,8 @@ search-preserved c =
       | in-Some-name_opened+in_ok-insert w ↦ (
         within,
         rw (w.names-is, w.in_ok-insert.ensures.keys)
-            (AreOpenedBefore-more text c.search.names.keys at w.in-Some-name_opened.name before first.below (eqb-true _ _ first.here) (sym w.in-Some-name_opened.ensures)),
+            (AreOpenedBefore-more text c.search.names.keys at w.in-Some-name_opened.name before first.below (eqb-true _ _ first.here)
+            (sym w.in-Some-name_opened.ensures)),
       )
       | in_default-name_opened w ↦ (within, rw w.names-is (AreOpenedBefore-skip text c.search.names.keys at before (sym w.in_default-name_opened.ensures)))
     ]

@@ -9,6 +9,7 @@ pieces-preserved c =
     let within = c.in-Some.ensures.within in (
       within.2,
       rw (c.in_ok-push.ensures.items, c.in_ok-push_plain.ensures, ← end)
-          (ArePiecesUpTo-match c.args.live.now c.args.bytes.now c.pieces.pieces.items c.pieces.at c.in-Some.found.start c.in-Some.found.piece within.0 before some c.pieces.invariant.1),
+          (ArePiecesUpTo-match c.args.live.now c.args.bytes.now c.pieces.pieces.items c.pieces.at c.in-Some.found.start c.in-Some.found.piece within.0 before
+          some c.pieces.invariant.1),
       c.in-Some.ensures.known,
     )

@@ -7,7 +7,8 @@ use Rattle.shortcode_scan.proofs.matches.push_pieces.Given as goal
 -- whatever cuts the rest completes the pieces
 abbrev pub invariant-pieces : goal.invariant-pieces
 invariant-pieces l =
-    (l.at ≤ length l.bytes) × ((rest : List Piece) → PiecesFrom l.live l.bytes l.at rest → IsPieces l.live l.bytes (l.pieces.items ++ rest)) × Knows l.live l.bytes l.memory
+    (l.at ≤ length l.bytes) × ((rest : List Piece) → PiecesFrom l.live l.bytes l.at rest → IsPieces l.live l.bytes (l.pieces.items ++ rest))
+    × Knows l.live l.bytes l.memory
 
 abbrev pub decreases-pieces : goal.decreases-pieces
 decreases-pieces l = length l.bytes - l.at

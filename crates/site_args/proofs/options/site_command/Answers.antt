@@ -7,6 +7,9 @@ use Rattle.site_args.proofs.options.site_command.Goals as goal
 
 pub returns : goal.returns
 returns c =
-    let start : app_of c.no_binary_name.result ≡ without_name (new_app (codes "site")) = ap app_of_fields c.no_binary_name.ensures ∙ ap without_name (ap app_of_fields c.about.ensures ∙ c.new.ensures.app) in
-    let first : app_of c.in_ok-arg.field-0 ≡ with_rule (app_of c.no_binary_name.result) (rule_of c.calls_option.result) = c.in_ok-arg.ensures.shape c.calls_option.ensures.local in
-    IfOk-weaker c.arg-2.result _ _ (λ command added. added.shape c.cache_option.ensures.local ∙ ap (λ a. with_rule a (rule_of c.cache_option.result)) first ∙ app_is _ _ _ start c.calls_option.ensures.rule c.cache_option.ensures.rule) c.arg-2.ensures
+    let start : app_of c.no_binary_name.result ≡ without_name (new_app (codes "site")) = ap app_of_fields c.no_binary_name.ensures
+    ∙ ap without_name (ap app_of_fields c.about.ensures ∙ c.new.ensures.app) in
+    let first : app_of c.in_ok-arg.field-0 ≡ with_rule (app_of c.no_binary_name.result) (rule_of c.calls_option.result) = c.in_ok-arg.ensures.shape
+    c.calls_option.ensures.local in
+    IfOk-weaker c.arg-2.result _ _ (λ command added. added.shape c.cache_option.ensures.local ∙ ap (λ a. with_rule a (rule_of c.cache_option.result)) first
+    ∙ app_is _ _ _ start c.calls_option.ensures.rule c.cache_option.ensures.rule) c.arg-2.ensures

@@ -7,5 +7,6 @@ pub returns-clause-begun : goal.returns-clause-begun
 returns-clause-begun g c =
     let engine = engine_of g.S.Stated.says g.S.Stated.number c.args.run.now in
     let begun =
-    action_begun engine c.args.settings.now (world_of c.args.run.now) (world_of c.start.new.self) c.args.hook.now c.in_ok-hook.hook c.empty-args.result (left_of engine c.start.new.self) c.in_ok-hook.ensures c.empty-args.ensures c.in_ok-start.ensures.started in
+    action_begun engine c.args.settings.now (world_of c.args.run.now) (world_of c.start.new.self) c.args.hook.now c.in_ok-hook.hook c.empty-args.result
+    (left_of engine c.start.new.self) c.in_ok-hook.ensures c.empty-args.ensures c.in_ok-start.ensures.started in
     (begun, c.in_ok-start.ensures.sound, busy Dropped)

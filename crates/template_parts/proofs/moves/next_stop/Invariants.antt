@@ -3,7 +3,7 @@ use Rattle.hook_machine.specs.Runs.{world_of, fault_of, engine_of, IsIdle}
 use Rattle.template_parts.specs.Left.{run_left, IsIdleIfOver, move_gives, moves_after}
 use Rattle.template_parts.proofs.moves.next_stop.Given as goal
 
--- what is left behind the move is what was left
+-- what is left after the move is what was left
 abbrev pub invariant-moves : goal.invariant-moves
 invariant-moves g l =
     let engine = engine_of g.S.Stated.says g.S.Stated.number l.fn.run in

@@ -7,4 +7,5 @@ pub returns-in_ok-steps_of_page-in-None-clause-left : goal.returns-in_ok-steps_o
 returns-in_ok-steps_of_page-in-None-clause-left c =
     λ engine world left.
     rw c.in-None.is
-    (all_left engine c.args.settings.now c.args.posts.now world (items_left c.args.settings.now c.args.posts.now c.in_ok-steps_of_page-in-None.field-0) c.in_ok-steps_of_page-in-None.ensures)
+    (all_left engine c.args.settings.now c.args.posts.now world (items_left c.args.settings.now c.args.posts.now c.in_ok-steps_of_page-in-None.field-0)
+    c.in_ok-steps_of_page-in-None.ensures)

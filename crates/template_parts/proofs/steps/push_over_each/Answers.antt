@@ -7,4 +7,5 @@ pub loop-post-preserved : goal.loop-post-preserved
 loop-post-preserved c =
     let settings = c.args.settings.now in
     let posts = c.args.posts.now in
-    post_more settings posts c.loop-post.steps.items c.push_over.new.steps.items (items_left settings posts c.args.steps.now.items) c.args.places.now c.loop-post.post c.loop-post-test.true c.in_ok-push_over.ensures c.loop-post.invariant
+    post_more settings posts c.loop-post.steps.items c.push_over.new.steps.items (items_left settings posts c.args.steps.now.items) c.args.places.now
+    c.loop-post.post c.loop-post-test.true c.in_ok-push_over.ensures c.loop-post.invariant

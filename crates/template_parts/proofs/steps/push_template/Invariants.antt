@@ -6,4 +6,5 @@ use Rattle.template_parts.proofs.steps.push_template.Given as goal
 -- the nodes that were passed
 abbrev pub invariant-loop-at : goal.invariant-loop-at
 invariant-loop-at l =
-    items_left l.settings l.posts l.steps.items ≡ items_left l.settings l.posts l.initial.steps.items ++ flat_map (node_items l.settings l.posts) (take l.at l.settings.template.nodes)
+    items_left l.settings l.posts l.steps.items ≡ items_left l.settings l.posts l.initial.steps.items
+    ++ flat_map (node_items l.settings l.posts) (take l.at l.settings.template.nodes)

@@ -7,7 +7,8 @@ returns-in-Some-clause-number g c = found_passes g.S.Stated.number c.args.id c.i
 
 pub returns-in-Some-clause-held : goal.returns-in-Some-clause-held
 returns-in-Some-clause-held g c =
-    finds_one g.S.Stated.number c.args.id c.args.self.now.list c.in-Some.plugin.now c.callback.result (rw c.in-Some.is at c.with_callback.ensures) c.callback.ensures
+    finds_one g.S.Stated.number c.args.id c.args.self.now.list c.in-Some.plugin.now c.callback.result (rw c.in-Some.is at c.with_callback.ensures)
+    c.callback.ensures
     ∙ sym (held_by g.S.Stated.number c.args.id c.args.self.now.list _ (rw c.in-Some.is at c.with_callback.ensures))
 
 pub returns-in-None-clause-held : goal.returns-in-None-clause-held

@@ -18,4 +18,6 @@ returns g c =
     (c.in_ok-sort_by.ensures.sorted is_before order (answers_always _ _ _ (λ f a r h k. search rules)))
     (c.sort_by.ensures.stable is_before order (answers_always _ _ _ (λ f a r h k. search rules))))
     ∙ sorted-map comes_before shape c.loop-plugin.list.items
-    ∙ ap by_name (map-now (shape_of g.S.Stated.number) c.loop-plugin.list.items ∙ ap (map (shape_of g.S.Stated.number)) (c.loop-plugin.invariant ∙ take_all c.loop-plugin.plugin-index c.args.self.now.list (omega (arith, c.loop-plugin-test.false, ap length c.as_slice-plugin-items.ensures))))
+    ∙ ap by_name (map-now (shape_of g.S.Stated.number) c.loop-plugin.list.items
+    ∙ ap (map (shape_of g.S.Stated.number)) (c.loop-plugin.invariant
+    ∙ take_all c.loop-plugin.plugin-index c.args.self.now.list (omega (arith, c.loop-plugin-test.false, ap length c.as_slice-plugin-items.ensures))))

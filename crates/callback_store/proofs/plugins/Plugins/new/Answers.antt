@@ -9,7 +9,8 @@ use Rattle.callback_store.proofs.plugins.Plugins.new.Goals as goal
 
 pub returns-in-Ok-clause-permutation : goal.returns-in-Ok-clause-permutation
 returns-in-Ok-clause-permutation g c =
-    kept g.S.Stated.number (λ ps. IsPermutation (map (shape_of g.S.Stated.number) c.args.list) (map (shape_of g.S.Stated.number) ps)) _ _ c.with_places.ensures.ok
+    kept g.S.Stated.number (λ ps. IsPermutation (map (shape_of g.S.Stated.number) c.args.list) (map (shape_of g.S.Stated.number) ps)) _ _
+    c.with_places.ensures.ok
     (IsPermutation-map (shape_of g.S.Stated.number) _ _ c.sorted_by_name.ensures.permutation)
 
 pub returns-in-Ok-clause-in_order : goal.returns-in-Ok-clause-in_order

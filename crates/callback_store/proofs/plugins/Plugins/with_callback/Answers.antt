@@ -8,12 +8,14 @@ returns-then-has_callback g c =
     sym
     (c.loop-plugin.invariant
     ∙ rw (← c.as_slice-plugin-items.ensures)
-    (find-here (λ p. list_any (λ s. g.S.Stated.number s == c.args.id) p.callbacks) c.as_slice-plugin-items.result.now c.loop-plugin.plugin-index c.plugin-item.result c.plugin-item.result (omega arith) c.plugin-item.is
+    (find-here (λ p. list_any (λ s. g.S.Stated.number s == c.args.id) p.callbacks) c.as_slice-plugin-items.result.now c.loop-plugin.plugin-index
+    c.plugin-item.result c.plugin-item.result (omega arith) c.plugin-item.is
     (sym c.has_callback.ensures ∙ c.if-has_callback.true)))
 
 pub loop-plugin-preserved : goal.loop-plugin-preserved
 loop-plugin-preserved g c =
     c.loop-plugin.invariant
     ∙ rw (← c.as_slice-plugin-items.ensures)
-    (find-more (λ p. list_any (λ s. g.S.Stated.number s == c.args.id) p.callbacks) c.as_slice-plugin-items.result.now c.loop-plugin.plugin-index c.plugin-item.result c.plugin-item.result (omega arith) c.plugin-item.is
+    (find-more (λ p. list_any (λ s. g.S.Stated.number s == c.args.id) p.callbacks) c.as_slice-plugin-items.result.now c.loop-plugin.plugin-index
+    c.plugin-item.result c.plugin-item.result (omega arith) c.plugin-item.is
     (sym c.has_callback.ensures ∙ c.if-has_callback.false))

@@ -5,4 +5,5 @@ use Rattle.callback_store.proofs.plugins.Plugins.with_callback.Given as goal
 
 -- what is found in the list is found in what is left of it
 abbrev pub invariant-loop-plugin : goal.invariant-loop-plugin
-invariant-loop-plugin g l = find (λ p. list_any (λ c. g.S.Stated.number c == l.id) p.callbacks) l.self.list ≡ find (λ p. list_any (λ c. g.S.Stated.number c == l.id) p.callbacks) (drop l.plugin-index l.self.list)
+invariant-loop-plugin g l = find (λ p. list_any (λ c. g.S.Stated.number c == l.id) p.callbacks) l.self.list
+    ≡ find (λ p. list_any (λ c. g.S.Stated.number c == l.id) p.callbacks) (drop l.plugin-index l.self.list)

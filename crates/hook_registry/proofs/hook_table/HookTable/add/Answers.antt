@@ -12,11 +12,13 @@ returns-in-Some-get_index_mut-clause-added c =
     let priority = simp (to_z-of_z, c.ranges.priority) at c.new.ensures in
     on_ok c.add.result
     (λ e. rw (← c.self.view_is, ← c.as_str.ensures.text)
-    (add-at c.as_str.result.now c.self.inside.hooks.entries c.in-Some.at new c.add.new.self c.in-Some-get_index_mut.list.now c.in-Some.ensures.index c.in-Some-get_index_mut.ensures.value (rw priority at e)))
+    (add-at c.as_str.result.now c.self.inside.hooks.entries c.in-Some.at new c.add.new.self c.in-Some-get_index_mut.list.now c.in-Some.ensures.index
+    c.in-Some-get_index_mut.ensures.value (rw priority at e)))
     c.add.ensures.added
 
 pub returns-in-Some-get_index_mut-clause-err : goal.returns-in-Some-get_index_mut-clause-err
 returns-in-Some-get_index_mut-clause-err c =
     on_err c.add.result
-    (λ e. rw (← c.self.view_is) (unwritten c.self.inside.hooks.entries c.in-Some.at c.add.new.self c.in-Some-get_index_mut.list.now c.in-Some-get_index_mut.ensures.value e))
+    (λ e. rw (← c.self.view_is) (unwritten c.self.inside.hooks.entries c.in-Some.at c.add.new.self c.in-Some-get_index_mut.list.now
+    c.in-Some-get_index_mut.ensures.value e))
     c.add.ensures.err

@@ -9,4 +9,5 @@ returns-clause-added c =
     let new : Registration = record { priority = c.args.priority; callback = c.args.callback; accepted = c.args.accepted } in
     rw (← c.self.view_is)
     (ap pairs c.in_ok-insert.ensures.entries
-    ∙ add-first c.args.hook.now c.self.inside.hooks.entries c.in_ok-name.name c.add.new.self new (rw (← c.self.view_is) at c.requires) (c.in_ok-name.ensures.ok ∙ c.as_str.ensures.text) (rw c.new-list.ensures at c.in_ok-add.ensures.added))
+    ∙ add-first c.args.hook.now c.self.inside.hooks.entries c.in_ok-name.name c.add.new.self new (rw (← c.self.view_is) at c.requires)
+    (c.in_ok-name.ensures.ok ∙ c.as_str.ensures.text) (rw c.new-list.ensures at c.in_ok-add.ensures.added))

@@ -9,8 +9,10 @@ pub returns-in-Some-get_index_mut-clause-removed : goal.returns-in-Some-get_inde
 returns-in-Some-get_index_mut-clause-removed c =
     let priority = simp (to_z-of_z, c.ranges.priority) at c.new.ensures in
     rw (← c.self.view_is, ← c.as_str.ensures.text)
-    (keeping-at (λ r. not (is_of c.args.priority c.args.callback r)) c.as_str.result.now c.self.inside.hooks.entries c.in-Some.at c.remove.new.self c.in-Some-get_index_mut.list.now
-    (is_first_at c.as_str.result.now c.self.inside.hooks.entries c.in-Some.at (sym c.in-Some.ensures.index)) (sym c.in-Some-get_index_mut.ensures.value) (rw priority at c.remove.ensures.removed))
+    (keeping-at (λ r. not (is_of c.args.priority c.args.callback r)) c.as_str.result.now c.self.inside.hooks.entries c.in-Some.at c.remove.new.self
+    c.in-Some-get_index_mut.list.now
+    (is_first_at c.as_str.result.now c.self.inside.hooks.entries c.in-Some.at (sym c.in-Some.ensures.index)) (sym c.in-Some-get_index_mut.ensures.value)
+    (rw priority at c.remove.ensures.removed))
 
 pub returns-in-Some-get_index_mut-clause-there : goal.returns-in-Some-get_index_mut-clause-there
 returns-in-Some-get_index_mut-clause-there c =
@@ -18,14 +20,18 @@ returns-in-Some-get_index_mut-clause-there c =
     rw (← c.self.view_is, ← c.as_str.ensures.text)
     ((rw priority at c.remove.ensures.there)
     ∙ ap (list_any (is_of c.args.priority c.args.callback))
-    (registrations-found c.as_str.result.now c.self.inside.hooks.entries c.in-Some-get_index_mut.list.now (found_at c.as_str.result.now c.self.inside.hooks.entries c.in-Some.at c.in-Some-get_index_mut.list.now c.in-Some.ensures.index c.in-Some-get_index_mut.ensures.value)))
+    (registrations-found c.as_str.result.now c.self.inside.hooks.entries c.in-Some-get_index_mut.list.now
+    (found_at c.as_str.result.now c.self.inside.hooks.entries c.in-Some.at c.in-Some-get_index_mut.list.now c.in-Some.ensures.index
+    c.in-Some-get_index_mut.ensures.value)))
 
 pub returns-in-None-clause-removed : goal.returns-in-None-clause-removed
 returns-in-None-clause-removed c =
     rw (← c.self.view_is, ← c.as_str.ensures.text)
-    (keeping-missing (λ r. not (is_of c.args.priority c.args.callback r)) c.as_str.result.now c.self.inside.hooks.entries (not_found c.as_str.result.now c.self.inside.hooks.entries c.in-None.ensures.index))
+    (keeping-missing (λ r. not (is_of c.args.priority c.args.callback r)) c.as_str.result.now c.self.inside.hooks.entries
+    (not_found c.as_str.result.now c.self.inside.hooks.entries c.in-None.ensures.index))
 
 pub returns-in-None-clause-there : goal.returns-in-None-clause-there
 returns-in-None-clause-there c =
     rw (← c.self.view_is, ← c.as_str.ensures.text)
-    (ap (list_any (is_of c.args.priority c.args.callback)) (registrations-missing c.as_str.result.now c.self.inside.hooks.entries (not_found c.as_str.result.now c.self.inside.hooks.entries c.in-None.ensures.index)))
+    (ap (list_any (is_of c.args.priority c.args.callback)) (registrations-missing c.as_str.result.now c.self.inside.hooks.entries
+    (not_found c.as_str.result.now c.self.inside.hooks.entries c.in-None.ensures.index)))

@@ -7,9 +7,11 @@ pub returns-in-Some-get_index_mut : goal.returns-in-Some-get_index_mut
 returns-in-Some-get_index_mut c =
     rw (← c.self.view_is, ← c.as_str.ensures.text)
     (keeping-at (is_other c.args.priority) c.as_str.result.now c.self.inside.hooks.entries c.in-Some.at c.remove_all.new.self c.in-Some-get_index_mut.list.now
-    (is_first_at c.as_str.result.now c.self.inside.hooks.entries c.in-Some.at (sym c.in-Some.ensures.index)) (sym c.in-Some-get_index_mut.ensures.value) c.remove_all.ensures)
+    (is_first_at c.as_str.result.now c.self.inside.hooks.entries c.in-Some.at (sym c.in-Some.ensures.index)) (sym c.in-Some-get_index_mut.ensures.value)
+    c.remove_all.ensures)
 
 pub returns-in-None : goal.returns-in-None
 returns-in-None c =
     rw (← c.self.view_is, ← c.as_str.ensures.text)
-    (keeping-missing (is_other c.args.priority) c.as_str.result.now c.self.inside.hooks.entries (not_found c.as_str.result.now c.self.inside.hooks.entries c.in-None.ensures.index))
+    (keeping-missing (is_other c.args.priority) c.as_str.result.now c.self.inside.hooks.entries
+    (not_found c.as_str.result.now c.self.inside.hooks.entries c.in-None.ensures.index))

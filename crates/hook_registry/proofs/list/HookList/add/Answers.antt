@@ -6,4 +6,5 @@ use Rattle.hook_registry.proofs.list.HookList.add.Goals as goal
 pub invariant_of-self : goal.invariant_of-self
 invariant_of-self c =
     let new : Registration = record { priority = c.args.priority; callback = c.args.callback; accepted = c.args.accepted } in
-    either c.add_to.result (λ e. rw e (ascending-added c.self.inside.registrations.items new c.self.invariant)) (λ e. rw e c.self.invariant) c.add_to.ensures.added c.add_to.ensures.err
+    either c.add_to.result (λ e. rw e (ascending-added c.self.inside.registrations.items new c.self.invariant)) (λ e. rw e c.self.invariant)
+    c.add_to.ensures.added c.add_to.ensures.err

@@ -10,7 +10,8 @@ use Rattle.site_program.proofs.setup.Setup.page.Goals as goal
 pub returns-in_err-run-clause-err : goal.returns-in_err-run-clause-err
 returns-in_err-run-clause-err g c =
     let p = err_from_is_err_and c.from_residual.result c.from_residual.ensures.1 in
-    rw (p.1, p.2) (page_forgone (engine_of g.S.Stated.says g.S.Stated.number c.args.self.now) (calls_of c.args.self.now) c.args.found c.args.options.now c.args.templates.now c.args.active.now _ c.in_err-run.ensures.err)
+    rw (p.1, p.2) (page_forgone (engine_of g.S.Stated.says g.S.Stated.number c.args.self.now) (calls_of c.args.self.now) c.args.found c.args.options.now
+    c.args.templates.now c.args.active.now _ c.in_err-run.ensures.err)
 
 -- the page is that of what was found
 pub returns-clause-ok : goal.returns-clause-ok
@@ -19,7 +20,8 @@ returns-clause-ok g c =
     let run = c.in_ok-run.ensures in
     let begin = c.begin.ensures in
     let work =
-    work_is engine (calls_of c.args.self.now) c.args.found c.args.options.now c.args.templates.now c.args.active.now _ _ _ _ run.engine c.in-Ok.ensures refl run.loaded in
+    work_is engine (calls_of c.args.self.now) c.args.found c.args.options.now c.args.templates.now c.args.active.now _ _ _ _ run.engine c.in-Ok.ensures refl
+    run.loaded in
     let left = ap (λ e. page_left e c.begin.result) begin.engine ∙ begin.left ∙ work in
     subst (λ w. IfOk c.finish.result (λ page. IsPage w page.1.items)) left (c.finish.ensures.bytes (begin.refusal ∙ run.ready.0))
 
@@ -30,6 +32,7 @@ returns-clause-err g c =
     let run = c.in_ok-run.ensures in
     let begin = c.begin.ensures in
     let work =
-    work_is engine (calls_of c.args.self.now) c.args.found c.args.options.now c.args.templates.now c.args.active.now _ _ _ _ run.engine c.in-Ok.ensures refl run.loaded in
+    work_is engine (calls_of c.args.self.now) c.args.found c.args.options.now c.args.templates.now c.args.active.now _ _ _ _ run.engine c.in-Ok.ensures refl
+    run.loaded in
     let left = ap (λ e. page_left e c.begin.result) begin.engine ∙ begin.left ∙ work in
     subst (λ w. IfErr c.finish.result (IsRefusedBy w)) left (c.finish.ensures.err (begin.refusal ∙ run.ready.0))

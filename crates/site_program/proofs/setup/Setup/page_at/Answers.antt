@@ -15,7 +15,9 @@ returns-clause-ok g c =
     let t : c.as_slice-3.result.now ≡ templates_of rows = search rules in
     let a : c.as_slice-4.result.now ≡ active_of rows = search rules in
     let f : c.in_ok-found.found ≡ found_by rows c.args.path.now = search rules in
-    IfOk-weaker c.answer_to.result (λ reply. answer_of reply ≡ page_of engine calls c.in_ok-found.found c.as_slice-2.result.now c.as_slice-3.result.now c.as_slice-4.result.now)
+    IfOk-weaker c.answer_to.result (λ reply. answer_of reply ≡ page_of engine calls c.in_ok-found.found c.as_slice-2.result.now c.as_slice-3.result.now
+    c.as_slice-4.result.now)
     (λ reply. answer_of reply ≡ request engine calls rows c.args.path.now)
-    (λ reply is. request-is engine calls rows c.args.path.now (answer_of reply) c.in_ok-found.found c.as_slice-2.result.now c.as_slice-3.result.now c.as_slice-4.result.now f o t a is)
+    (λ reply is. request-is engine calls rows c.args.path.now (answer_of reply) c.in_ok-found.found c.as_slice-2.result.now c.as_slice-3.result.now
+    c.as_slice-4.result.now f o t a is)
     c.answer_to.ensures.ok

@@ -19,7 +19,8 @@ returns-then-left-eq0-clause-err g c =
     let past : (c.loop-end.left ≡ 0) ⊎ IsTooLong (held ++ rest) =
     elim c.then-left-eq0.branch [
       | then-left-eq0-via-then-left-eq0 w ↦ inl (search rules)
-      | then-left-eq0-via-else-left-eq0+then-end-len w ↦ let same = c.loop-end.held.ok.0 in inr (IsTooLong-before held rest c.in-Some.end i.line found (omega (arith, same)))
+      | then-left-eq0-via-else-left-eq0+then-end-len w ↦ let same = c.loop-end.held.ok.0 in inr
+          (IsTooLong-before held rest c.in-Some.end i.line found (omega (arith, same)))
     ] in
     fault_at _ _ _ _ _ _ _ _ _ _ _ _ _ _ i.taken i.whole (refl, Appends-nil _, some, past)
 
@@ -34,7 +35,8 @@ returns-then-left-eq0-2-clause-err g c =
     let past : (c.loop-end.left ≡ 0) ⊎ IsTooLong (held ++ rest) =
     elim c.then-left-eq0-2.branch [
       | then-left-eq0-2-via-then-left-eq0-2 w ↦ inl (search rules)
-      | then-left-eq0-2-via-else-left-eq0-2+then-rest-len w ↦ let same = c.loop-end.held.ok.0 in inr (IsTooLong-whole held rest i.line none (omega (arith, same)))
+      | then-left-eq0-2-via-else-left-eq0-2+then-rest-len w ↦ let same = c.loop-end.held.ok.0 in inr
+          (IsTooLong-whole held rest i.line none (omega (arith, same)))
     ] in
     fault_at _ _ _ _ _ _ _ _ _ _ _ _ _ _ i.taken i.whole (refl, Appends-nil _, some, past)
 

@@ -11,7 +11,8 @@ invariant-loop-end g l =
     record {
       stretch : List ℕ;
       whole : stretch ++ l.rest ≡ l.fn.held.items ++ l.fn.chunk;
-      taken : Takes (steps_of g.S.Stated.says g.S.Stated.number l.self) l.fn.tables l.fn.left stretch (contents l.fn.writer) (contents l.writer) l.tables l.left l.held.items;
+      taken : Takes (steps_of g.S.Stated.says g.S.Stated.number l.self) l.fn.tables l.fn.left stretch (contents l.fn.writer) (contents l.writer) l.tables
+          l.left l.held.items;
       line : IsLine l.held.items;
       room : 0 < length l.held.items → 0 < l.left;
       sound : g.W.Sink.has_failed l.writer ≡ false;

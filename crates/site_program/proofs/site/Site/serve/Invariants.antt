@@ -13,7 +13,8 @@ invariant-chunks g l =
     record {
       stretch : List ℕ;
       read : Consumes (remaining l.fn.reader) (remaining l.reader) stretch;
-      taken : Takes (steps_of g.S.Stated.says g.S.Stated.number l.fn.self.setup) l.fn.self.tables 1000000 stretch (contents l.fn.writer) (contents l.writer) l.tables l.left l.held.items;
+      taken : Takes (steps_of g.S.Stated.says g.S.Stated.number l.fn.self.setup) l.fn.self.tables 1000000 stretch (contents l.fn.writer) (contents l.writer)
+          l.tables l.left l.held.items;
       line : IsLine l.held.items;
       room : 0 < length l.held.items → 0 < l.left;
       limit : l.tables.step_limit ≡ l.fn.self.tables.step_limit;

@@ -1,5 +1,5 @@
 use Rattle.std.proofs.Common.{◌≡◌, None, length}
-use Rattle.hook_machine.specs.Trace.{end_of, turns_of}
+use Rattle.hook_machine.specs.Trace.{outcome_of, turns_of}
 use Rattle.hook_machine.specs.Runs.{engine_of}
 use Rattle.template_parts.specs.Page.{run_in, refusal_of, page_left, CanGoOn, IsSamePage}
 use Rattle.template_parts.proofs.page.Page.print.Given as goal
@@ -9,7 +9,7 @@ abbrev pub invariant-turns : goal.invariant-turns
 invariant-turns g l =
     let engine = engine_of g.S.Stated.says g.S.Stated.number (run_in l.fn.self) in
     record {
-      ends : end_of (page_left engine l.fn.self) ≡ end_of (page_left engine l.self);
+      ends : outcome_of (page_left engine l.fn.self) ≡ outcome_of (page_left engine l.self);
       ready : CanGoOn l.self;
       sound : refusal_of l.self ≡ None;
       same : IsSamePage l.self l.fn.self;
