@@ -1,7 +1,7 @@
 //! The cache of pieces: how many texts it keeps, and that no answer shows what it keeps.
 ghost use Rattle.hook_machine.specs.Runs.{IsReady};
 
-use crate::turns::{Bundled, CASES, loaded, plugins};
+use crate::turns::{Bundled, loaded, plugins};
 use callback_store::Plugins;
 use content_cache::PieceCache;
 use hook_changes::{NameFault, TagName};
@@ -114,7 +114,7 @@ fn keeps_one(alloc: Global, plugins: &Plugins<Bundled>) -> bool {
     let Ok(mut cache) = PieceCache::new(alloc, 4) else {
         return false;
     };
-    match loaded(alloc, plugins, &CASES[2]) {
+    match loaded(alloc, plugins, "bold", 10_000) {
         Ok(mut run) => {
             let is_replaced = is_replaced(&mut run, &mut cache);
             run.end();

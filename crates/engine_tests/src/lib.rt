@@ -19,6 +19,8 @@ mod expecting;
 #[cfg(test)]
 mod inputs_and_outputs;
 #[cfg(test)]
+mod interleaved;
+#[cfg(test)]
 mod names;
 #[cfg(test)]
 mod passes;

@@ -42,8 +42,8 @@ pub struct Case(
     &'static str,
     Option<(&'static str, &'static str)>,
     u32,
-    u32,
-    Result<&'static str, RunFault>,
+    pub u32,
+    pub Result<&'static str, RunFault>,
 );
 
 pub static CASES: [Case; 9] = [
@@ -102,6 +102,7 @@ fn callbacks(alloc: Global) -> Result<Listed<Bundled>, AllocError>
     Ok(Listed::new(callbacks))
 }
 
+/// The plugins of the bundle.
 pub fn plugins(alloc: Global) -> Result<Plugins<Bundled>, PluginFault> {
     let Ok(callbacks) = callbacks(alloc) else {
         return Err(PluginFault::OutOfMemory);
@@ -156,21 +157,23 @@ fn active(alloc: Global, name: &str) -> Result<Listed<Text>, AllocError> {
     Ok(active)
 }
 
-/// A run of the case, with its plugins loaded.
+/// A run that may make so many calls, with the plugin of that name loaded.
 pub fn loaded<'p>(
     alloc: Global,
     plugins: &'p Plugins<Bundled>,
-    case: &Case,
+    name: &str,
+    calls: u32,
 ) -> Result<Run<'p, Bundled>, RunFault>
     ensures { IfOk result (λ run. IsReady run) }
 {
-    let active = active(alloc, case.0)?;
-    let mut run = Run::new(alloc, plugins, active.as_slice(), &[], case.2)?;
+    let active = active(alloc, name)?;
+    let mut run = Run::new(alloc, plugins, active.as_slice(), &[], calls)?;
     run.load()?;
     Ok(run)
 }
 
-fn begun<'p>(
+/// The page of the case, with nothing done yet.
+pub fn begun<'p>(
     alloc: Global,
     plugins: &'p Plugins<Bundled>,
     case: &Case,
@@ -179,12 +182,12 @@ fn begun<'p>(
 {
     let found = found(alloc, case)?;
     let settings = settings(alloc)?;
-    let run = loaded(alloc, plugins, case)?;
+    let run = loaded(alloc, plugins, case.0, case.2)?;
     Ok(Page::begin(alloc, found, settings, run))
 }
 
 /// Whether that is the page, or the fault.
-fn is_end(turned: Result<PageTurn, RunFault>, end: Result<&str, RunFault>) -> bool {
+pub fn is_end(turned: Result<PageTurn, RunFault>, end: Result<&str, RunFault>) -> bool {
     match turned {
         Ok(PageTurn::Done(200, bytes)) => match end {
             Ok(text) => bytes.as_slice() == text.as_bytes(),
@@ -195,7 +198,7 @@ fn is_end(turned: Result<PageTurn, RunFault>, end: Result<&str, RunFault>) -> bo
     }
 }
 
-/// Whether that many turns stop before the page's end.
+/// Whether so many turns stop before the page's end.
 fn is_stopped(page: &mut Page<'_, Bundled>, cache: &mut PieceCache, turns: u32) -> bool
     requires { CanGoOn page.old }
     ensures { CanGoOn page.new }
