@@ -229,7 +229,7 @@ static NAMES: [Case; 16] = [
     ),
     Case([ACTS, DID, No], "v", &[TOO_LONG], Ok("0"), ""),
     Case([ACTS_THEN_DOING, No, No], "v", &[TOO_LONG], Ok("0"), ""),
-    // The empty text is none either.
+    // The empty text is no name either.
     Case(
         [APPLIES, On(Hook::Empty, 10, 207, 1), No],
         "v",

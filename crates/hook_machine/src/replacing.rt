@@ -43,7 +43,7 @@ pub struct Handling {
     pub extras: Extras,
 }
 
-/// Takes pieces up to the first one that has a handler, and appends those before it. None is left if there is none.
+/// Takes pieces up to the first one that has a handler, and appends those before it. If no piece has one, none is left.
 fn next_handling(
     state: &State,
     cut: &mut Cut,

@@ -57,7 +57,7 @@ fn plugins(alloc: Global) -> Option<Plugins<Callback>> {
     Plugins::new(alloc, listed(alloc).ok()?).ok()
 }
 
-/// A site with so many posts.
+/// A site with that many posts.
 fn filled<'p>(
     alloc: Global,
     plugins: &'p Plugins<Callback>,
