@@ -1,4 +1,4 @@
-//! If a pass is.
+//! Where a pass is in its hook.
 ghost use Rattle.std.specs.Prelude.{◌≡◌, [], None};
 
 use crate::entries::EntriesLeft;

@@ -379,7 +379,7 @@ impl<'a, S: Stated> Run<'a, S> {
         Ok(self.state.take_output())
     }
 
-    /// RunsAs the run. All that a run owns is dropped here, for every page that ends one, so that what dropping does is
+    /// Ends the run. All that a run owns is dropped here, for every page that ends one, so that what dropping does is
     /// proved once.
     pub fn end(self) {
         drop(self);

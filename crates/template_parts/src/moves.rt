@@ -34,7 +34,7 @@ pub enum Moved {
     Over,
 }
 
-/// If a page stops.
+/// Where a page stops.
 #[derive(Clone, Copy, Debug)]
 pub enum Stop {
     /// A callback was invoked.

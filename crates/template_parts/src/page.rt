@@ -181,7 +181,7 @@ impl<'p, S: Stated> Page<'p, S> {
         }
     }
 
-    /// RunsAs the page. All that a page owns is dropped here, so that what dropping does is proved once.
+    /// Ends the page. All that a page owns is dropped here, so that what dropping does is proved once.
     fn end(self) {
         drop(self);
     }

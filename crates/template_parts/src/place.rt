@@ -39,7 +39,7 @@ pub enum Stored {
     Part { part: Part, at: usize },
 }
 
-/// If an item stands.
+/// Where an item stands.
 #[derive(Clone, Copy)]
 pub enum Place {
     /// In no template.
