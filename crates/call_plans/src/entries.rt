@@ -1,36 +1,35 @@
 //! The entries of a group, which a plan and its passes share.
-ghost use Rattle.std.specs.Prelude.{◌≡◌, ◌∷◌, [], ◌==◌, not, filter, length, drop, IfOk, MatchOption};
+ghost use Rattle.std.specs.Prelude.{◌≡◌, ◌∷◌, ◌++◌, [], ◌==◌, not, filter, length, drop, IfOk, OnOk, OnErr, MatchOption};
 ghost use Rattle.call_plans.specs.Entries.{with_entry};
 
 use hook_changes::CallbackId;
 use hook_registry::Entry;
 use std::alloc::{AllocError, Global};
 use std::marker::Model;
-use std::rc::RcSlice;
+use std::rc::Rc;
 
-/// The entries of one priority in order, which are never written: a change makes new ones.
+/// The entries of one priority in order. They are not written while a pass shares them: a change then makes new ones.
 #[derive(Drop)]
 pub struct SharedEntries {
-    entries: RcSlice<Entry>,
+    entries: Rc<Vec<Entry>>,
 }
 
 impl Model for SharedEntries {
     ghost use Rattle.std.specs.Prelude.{List};
-    ghost use Rattle.std.specs.Rc.{rc_slice_items};
     ghost use Rattle.hook_registry.specs.declared.registration.Entry.{Entry};
 
     ghost Value = { List Entry };
 
-    ghost view = { λ s. rc_slice_items s.entries };
+    ghost view = { λ s. s.entries.value.items };
 }
 
 impl SharedEntries {
     /// Shares the entries of a `Vec`, which is moved and not copied.
-    pub fn new(entries: Vec<Entry>) -> Result<Self, AllocError>
+    pub fn new(alloc: Global, entries: Vec<Entry>) -> Result<Self, AllocError>
         ensures { IfOk result (λ shared. shared ≡ entries.items) }
     {
         Ok(SharedEntries {
-            entries: RcSlice::from_vec(entries)?,
+            entries: Rc::new(alloc, entries)?,
         })
     }
 
@@ -48,6 +47,24 @@ impl SharedEntries {
         Ok(SharedEntries {
             entries: self.entries.clone()?,
         })
+    }
+
+    /// Adds an entry after the others. If a pass shares the entries, it goes on over them as they were, and they are
+    /// copied. On allocation failure nothing is added.
+    pub(crate) fn push(&mut self, alloc: Global, new: Entry) -> Result<(), AllocError>
+        ensures ok { OnOk result (self.new ≡ self.old ++ new ∷ []) }
+        ensures err { OnErr result (self.new ≡ self.old) }
+    {
+        match Rc::get_mut(&mut self.entries) {
+            Some(entries) => {
+                entries.push(new)?;
+            }
+            None => {
+                let entries = with_last(alloc, self.entries.as_slice(), new)?;
+                self.entries = Rc::new(alloc, entries)?;
+            }
+        }
+        Ok(())
     }
 }
 
@@ -107,6 +124,16 @@ impl EntriesLeft {
     }
 }
 
+/// Copies the entries, and adds one after them.
+fn with_last(alloc: Global, entries: &[Entry], new: Entry) -> Result<Vec<Entry>, AllocError>
+    ensures { IfOk result (λ copy. copy.items ≡ entries.now ++ new ∷ []) }
+{
+    let mut copy = Vec::with_capacity(alloc, entries.len() + 1)?;
+    copy.extend_from_slice(entries)?;
+    copy.push(new)?;
+    Ok(copy)
+}
+
 /// Copies the entries with one added: an entry of that callback keeps its place and takes the new count, and another
 /// one goes last.
 pub(crate) fn with_entry(
@@ -121,11 +148,11 @@ pub(crate) fn with_entry(
     for at in 0..entries.len() {
         if entries[at].callback == new.callback {
             changed[at].accepted = new.accepted;
-            return SharedEntries::new(changed);
+            return SharedEntries::new(alloc, changed);
         }
     }
     changed.push(new)?;
-    SharedEntries::new(changed)
+    SharedEntries::new(alloc, changed)
 }
 
 /// Copies the entries of the other callbacks.

@@ -1,6 +1,7 @@
 //! The groups of one hook.
 ghost use Rattle.std.specs.Prelude.{◌≡◌, ◌<◌, [], true, false, not, length, map};
 ghost use Rattle.std.specs.Prelude.{filter, None, Some, OnOk, OnErr, MatchOption, MatchResult};
+ghost use Rattle.std.specs.List.{list_any};
 ghost use Rattle.hook_registry.specs.Table.{with_added, is_at, is_of, is_other, is_above, entry_of, least_priority};
 ghost use Rattle.call_plans.specs.Groups.{registrations_of, IsPlan, IsAt, IsGap, IsPlaceAbove};
 
@@ -59,6 +60,29 @@ impl HookPlan {
         Ok(())
     }
 
+    /// Adds an entry of a callback that has none at the priority. So no entry is looked at, and none is copied unless a
+    /// pass shares them. On allocation failure nothing is added.
+    pub fn append(
+        &mut self,
+        alloc: Global,
+        priority: Priority,
+        new: Entry,
+    ) -> Result<(), AllocError>
+        requires { list_any (is_of priority new.callback) self.old ≡ false }
+        ensures added { OnOk result (self.new ≡ with_added self.old
+            (record { priority = priority; callback = new.callback; accepted = new.accepted })) }
+        ensures err { OnErr result (self.new ≡ self.old) }
+    {
+        match find(&self.groups, priority) {
+            Ok(at) => self.groups[at].entries.push(alloc, new)?,
+            Err(at) => {
+                let entries = with_entry(alloc, &[], new)?;
+                self.groups.insert(at, Group { priority, entries })?;
+            }
+        }
+        Ok(())
+    }
+
     /// Removes the entry of a callback at a priority. If memory for the entries that stay runs out, nothing is removed.
     pub fn remove(
         &mut self,
@@ -75,7 +99,7 @@ impl HookPlan {
                 if left.is_empty() {
                     let _ = self.groups.remove(at);
                 } else {
-                    let entries = SharedEntries::new(left)?;
+                    let entries = SharedEntries::new(alloc, left)?;
                     self.groups[at].entries = entries;
                 }
             }

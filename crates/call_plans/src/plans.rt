@@ -1,7 +1,8 @@
 //! The plans of every hook.
-ghost use Rattle.std.specs.Prelude.{◌≡◌, [], None, Some, IfOk, OnOk, OnErr, MatchOption};
+ghost use Rattle.std.specs.Prelude.{◌≡◌, [], false, None, Some, IfOk, OnOk, OnErr, MatchOption};
+ghost use Rattle.std.specs.List.{list_any};
 ghost use Rattle.hook_registry.specs.Named.{value_of};
-ghost use Rattle.hook_registry.specs.Table.{add, remove, remove_all, group, next_priority};
+ghost use Rattle.hook_registry.specs.Table.{registrations, add, remove, remove_all, is_of, group, next_priority};
 ghost use Rattle.call_plans.specs.Changes.{IsApplicable, applied};
 ghost use Rattle.call_plans.specs.Position.{next_entry};
 
@@ -124,6 +125,23 @@ impl Plans {
         match self.hooks.get_index_of(hook) {
             Some(at) => match self.hooks.get_index_mut(at) {
                 Some(plan) => plan.add(self.alloc, Priority::new(priority), new),
+                None => unreachable!(),
+            },
+            None => self.add_first(hook, Priority::new(priority), new),
+        }
+    }
+
+    /// Adds an entry of a callback that has none under the hook at the priority. No entry is looked at, so a list of n
+    /// additions costs n look-ups of the hook.
+    pub fn append(&mut self, hook: &str, priority: i32, new: Entry) -> Result<(), AllocError>
+        requires { list_any (is_of priority new.callback) (registrations self.old hook.now) ≡ false }
+        ensures added { OnOk result (self.new ≡ add self.old hook.now
+            (record { priority = priority; callback = new.callback; accepted = new.accepted })) }
+        ensures err { OnErr result (self.new ≡ self.old) }
+    {
+        match self.hooks.get_index_of(hook) {
+            Some(at) => match self.hooks.get_index_mut(at) {
+                Some(plan) => plan.append(self.alloc, Priority::new(priority), new),
                 None => unreachable!(),
             },
             None => self.add_first(hook, Priority::new(priority), new),

@@ -7,8 +7,8 @@ use hook_changes::{CallbackId, HookName};
 use hook_registry::Entry;
 use std::alloc::AllocError;
 
-// A change is made in the plans first, which are put back only once the registry has it too. So a change that either of
-// them refuses leaves no plans, and never plans that differ from the registry.
+// A change takes the plans out, and puts them back only once both they and the registry have it. So a change that either
+// of them refuses leaves no plans, and never plans that differ from the registry.
 impl State {
     ghost use Rattle.hook_registry.specs.Table.{add, remove, remove_all};
     ghost use Rattle.call_plans.specs.Position.{next_entry};
@@ -32,8 +32,13 @@ impl State {
         let Some(mut plans) = self.plans.take() else {
             return Err(AllocError);
         };
-        plans.add(hook.as_str(), priority, Entry { callback, accepted })?;
-        self.registry.add(hook, priority, callback, accepted)?;
+        let is_new = self.registry.insert(hook, priority, callback, accepted)?;
+        let entry = Entry { callback, accepted };
+        if is_new {
+            plans.append(hook.as_str(), priority, entry)?;
+        } else {
+            plans.add(hook.as_str(), priority, entry)?;
+        }
         self.plans = Some(plans);
         Ok(())
     }

@@ -6,3 +6,4 @@ pub mod TagNames
 pub mod RunOrder
 pub mod OneList
 pub mod Behind
+pub mod Kept

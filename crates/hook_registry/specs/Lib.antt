@@ -1,3 +1,4 @@
+pub mod Kept
 pub mod Named
 pub mod OneList
 pub mod Order

@@ -66,9 +66,6 @@ abbrev pub is_above : Option ℤ → Registration → Bool
 is_above None r = true
 is_above (Some other) r = int_lt other r.priority
 
-abbrev pub is_below : ℤ → Registration → Bool
-is_below other r = int_lt r.priority other
-
 abbrev pub least_priority : (Registration → Bool) → List Registration → Option ℤ
 least_priority passes rs = least (map (λ r. r.priority) (filter passes rs))
 

@@ -1,14 +1,13 @@
 //! The registrations of every hook.
 ghost use Rattle.std.specs.Prelude.{◌≡◌, ◌≤◌, [], List, IfOk, IfErr, OnOk};
-ghost use Rattle.std.specs.Prelude.{OnErr, unwrap_or, map, min, ◌+◌, Option, None};
+ghost use Rattle.std.specs.Prelude.{OnErr, not, unwrap_or, option_copied, Option, None};
 ghost use Rattle.std.specs.List.{list_any};
-ghost use Rattle.hook_registry.specs.Named.{value_of, set_value, remove_value};
-ghost use Rattle.hook_registry.specs.Order.{IsAscending};
+ghost use Rattle.hook_registry.specs.Named.{value_of};
 ghost use Rattle.hook_registry.specs.Table.{Table, registrations, add, remove, remove_all};
 ghost use Rattle.hook_registry.specs.Table.{group, next_priority, has, is_of, priority_of};
 
-use crate::list::{self, HookList};
-use crate::registration::{Entry, Priority, Registration};
+use crate::list::HookList;
+use crate::registration::{Entry, Priority};
 use hook_changes::{CallbackId, HookName};
 use indexmap::IndexMap;
 use std::alloc::{AllocError, Global};
@@ -41,41 +40,43 @@ impl HookTable {
         }
     }
 
-    fn list(&self, hook: &str) -> &[Registration]
-        ensures value { result.now ≡ registrations self.entry.now hook.entry.now }
-        ensures ascending { IsAscending result.now }
+    /// The registrations of a hook, if it has a list.
+    fn list(&self, hook: &str) -> Option<&HookList>
+        ensures { unwrap_or (option_copied result) [] ≡ registrations self.entry.now hook.now }
     {
-        match self.hooks.get(hook) {
-            Some(list) => list.as_slice(),
-            None => &[],
-        }
+        self.hooks.get(hook)
     }
 
-    /// Registers a callback under a hook and a priority. One that is there keeps its place and takes the count; if
-    /// there is no memory, nothing is registered.
-    pub fn add(
+    /// Registers a callback under a hook and a priority, and says whether it is new. One that is there keeps its place
+    /// and takes the count; if there is no memory, nothing is registered.
+    pub fn insert(
         &mut self,
         hook: &HookName,
         priority: i32,
         callback: CallbackId,
         accepted: u8,
-    ) -> Result<(), AllocError>
+    ) -> Result<bool, AllocError>
         requires { accepted ≤ 16 }
         ensures added { OnOk result (self.new ≡ add self.old hook.now
             (record { priority = priority; callback = callback; accepted = accepted })) }
+        ensures new { IfOk result (λ is_new. is_new
+            ≡ not (list_any (is_of priority callback) (registrations self.old hook.now))) }
         ensures err { OnErr result (self.new ≡ self.old) }
     {
         match self.hooks.get_index_of(hook.as_str()) {
             Some(at) => match self.hooks.get_index_mut(at) {
-                Some(list) => list.add(Priority::new(priority), callback, accepted),
+                Some(list) => list.insert(Priority::new(priority), callback, accepted),
                 None => unreachable!(),
             },
-            None => self.add_first(hook, Priority::new(priority), callback, accepted),
+            None => {
+                self.insert_first(hook, Priority::new(priority), callback, accepted)?;
+                Ok(true)
+            }
         }
     }
 
     /// Registers a callback under a hook that has no list yet.
-    fn add_first(
+    fn insert_first(
         &mut self,
         hook: &HookName,
         priority: Priority,
@@ -89,7 +90,7 @@ impl HookTable {
     {
         let name = String::from_str(self.alloc, hook.as_str())?;
         let mut list = HookList::new(self.alloc);
-        list.add(priority, callback, accepted)?;
+        let _is_new = list.insert(priority, callback, accepted)?;
         self.hooks.insert(name, list)?;
         Ok(())
     }
@@ -125,32 +126,34 @@ impl HookTable {
     pub fn has(&self, hook: &str) -> bool
         ensures { result ≡ has self.now hook.now }
     {
-        !self.list(hook).is_empty()
+        match self.list(hook) {
+            Some(list) => !list.is_empty(),
+            None => false,
+        }
     }
 
     /// The smallest priority of a callback under a hook.
     pub fn priority_of(&self, hook: &str, callback: CallbackId) -> Option<i32>
         ensures { result ≡ priority_of self.now hook.now callback }
     {
-        number_of(list::least_of(self.list(hook), callback))
+        number_of(self.list(hook)?.least_of(callback))
     }
 
     /// The callbacks of a hook at a priority, in the order of adding.
     pub fn group(&self, hook: &HookName, priority: i32) -> Result<Vec<Entry>, AllocError>
         ensures { IfOk result (λ entries. entries.items ≡ group self.now hook.now priority) }
     {
-        list::group_of(
-            self.alloc,
-            self.list(hook.as_str()),
-            Priority::new(priority),
-        )
+        match self.list(hook.as_str()) {
+            Some(list) => list.group(self.alloc, Priority::new(priority)),
+            None => Ok(Vec::new(self.alloc)),
+        }
     }
 
     /// The smallest priority of a hook, above another if that is given.
     pub fn next_priority(&self, hook: &HookName, after: Option<i32>) -> Option<i32>
         ensures { result ≡ next_priority self.now hook.now after }
     {
-        number_of(list::least_above(self.list(hook.as_str()), after))
+        number_of(self.list(hook.as_str())?.least_above(after))
     }
 }
 

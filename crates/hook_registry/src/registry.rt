@@ -1,5 +1,5 @@
 //! The registry.
-ghost use Rattle.std.specs.Prelude.{◌≡◌, ◌≤◌, ◌+◌, [], IfOk, OnOk, OnErr, map, is_some, min, unwrap_or};
+ghost use Rattle.std.specs.Prelude.{◌≡◌, ◌≤◌, ◌+◌, [], IfOk, OnOk, OnErr, not, map, is_some, min, unwrap_or};
 ghost use Rattle.std.specs.List.{list_any};
 ghost use Rattle.hook_registry.specs.Named.{value_of, set_value, remove_value};
 ghost use Rattle.hook_registry.specs.Table.{Table, registrations, add, remove, remove_all, group};
@@ -66,7 +66,28 @@ impl Registry {
         }) }
         ensures err { OnErr result (self.new ≡ self.old) }
     {
-        self.hooks.add(hook, priority, callback, accepted)
+        let _is_new = self.insert(hook, priority, callback, accepted)?;
+        Ok(())
+    }
+
+    /// Registers a callback as [`Registry::add`] does, and says whether it is a new one.
+    pub fn insert(
+        &mut self,
+        hook: &HookName,
+        priority: i32,
+        callback: CallbackId,
+        accepted: u8,
+    ) -> Result<bool, AllocError>
+        requires { accepted ≤ 16 }
+        ensures added { OnOk result (self.new ≡ record self.old {
+          table = add self.old.table hook.now
+              (record { priority = priority; callback = callback; accepted = accepted });
+        }) }
+        ensures new { IfOk result (λ is_new. is_new
+            ≡ not (list_any (is_of priority callback) (registrations self.old.table hook.now))) }
+        ensures err { OnErr result (self.new ≡ self.old) }
+    {
+        self.hooks.insert(hook, priority, callback, accepted)
     }
 
     /// Removes one registration, and says whether it was there (Code Reference, remove_filter). It does not allocate.
