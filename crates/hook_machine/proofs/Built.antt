@@ -9,7 +9,7 @@ use Rattle.hook_registry.specs.Table.{Table}
 use Rattle.hook_registry.specs.OneList as one_list
 use Rattle.hook_registry.specs.OneList.{TableChange, Added, Removed, RemovedAll}
 use Rattle.hook_machine.specs.World.{Text, World, is_active, changed, core_changes, load_changes, loaded, fresh}
-use Rattle.hook_machine.specs.Tables.{table_changes, table_with, IsBuilt, HasBuiltTable}
+use Rattle.hook_machine.specs.Tables.{table_changes, table_with, HasBuiltTable}
 use Rattle.hook_machine.specs.Throughout.{Throughout}
 use Rattle.hook_machine.specs.Meaning.{Engine, filtered, acted, replaced}
 use Rattle.hook_machine.proofs.Agree.{Keeps, keeps_all}

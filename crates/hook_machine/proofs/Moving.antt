@@ -1,5 +1,5 @@
 -- How the calls of the stepping machine move along what is left.
-use Rattle.std.proofs.Common.{◌≡◌, ℕ, ◌+◌, ◌-◌, ◌≤◌, ◌<◌, ℤ, Bool, true, false, ◌==◌, List, [], ◌∷◌, ◌++◌, length, take, Option, None, Some, Result, Ok, Err, refl, sym, ap, subst, ◌∙◌, arith}
+use Rattle.std.proofs.Common.{◌≡◌, ℕ, ◌+◌, ◌<◌, ℤ, true, false, List, [], ◌∷◌, ◌++◌, take, Option, None, Some, IsSome, Result, Ok, Err, refl, sym, ap, ◌∙◌}
 use Rattle.std.specs.Prelude.{map, pos, is_some, bytes_eq}
 use Rattle.std.specs.List.{list_any}
 use Rattle.hook_changes.specs.Names.{is_hook_name}
@@ -11,19 +11,18 @@ use Rattle.hook_changes.specs.declared.reply.Ask.TheVariants.{Apply, Act, Shortc
 use Rattle.hook_changes.specs.declared.reply.Then.{Then}
 use Rattle.hook_changes.specs.declared.reply.Then.TheVariants as next
 use Rattle.hook_registry.specs.declared.registration.Entry.{Entry}
-use Rattle.hook_registry.specs.Table.{Table, group, next_priority, times_fired}
+use Rattle.hook_registry.specs.Table.{Table, group, next_priority, has, times_fired}
 use Rattle.hook_registry.specs.Named.{value_of}
 use Rattle.shortcode_scan.specs.declared.Piece.{Piece}
 use Rattle.shortcode_scan.specs.Pieces.{pieces_of}
 use Rattle.shortcode_scan.specs.Live.{live}
 use Rattle.hook_machine.specs.declared.fault.RunFault.{RunFault}
-use Rattle.hook_machine.specs.declared.fault.RunFault.TheVariants.{TooManyCalls, TooDeep, OutOfMemory}
+use Rattle.hook_machine.specs.declared.fault.RunFault.TheVariants.{TooManyCalls, TooDeep}
 use Rattle.hook_machine.specs.declared.pass.PassKind.{PassKind}
 use Rattle.hook_machine.specs.declared.pass.PassKind.TheVariants.{Filter, Action}
 use Rattle.call_plans.specs.declared.position.Position.{Position}
-use Rattle.hook_machine.specs.declared.replacing.Extras.{Extras}
+use Rattle.hook_machine.specs.declared.pieces.Matched.{Matched}
 use Rattle.hook_machine.specs.declared.frame.HookPass.{HookPass}
-use Rattle.hook_machine.specs.declared.replacing.TextPass.{TextPass}
 use Rattle.hook_machine.specs.declared.frame.Invoked.{Invoked}
 use Rattle.hook_machine.specs.declared.frame.Pending.{Pending}
 use Rattle.hook_machine.specs.declared.frame.Pending.TheVariants.{Next, Core, ForText, ForNothing, ForCore}
@@ -32,19 +31,20 @@ use Rattle.hook_machine.specs.declared.frame.Frame.TheVariants as frame
 use Rattle.hook_machine.specs.declared.frame.Move.{Move}
 use Rattle.hook_machine.specs.declared.frame.Move.TheVariants.{Turned, Handed}
 use Rattle.hook_machine.specs.declared.replacing.Handling.{Handling}
-use Rattle.hook_machine.specs.Cuts.{CutText}
+use Rattle.hook_machine.specs.Cuts.{CutText, PassOverText}
 use Rattle.hook_machine.specs.Handling.{handling_pass}
 use Rattle.hook_machine.specs.World.{Text, World}
-use Rattle.hook_machine.specs.Trace.{Trace, Done, Refused, Turn, and_then}
-use Rattle.hook_machine.specs.Meaning.{Engine, Invocation, hook_call, arguments, value_after, pass, filter_pass, action_pass, fired, pieces_pass, shortcodes_pass, answered, invoke, first_or_empty, last_or_empty, without_last, has_answer, text_or_false}
+use Rattle.hook_machine.specs.Trace.{Trace, Done, Refused, and_then}
+use Rattle.hook_machine.specs.Meaning.{Engine, Invocation, hook_call, arguments, value_after, pass, filter_pass, action_pass, fired, text_at, shortcode_filter, pieces_pass, shortcodes_pass, answered, invoke, first_or_empty, last_or_empty, has_answer, text_or_false}
 use Rattle.call_plans.specs.Position.{first_of, reach, next_entry}
-use Rattle.hook_machine.specs.Rest.{in_place, left_hook, risen, with_answer, pass_left, text_left, pending_left, pending_handed, goes_on, handed, rest_with, then_rest, rest}
+use Rattle.hook_machine.specs.Works.{bracketed, answer_shown}
+use Rattle.hook_machine.specs.Rest.{in_place, left_hook, risen, with_answer, pass_left, text_left, text_handed, pending_left, pending_handed, goes_on, handed, rest_with, then_rest, rest}
 use Rattle.hook_machine.specs.declared.resuming.Job.{Job}
 use Rattle.hook_machine.specs.Jobs.{job_left, left_from}
 use Rattle.hook_machine.specs.Moves.{Moves, Shrinks, Invokes}
 use Rattle.hook_machine.proofs.Walk.{then_under}
-use Rattle.hook_machine.proofs.Ending.{filter_named, filter_unnamed, action_named, action_unnamed}
-use Rattle.hook_machine.proofs.Steps.{turn_refused, pass_goes, pass_ends, pass_begins, ask_plain, ask_apply, ask_act, ask_shortcodes, apply_deep, act_deep, shortcodes_deep, core_goes, core_deep, text_begins, moves_via, moves_onto, moves_same, then_done}
+use Rattle.hook_machine.proofs.Ending.{filter_named, filter_unnamed, filter_unhooked, action_named, action_unnamed}
+use Rattle.hook_machine.proofs.Steps.{turn_refused, pass_goes, pass_ends, pass_begins, ask_plain, ask_apply, ask_act, ask_shortcodes, core_goes, text_begins, moves_onto, moves_same, then_done}
 
 -- the position stays in its hook
 next_hook : (table : Table) (hook : Text) (at : Option ℤ) (es : List Entry)
@@ -263,12 +263,12 @@ module _ (engine : Engine) where
   core_waits w k call = refl
 
   -- a result that is handed to an invocation
-  pub text_handed : (w up : World) (k : ℕ) (call : Call) (text : Text) (fs : List Frame) → up ≡ risen w
+  pub text_answered : (w up : World) (k : ℕ) (call : Call) (text : Text) (fs : List Frame) → up ≡ risen w
       → (r : Result Move RunFault) (s : World) (gs : List Frame) → Moves engine
       (then_rest engine (invoke engine up k (with_answer call (answer.Text text))) fs) r s gs
       → Moves engine (then_rest engine (pending_handed engine w k call ForText text) fs) r s gs
   unfolding pending_handed
-  text_handed w up k call text fs e r s gs m = moves_same engine (invoke engine (risen w) k (with_answer call (answer.Text text)))
+  text_answered w up k call text fs e r s gs m = moves_same engine (invoke engine (risen w) k (with_answer call (answer.Text text)))
       (invoke engine up k (with_answer call (answer.Text text))) fs (ap (λ (v : World). invoke engine v k (with_answer call (answer.Text text))) (sym e)) r s
       gs m
 
@@ -296,20 +296,21 @@ module _ (engine : Engine) where
 
   -- ---- shortcodes
 
-  pub text_moves : (w : World) (p : TextPass) (found : Option Handling) (h : Handling) (cut : CutText) (so_far : Text) (fs fs' : List Frame)
+  pub text_moves : (w : World) (p : PassOverText) (found : Option Handling) (h : Handling) (cut : CutText) (so_far : Text) (fs fs' : List Frame)
       → ((inv : Invocation) → pieces_pass inv p.cut.text w p.so_far p.cut.pieces ≡ handling_pass inv p.cut.text w found so_far cut.pieces) → found ≡ Some h
       → cut.text ≡ p.cut.text
-      → fs' ≡ frame.Shortcodes (record { cut = cut; so_far = so_far; hand = Some h.extras }) ∷ fs
+      → fs' ≡ frame.Shortcodes (record { cut = cut; so_far = so_far; hand = Some h.matched }) ∷ fs
       → (r : Result Move RunFault) (s : World) (gs : List Frame) → Moves engine (then_rest engine (invoke engine w h.handler h.call) fs') r s gs
       → Moves engine (then_rest engine (text_left engine w p) fs) r s gs
-  unfolding handed
+  unfolding handed text_handed
   text_moves w p found h cut so_far fs fs' e q t f r s gs m =
       moves_onto engine (text_left engine w p) (invoke engine w h.handler h.call)
-      (frame.Shortcodes (record { cut = cut; so_far = so_far; hand = Some h.extras })) fs fs'
+      (frame.Shortcodes (record { cut = cut; so_far = so_far; hand = Some h.matched })) fs fs'
       (e (invoke engine)
       ∙ ap (λ (o : Option Handling). handling_pass (invoke engine) p.cut.text w o so_far cut.pieces) q
       ∙ ap (λ (z : Text). and_then (invoke engine w h.handler h.call)
-      (λ later x. pieces_pass (invoke engine) z later (so_far ++ in_place (Some h.extras) x) cut.pieces)) (sym t))
+      (λ later x. and_then (answer_shown (invoke engine) z later h.matched x)
+      (λ last shown. pieces_pass (invoke engine) z last (so_far ++ shown) cut.pieces))) (sym t))
       f r s gs m
 
   pub text_begin : (w : World) (text shown so_far : Text) (ps : List Piece) (cut : CutText) (fs : List Frame) → shown ≡ text
@@ -320,6 +321,36 @@ module _ (engine : Engine) where
   text_begin w text shown so_far ps cut fs t e c n r s gs m =
       moves_same engine (shortcodes_pass (invoke engine) w text) (text_left engine w (record { cut = cut; so_far = so_far; hand = None })) fs
       (rw (c, n, e, t) (text_begins engine w text)) r s gs m
+
+  -- a handler's answer goes through the filter, whose value the pass waits for
+  pub filter_begins : (w : World) (p : PassOverText) (m : Matched) (x name shown : Text) (args : List Text) (fs fs' : List Frame)
+      → name ≡ shortcode_filter → shown ≡ bracketed m x → args ≡ text_at p.cut.text m.name ∷ []
+      → fs' ≡ frame.Shortcodes (record p { hand = None }) ∷ fs
+      → (r : Result Move RunFault) (s : World) (gs : List Frame) → Moves engine (then_rest engine (filter_pass (invoke engine) w name shown args) fs') r s gs
+      → Moves engine (then_rest engine (text_handed engine w p (Some m) x) fs) r s gs
+  unfolding handed text_handed
+  filter_begins w p m x name shown args fs fs' n b a f r s gs k =
+      moves_onto engine (text_handed engine w p (Some m) x) (filter_pass (invoke engine) w name shown args)
+      (frame.Shortcodes (record p { hand = None })) fs fs'
+      (rw (n, b, a) refl) f r s gs k
+
+  -- a text that stands in place of a match as it is: the filter's value, or a handler's answer if nothing is registered on
+  -- the filter
+  placed : (w : World) (p : PassOverText) (x : Text) (hand : Option Matched) → (IsSome hand → has w.table shortcode_filter ≡ false)
+      → text_handed engine w p hand x ≡ text_left engine w (record p { so_far = p.so_far ++ in_place hand x })
+  unfolding text_handed
+  placed w p x None h = refl
+  placed w p x (Some m) h =
+      ap (λ (t : Trace Text). and_then t (λ later shown. pieces_pass (invoke engine) p.cut.text later (p.so_far ++ shown) p.cut.pieces))
+      (filter_unhooked (invoke engine) w shortcode_filter (bracketed m x) (text_at p.cut.text m.name ∷ []) (h refl))
+
+  pub text_placed : (w : World) (p q : PassOverText) (x : Text) (fs : List Frame) → (IsSome p.hand → has w.table shortcode_filter ≡ false)
+      → q ≡ record p { so_far = p.so_far ++ in_place p.hand x }
+      → (r : Result Move RunFault) (s : World) (gs : List Frame) → Moves engine (then_rest engine (text_left engine w q) fs) r s gs
+      → Moves engine (then_rest engine (text_handed engine w p p.hand x) fs) r s gs
+  text_placed w p q x fs h e r s gs k =
+      moves_same engine (text_handed engine w p p.hand x) (text_left engine w q) fs
+      (placed w p x p.hand h ∙ ap (λ (z : PassOverText). text_left engine w z) (sym e)) r s gs k
 
   -- a text without shortcodes
   pub text_back : (w : World) (text shown : Text) (ps : List Piece) (fs : List Frame) → shown ≡ text
@@ -340,7 +371,7 @@ module _ (engine : Engine) where
   unfolding rest goes_on
   invocation_first w i fs r s gs m = m
 
-  pub text_first : (w : World) (p : TextPass) (fs : List Frame) (r : Result Move RunFault) (s : World) (gs : List Frame)
+  pub text_first : (w : World) (p : PassOverText) (fs : List Frame) (r : Result Move RunFault) (s : World) (gs : List Frame)
       → Moves engine (then_rest engine (text_left engine w p) fs) r s gs → Moves engine (rest engine w (frame.Shortcodes p ∷ fs)) r s gs
   unfolding rest goes_on
   text_first w p fs r s gs m = m
@@ -360,12 +391,10 @@ module _ (engine : Engine) where
   unfolding rest_with handed
   invocation_next w i x fs r s gs m = m
 
-  pub text_next : (w : World) (p q : TextPass) (x : Text) (fs : List Frame) → q ≡ record p { so_far = p.so_far ++ in_place p.hand x }
-      → (r : Result Move RunFault) (s : World) (gs : List Frame) → Moves engine (then_rest engine (text_left engine w q) fs) r s gs
-      → Moves engine (rest_with engine w (frame.Shortcodes p ∷ fs) x) r s gs
+  pub text_next : (w : World) (p : PassOverText) (x : Text) (fs : List Frame) (r : Result Move RunFault) (s : World) (gs : List Frame)
+      → Moves engine (then_rest engine (text_handed engine w p p.hand x) fs) r s gs → Moves engine (rest_with engine w (frame.Shortcodes p ∷ fs) x) r s gs
   unfolding rest_with handed
-  text_next w p q x fs e r s gs m = moves_same engine (text_left engine w (record p { so_far = p.so_far ++ in_place p.hand x })) (text_left engine w q) fs
-      (ap (λ (z : TextPass). text_left engine w z) (sym e)) r s gs m
+  text_next w p x fs r s gs m = m
 
   -- ---- no frame
 

@@ -1,7 +1,6 @@
 -- How a stopped run moves along what is left of it: each law is one step of the frames.
-use Rattle.std.proofs.Common.{◌≡◌, ℕ, zero, suc, ◌+◌, ◌-◌, ◌≤◌, ◌<◌, ℤ, Bool, true, false, ◌==◌, ◌&&◌, List, [], ◌∷◌, ◌++◌, length, take, Option, None, Some, Result, Ok, Err, refl, sym, ap, subst, ◌∙◌, arith}
+use Rattle.std.proofs.Common.{◌≡◌, ℕ, ◌+◌, ◌-◌, ◌≤◌, ◌<◌, ℤ, true, false, ◌==◌, List, [], ◌∷◌, ◌++◌, take, Option, None, Some, Result, Ok, Err, refl, sym, ap, ◌∙◌}
 use Rattle.std.specs.Prelude.{map}
-use Rattle.hook_changes.specs.Names.{is_hook_name}
 use Rattle.hook_changes.specs.declared.reply.Call.{Call}
 use Rattle.hook_changes.specs.declared.reply.Reply.{Reply}
 use Rattle.hook_changes.specs.declared.reply.Answer.{Answer}
@@ -10,7 +9,7 @@ use Rattle.hook_changes.specs.declared.reply.Ask.{Ask}
 use Rattle.hook_changes.specs.declared.reply.Ask.TheVariants.{Apply, Act, Shortcodes}
 use Rattle.hook_changes.specs.declared.reply.Then.TheVariants as next
 use Rattle.hook_registry.specs.declared.registration.Entry.{Entry}
-use Rattle.hook_registry.specs.Table.{Table, group, next_priority}
+use Rattle.hook_registry.specs.Table.{group, next_priority}
 use Rattle.shortcode_scan.specs.declared.Piece.{Piece}
 use Rattle.shortcode_scan.specs.declared.Span.{Span}
 use Rattle.shortcode_scan.specs.Pieces.{pieces_of}
@@ -18,29 +17,24 @@ use Rattle.shortcode_scan.specs.Live.{live}
 use Rattle.hook_machine.specs.declared.fault.RunFault.{RunFault}
 use Rattle.hook_machine.specs.declared.fault.RunFault.TheVariants.{TooManyCalls, TooDeep, OutOfMemory}
 use Rattle.hook_machine.specs.declared.pass.PassKind.{PassKind}
-use Rattle.hook_machine.specs.declared.pass.PassKind.TheVariants.{Filter, Action}
 use Rattle.call_plans.specs.declared.position.Position.{Position}
-use Rattle.hook_machine.specs.declared.replacing.Extras.{Extras}
+use Rattle.hook_machine.specs.declared.pieces.Matched.{Matched}
 use Rattle.hook_machine.specs.declared.frame.HookPass.{HookPass}
-use Rattle.hook_machine.specs.declared.replacing.TextPass.{TextPass}
-use Rattle.hook_machine.specs.declared.frame.Invoked.{Invoked}
-use Rattle.hook_machine.specs.declared.frame.Pending.{Pending}
 use Rattle.hook_machine.specs.declared.frame.Pending.TheVariants.{Next, Core, ForText, ForNothing, ForCore}
 use Rattle.hook_machine.specs.declared.frame.Frame.{Frame}
 use Rattle.hook_machine.specs.declared.frame.Frame.TheVariants as frame
 use Rattle.hook_machine.specs.declared.frame.Move.{Move}
-use Rattle.hook_machine.specs.declared.frame.Move.TheVariants.{Turned, Handed}
 use Rattle.hook_machine.specs.declared.pieces.Work.{Work}
 use Rattle.hook_machine.specs.declared.pieces.Work.TheVariants as work
 use Rattle.hook_machine.specs.World.{Text, World}
 use Rattle.hook_machine.specs.Trace.{Trace, Done, Refused, Turn, and_then}
-use Rattle.hook_machine.specs.Meaning.{Engine, Invocation, hook_call, arguments, value_after, group_pass, priorities_pass, pass, filter_pass, action_pass, fired, piece_pass, pieces_pass, shortcodes_pass, answered, deeper, follow, said, invoked, invoked_with, invoke, replied, first_or_empty, bracket, text_at}
-use Rattle.hook_machine.specs.Works.{work_pass}
-use Rattle.call_plans.specs.Position.{first_of, reach, entry_of_left, next_entry}
-use Rattle.hook_machine.specs.Rest.{left_hook, risen, with_answer, in_place, above_left, pass_from, pass_left, text_left, pending_left, pending_handed, goes_on, handed, rest_with, then_rest, rest}
+use Rattle.hook_machine.specs.Meaning.{Engine, Invocation, hook_call, arguments, value_after, group_pass, priorities_pass, pass, filter_pass, action_pass, piece_pass, pieces_pass, shortcodes_pass, answered, deeper, follow, said, invoked, invoked_with, invoke, replied, first_or_empty, text_at}
+use Rattle.hook_machine.specs.Works.{work_pass, answer_shown}
+use Rattle.call_plans.specs.Position.{first_of, reach, next_entry}
+use Rattle.hook_machine.specs.Rest.{left_hook, risen, with_answer, above_left, pass_from, pass_left, pending_left, pending_handed, goes_on, handed, rest_with, then_rest, rest}
 use Rattle.hook_machine.specs.Moves.{Moves}
 use Rattle.hook_machine.proofs.Agree.{invoke-step}
-use Rattle.hook_machine.proofs.Ending.{invoke_some, deeper_within, deeper_beyond, filter_named, filter_unnamed, action_named, action_unnamed}
+use Rattle.hook_machine.proofs.Ending.{invoke_some, deeper_within, deeper_beyond}
 use Rattle.hook_machine.proofs.Walk.{then_then, walk, walk-some, reached}
 
 some_is : {X : Type 0} (a b : X) → Some a ≡ Some b → a ≡ b
@@ -72,15 +66,15 @@ module _ (inv : Invocation) where
 
   -- a piece whose handler is invoked
   pub piece_handled : (w : World) (text cut so_far : Text) (all ps : List Piece) (p : Piece) (todo : Work) (handler : ℕ) (call : Call)
-      (opening closing : Bool) → cut ≡ text → all ≡ p ∷ ps → piece_pass inv cut w p ≡ work_pass inv cut w todo
-      → todo ≡ work.Handled handler call opening closing
+      (matched : Matched) → cut ≡ text → all ≡ p ∷ ps → piece_pass inv cut w p ≡ work_pass inv cut w todo → todo ≡ work.Handled handler call matched
       → pieces_pass inv text w so_far all ≡ and_then (inv w handler call)
-      (λ later result. pieces_pass inv text later (so_far ++ (bracket opening 91 ++ result ++ bracket closing 93)) ps)
-  piece_handled w text cut so_far all ps p todo handler call opening closing c a h k =
+      (λ later result. and_then (answer_shown inv text later matched result) (λ last shown. pieces_pass inv text last (so_far ++ shown) ps))
+  piece_handled w text cut so_far all ps p todo handler call matched c a h k =
       ap (λ (l : List Piece). pieces_pass inv text w so_far l) a
-      ∙ piece_by w text so_far p ps (work_pass inv cut w (work.Handled handler call opening closing))
-      (ap (λ (t : Text). piece_pass inv t w p) (sym c) ∙ h ∙ ap (λ (x : Work). work_pass inv cut w x) k)
-      ∙ then_then (inv w handler call) (λ later result. Done later (bracket opening 91 ++ result ++ bracket closing 93))
+      ∙ piece_by w text so_far p ps (work_pass inv text w (work.Handled handler call matched))
+      (ap (λ (t : Text). piece_pass inv t w p) (sym c) ∙ h ∙ ap (λ (x : Work). work_pass inv cut w x) k
+      ∙ ap (λ (t : Text). work_pass inv t w (work.Handled handler call matched)) c)
+      ∙ then_then (inv w handler call) (λ later result. answer_shown inv text later matched result)
       (λ later result. pieces_pass inv text later (so_far ++ result) ps)
 
   -- no piece is left

@@ -6,7 +6,6 @@ use Rattle.std.specs.Ordering.{int_eq}
 use Rattle.std.specs.Cmp.{int_eq_equiv}
 use Rattle.std.specs.List.{list_any, reduce}
 use Rattle.hook_changes.specs.declared.reply.Call.{Call}
-use Rattle.hook_changes.specs.declared.reply.Reply.{Reply}
 use Rattle.hook_registry.specs.declared.registration.Entry.{Entry}
 use Rattle.hook_registry.specs.declared.registration.Registration.{Registration}
 use Rattle.hook_registry.specs.Table.{Table, registrations, is_at, is_above, entry_of, group, next_priority, after}

@@ -1,8 +1,10 @@
 -- How a stopped run moves along what is left of it.
-use Rattle.std.specs.Prelude.{◌≡◌, ℕ, zero, suc, ◌+◌, ◌≤◌, List, [], length, Result, Ok, Err, ⊤}
+use Rattle.std.specs.Prelude.{◌≡◌, ℕ, zero, suc, ◌+◌, ◌≤◌, List, [], ◌∷◌, Option, None, Some, Result, Ok, Err, ⊤}
 use Rattle.hook_machine.specs.declared.fault.RunFault.{RunFault}
 use Rattle.hook_machine.specs.declared.fault.RunFault.TheVariants.{TooManyCalls, TooDeep, OutOfMemory}
+use Rattle.hook_machine.specs.declared.pieces.Matched.{Matched}
 use Rattle.hook_machine.specs.declared.frame.Frame.{Frame}
+use Rattle.hook_machine.specs.declared.frame.Frame.TheVariants.{Pass, Invocation, Shortcodes}
 use Rattle.hook_machine.specs.declared.frame.Move.{Move}
 use Rattle.hook_machine.specs.declared.frame.Move.TheVariants.{Turned, Handed}
 use Rattle.hook_machine.specs.declared.resuming.Turn.{Turn}
@@ -28,10 +30,25 @@ Moves engine left (Err OutOfMemory) world frames = ⊤
 abbrev pub Does : Engine → (Engine → Trace Text) → List Frame → Result Move RunFault → World → List Frame → Type 0
 Does engine work frames result world now = Moves engine (then_rest engine (work engine) frames) result world now
 
--- if a result is handed on, no frame has come, or at most that many
+-- how many frames may come in place of one that is handed a result: a handler's answer goes through a filter
+abbrev pub room_of_match : Option Matched → ℕ
+room_of_match None = 0
+room_of_match (Some matched) = 1
+
+abbrev pub room_of : Frame → ℕ
+room_of (Pass pass) = 0
+room_of (Invocation i) = 0
+room_of (Shortcodes pass) = room_of_match pass.hand
+
+-- how many frames a result goes through at most, those included that may come in their place
+abbrev pub weight_of : List Frame → ℕ
+weight_of [] = 0
+weight_of (f ∷ fs) = suc (room_of f) + weight_of fs
+
+-- if a result is handed on, the frames have no more weight than before, or at most that much more
 abbrev pub Shrinks : ℕ → Result Move RunFault → List Frame → List Frame → Type 0
 Shrinks more (Ok Turned) olds news = ⊤
-Shrinks more (Ok (Handed x)) olds news = length news ≤ length olds + more
+Shrinks more (Ok (Handed x)) olds news = weight_of news ≤ weight_of olds + more
 Shrinks more (Err fault) olds news = ⊤
 
 -- an invocation hands nothing on
@@ -43,7 +60,7 @@ Invokes (Err fault) = ⊤
 -- how many frames a result may still go through
 abbrev pub way_of : Move → List Frame → ℕ
 way_of Turned frames = zero
-way_of (Handed x) frames = suc (length frames)
+way_of (Handed x) frames = suc (weight_of frames)
 
 -- what a turn gives: the next world, and then what is left now; or the result
 abbrev pub turn_gives : Turn → World → Trace Text → Trace Text

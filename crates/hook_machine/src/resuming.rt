@@ -4,13 +4,13 @@ ghost use Rattle.hook_machine.specs.Meaning.{value_after};
 ghost use Rattle.hook_machine.specs.Outcomes.{RunsAs, engine_over};
 ghost use Rattle.hook_machine.specs.Rest.{rest, rest_with};
 ghost use Rattle.hook_machine.specs.Jobs.{job_left, left_from};
-ghost use Rattle.hook_machine.specs.Moves.{Does, Moves, Shrinks, still_left, Turns, IsOver};
+ghost use Rattle.hook_machine.specs.Moves.{Does, Moves, Shrinks, room_of, still_left, Turns, IsOver};
 
 use crate::asking::{invocation_turn, waiting_turn};
 use crate::fault::RunFault;
 use crate::frame::{Frame, HookPass, Move, Stack};
 use crate::pass::kept;
-use crate::replacing::{begin_text, text_turn, with_text};
+use crate::replacing::{begin_text, shown_turn, text_turn};
 use crate::state::State;
 use crate::turning::{begin_action, begin_filter, pass_turn};
 use callback_store::{Plugins, Stated};
@@ -94,7 +94,7 @@ fn result_turn<S: Stated>(
     ensures moves { Moves (engine_over S.says S.number plugins.now)
         (rest_with (engine_over S.says S.number plugins.now) state.old (frame ∷ stack.old) text) result state.new
         stack.new }
-    ensures shrinks { Shrinks 0 result stack.old stack.new }
+    ensures shrinks { Shrinks (room_of frame) result stack.old stack.new }
 {
     match frame {
         Frame::Pass(pass) => {
@@ -102,10 +102,7 @@ fn result_turn<S: Stated>(
             pass_turn(plugins, state, stack, pass)
         }
         Frame::Invocation(invoked) => waiting_turn(plugins, state, stack, invoked, text),
-        Frame::Shortcodes(pass) => {
-            let pass = with_text(pass, &text)?;
-            text_turn(plugins, state, stack, pass)
-        }
+        Frame::Shortcodes(pass) => shown_turn(plugins, state, stack, pass, text),
     }
 }
 

@@ -1,9 +1,6 @@
-use Rattle.std.proofs.Common.{sym}
 use Rattle.std.proofs.lemmas.Result.{err_from_is_err_and}
 use Rattle.hook_machine.specs.Outcomes.{engine_over}
-use Rattle.hook_changes.specs.declared.reply.Ask.TheVariants.{Apply, Act, Shortcodes}
-use Rattle.hook_changes.specs.declared.reply.Then.TheVariants as next
-use Rattle.hook_machine.specs.declared.frame.Pending.TheVariants.{Next, Core}
+use Rattle.hook_machine.specs.declared.frame.Pending.TheVariants.{Core}
 use Rattle.hook_machine.specs.Rest.{pending_left}
 use Rattle.hook_machine.proofs.Steps.{core_deep}
 use Rattle.hook_machine.proofs.Moving.{deep_moves, core_moves}

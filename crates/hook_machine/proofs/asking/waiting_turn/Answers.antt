@@ -1,11 +1,11 @@
 use Rattle.std.proofs.Common.{◌∙◌}
 use Rattle.hook_machine.specs.Outcomes.{engine_over}
-use Rattle.hook_machine.proofs.Moving.{text_handed, nothing_handed, core_handed, next_handed, begun_handed}
+use Rattle.hook_machine.proofs.Moving.{text_answered, nothing_handed, core_handed, next_handed, begun_handed}
 use Rattle.hook_machine.proofs.asking.waiting_turn.Goals as goal
 
 pub returns-in-ForText-clause-moves : goal.returns-in-ForText-clause-moves
 returns-in-ForText-clause-moves g c =
-    rw c.in-ForText.is (text_handed (engine_over g.S.Stated.says g.S.Stated.number c.args.plugins.now) c.args.state.now c.rise.new.self
+    rw c.in-ForText.is (text_answered (engine_over g.S.Stated.says g.S.Stated.number c.args.plugins.now) c.args.state.now c.rise.new.self
     c.args.invoked.callback c.args.invoked.call c.args.text c.args.stack.now c.rise.ensures _ _ _ c.invoke_again.ensures.moves)
 
 pub returns-in-ForNothing-clause-moves : goal.returns-in-ForNothing-clause-moves

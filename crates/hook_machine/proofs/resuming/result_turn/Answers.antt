@@ -12,7 +12,7 @@ returns-in-Invocation-clause-moves g c =
     rw c.in-Invocation.is (invocation_next (engine_over g.S.Stated.says g.S.Stated.number c.args.plugins.now) c.args.state.now c.in-Invocation.invoked
     c.args.text c.args.stack.now _ _ _ c.waiting_turn.ensures.moves)
 
-pub returns-in_ok-pass-in-Shortcodes-clause-moves : goal.returns-in_ok-pass-in-Shortcodes-clause-moves
-returns-in_ok-pass-in-Shortcodes-clause-moves g c =
-    rw c.in-Shortcodes.is (text_next (engine_over g.S.Stated.says g.S.Stated.number c.args.plugins.now) c.args.state.now c.in-Shortcodes.pass
-    c.in_ok-pass-in-Shortcodes.pass c.args.text c.args.stack.now c.in_ok-pass-in-Shortcodes.ensures _ _ _ c.text_turn.ensures.moves)
+pub returns-in-Shortcodes-clause-moves : goal.returns-in-Shortcodes-clause-moves
+returns-in-Shortcodes-clause-moves g c =
+    rw c.in-Shortcodes.is (text_next (engine_over g.S.Stated.says g.S.Stated.number c.args.plugins.now) c.args.state.now c.in-Shortcodes.pass c.args.text
+    c.args.stack.now _ _ _ c.shown_turn.ensures.moves)
