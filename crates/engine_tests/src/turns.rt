@@ -36,8 +36,9 @@ impl Stated for Bundled {
     }
 }
 
-/// The active plugin, the title and content of the one post if there is one, how many calls a page has, how many turns
-/// stop after a callback, and what the next turn gives: a page, or a fault that each later turn gives too.
+/// The active plugin, or two with a space between them, the title and content of the one post if there is one, how many
+/// calls a page has, how many turns stop after a callback, and what the next turn gives: a page, or a fault that each
+/// later turn gives too.
 pub struct Case(
     &'static str,
     Option<(&'static str, &'static str)>,
@@ -46,7 +47,7 @@ pub struct Case(
     Result<&'static str, RunFault>,
 );
 
-pub static CASES: [Case; 9] = [
+pub static CASES: [Case; 11] = [
     // Nothing is invoked.
     Case("", None, 10_000, 0, Ok("<p>Nothing found.</p>")),
     // Two callbacks of the title, and core's of the content.
@@ -59,6 +60,15 @@ pub static CASES: [Case; 9] = [
         2,
         Ok("<h2></h2><b>x</b>"),
     ),
+    // Core's callback, a handler, and the callback of the filter on its answer; and one call too few.
+    Case(
+        "bold tagmark",
+        Some(("", "[b]x[/b]")),
+        10_000,
+        3,
+        Ok("<h2></h2><b>x</b>{b}"),
+    ),
+    Case("bold tagmark", Some(("", "[b]x[/b]")), 2, 2, TOO_MANY),
     // Core's callback, a handler that asks for the text within, the handler in there, and the first again.
     Case(
         "bold",
@@ -150,9 +160,11 @@ fn settings(alloc: Global) -> Result<Settings, AllocError> {
     })
 }
 
-fn active(alloc: Global, name: &str) -> Result<Listed<Text>, AllocError> {
+fn active(alloc: Global, names: &str) -> Result<Listed<Text>, AllocError> {
+    let (first, second) = names.split_once(' ').unwrap_or((names, ""));
     let mut active = Listed::empty(alloc);
-    active.push(Text::copied(alloc, name)?)?;
+    active.push(Text::copied(alloc, first)?)?;
+    active.push(Text::copied(alloc, second)?)?;
     Ok(active)
 }
 
