@@ -92,6 +92,11 @@ const SECOND_OPTION: Place = Place {
     entry: Some(1),
 };
 
+const FRONT: Place = Place {
+    section: Section::Front,
+    entry: None,
+};
+
 const SECOND_TEMPLATE: Place = Place {
     section: Section::Templates,
     entry: Some(1),
@@ -103,7 +108,7 @@ const FIRST_ACTIVE: Place = Place {
 };
 
 /// Site files, each with its first fault. Options and templates are read by name.
-static FAULTS: [(&[u8], ImportFault); 10] = [
+static FAULTS: [(&[u8], ImportFault); 12] = [
     (b"", ImportFault::BadImport(TEXT)),
     (br#"{"version":1"#, ImportFault::BadImport(TEXT)),
     (
@@ -112,7 +117,7 @@ static FAULTS: [(&[u8], ImportFault); 10] = [
     ),
     (b"[]", ImportFault::BadImport(ROOT)),
     (
-        br#"{"version":2,"posts":0}"#,
+        br#"{"version":3,"posts":0}"#,
         ImportFault::BadImport(VERSION),
     ),
     (
@@ -126,6 +131,14 @@ static FAULTS: [(&[u8], ImportFault); 10] = [
     (
         br#"{"version":1,"options":{"b":null,"a":""}}"#,
         ImportFault::BadImport(SECOND_OPTION),
+    ),
+    (
+        br#"{"version":2,"front":{"show":"x"}}"#,
+        ImportFault::BadImport(FRONT),
+    ),
+    (
+        br#"{"version":2,"front":{"show":"page"},"templates":0}"#,
+        ImportFault::BadImport(FRONT),
     ),
     (
         br#"{"version":1,"templates":{"x":[],"index":[]}}"#,

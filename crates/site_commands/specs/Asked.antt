@@ -49,7 +49,7 @@ put_of tree =
 -- `edit`: the ID of a post, and what is to be changed of it
 unfoldable pub edit_of : Data → Option Asked
 edit_of tree =
-    with_found (id_at tree) (λ id.
+    with_found (id_at (codes "id") tree) (λ id.
     with_found (status_given tree) (λ status.
     with_found (text_given (codes "title") tree) (λ title.
     with_found (text_given (codes "content") tree) (λ content.
@@ -58,7 +58,7 @@ edit_of tree =
 
 -- `delete`: the ID of a post
 unfoldable pub delete_of : Data → Option Asked
-delete_of tree = option_map delete (id_at tree)
+delete_of tree = option_map delete (id_at (codes "id") tree)
 
 -- `option`: its name and its value
 unfoldable pub option_of : Data → Option Asked

@@ -141,7 +141,7 @@ fn read_put_of(value: &Value, kind: PostKind, status: PostStatus) -> Option<Comm
 fn read_edit(value: &Value) -> Option<Command<'_>>
     ensures { option_map asked_by result ≡ edit_of (view value.now) }
 {
-    let id = id_at(value)?;
+    let id = id_at(value, "id")?;
     let status = status_given(value)?;
     let title = text_given(value, "title")?;
     let content = text_given(value, "content")?;
@@ -159,7 +159,7 @@ fn read_edit(value: &Value) -> Option<Command<'_>>
 fn read_delete(value: &Value) -> Option<Command<'_>>
     ensures { option_map asked_by result ≡ delete_of (view value.now) }
 {
-    let id = id_at(value)?;
+    let id = id_at(value, "id")?;
     Some(Command::Delete { id })
 }
 

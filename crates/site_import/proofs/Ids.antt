@@ -15,12 +15,11 @@ use Rattle.site_values.specs.Tree.{with_found, whole_in, text_at}
 use Rattle.site_values.specs.Named.{id_at, kind_named, status_named}
 use Rattle.site_import.specs.Walks.{Read, whole, and_read, of_form, each_from, section_of, list_of}
 use Rattle.site_import.specs.Posts.{shape_of, checked_post, post_at, posts_in, posts_of}
-use Rattle.site_import.specs.Site.{site_file_of, is_version_1}
-use Rattle.site_import.specs.Options.{options_of}
+use Rattle.site_import.specs.Site.{version_of, options_in, records_in, site_file_of}
 use Rattle.site_import.specs.Templates.{templates_of}
 use Rattle.site_import.specs.Active.{active_of}
 use Rattle.site_import.specs.declared.fault.Place.{Place}
-use Rattle.site_import.specs.declared.fault.Section.TheVariants.{Posts}
+use Rattle.site_import.specs.declared.fault.Section.TheVariants.{Posts, Version}
 
 abbrev pub HasId : Post → Type 0
 HasId post = (1 ≤ post.id) × (post.id ≤ 2147483647)
@@ -38,7 +37,7 @@ read_first (Ok a) next b e = (a, refl, e)
 whole_in-range : (n m : ℕ) → whole_in 1 2147483647 n ≡ Some m → (1 ≤ m) × (m ≤ 2147483647)
 whole_in-range n m e = grind (arith, common_steps, nat_tests)
 
-id_at-range : (tree : Data) (id : ℕ) → id_at tree ≡ Some id → (1 ≤ id) × (id ≤ 2147483647)
+id_at-range : (tree : Data) (id : ℕ) → id_at (codes "id") tree ≡ Some id → (1 ≤ id) × (id ≤ 2147483647)
 id_at-range tree id e =
     let found = option_and_then as_u64 (option_and_then as_number (get (codes "id") tree)) in
     let n = found_first found (whole_in 1 2147483647) id e in
@@ -47,7 +46,7 @@ id_at-range tree id e =
 shape_of-id : (tree : Data) (post : Post) → shape_of tree ≡ Some post → HasId post
 unfolding shape_of
 shape_of-id tree post e =
-    let id = found_first (id_at tree) _ post e in
+    let id = found_first (id_at (codes "id") tree) _ post e in
     let kind = found_first (option_and_then kind_named (text_at (codes "kind") tree)) _ post id.2 in
     let status = found_first (option_and_then status_named (text_at (codes "status") tree)) _ post kind.2 in
     let title = found_first (text_at (codes "title") tree) _ post status.2 in
@@ -120,20 +119,18 @@ joined-posts (Ok p) (Ok o) (Err f) active records e = absurd (cc)
 joined-posts (Ok p) (Ok o) (Ok t) (Err f) records e = absurd (cc)
 joined-posts (Ok p) (Ok o) (Ok t) (Ok a) records e = ap posts_read e
 
-sections-ids : (tree : Data) (records : SiteRecords) → joined (section_of posts_of (get (codes "posts") tree))
-    (section_of options_of (get (codes "options") tree)) (section_of templates_of (get (codes "templates") tree))
-    (section_of active_of (get (codes "active") tree)) ≡ Ok records → All HasId records.posts
-sections-ids tree records e =
+records_in-ids : (version : ℕ) (tree : Data) (records : SiteRecords) → records_in version tree ≡ Ok records → All HasId records.posts
+unfolding records_in
+records_in-ids version tree records e =
     section-ids (get (codes "posts") tree) records.posts
-    (joined-posts (section_of posts_of (get (codes "posts") tree)) (section_of options_of (get (codes "options") tree))
-    (section_of templates_of (get (codes "templates") tree)) (section_of active_of (get (codes "active") tree)) records e)
+    (joined-posts (section_of posts_of (get (codes "posts") tree)) (options_in version tree) (section_of templates_of (get (codes "templates") tree))
+    (section_of active_of (get (codes "active") tree)) records e)
 
 pub site_file_of-ids : (tree : Data) (records : SiteRecords) → site_file_of tree ≡ Ok records → All HasId records.posts
 unfolding site_file_of
 site_file_of-ids tree records e = elim (cases_Bool (is_some (as_object tree))) [
-  | inl object ↦ elim (cases_Bool (is_version_1 tree)) [
-    | inl version ↦ sections-ids tree records (rw (object, version) at e)
-    | inr version ↦ let f = rw (object, version) at e in absurd (cc)
-  ]
+  | inl object ↦
+      let sections = read_first (of_form (whole Version) (version_of tree)) (λ version. records_in version tree) records (rw object at e) in
+      records_in-ids sections.0 tree records sections.2
   | inr object ↦ let f = rw object at e in absurd (cc)
 ]

@@ -20,7 +20,7 @@ post_by row = record { id = row.id; kind = row.kind; status = row.status; title 
 -- an object that has each key, of its form
 unfoldable pub shape_of : Data → Option Post
 shape_of tree =
-    with_found (id_at tree) (λ id.
+    with_found (id_at (codes "id") tree) (λ id.
     with_found (option_and_then kind_named (text_at (codes "kind") tree)) (λ kind.
     with_found (option_and_then status_named (text_at (codes "status") tree)) (λ status.
     with_found (text_at (codes "title") tree) (λ title.

@@ -16,7 +16,7 @@ pub enum Section {
     Version,
     Posts,
     Options,
-    /// No version that is known here has it.
+    /// What the front shows, which version 1 doesn't have.
     Front,
     Templates,
     Active,

@@ -3,6 +3,7 @@
 
 mod active;
 mod fault;
+mod front;
 mod options;
 mod posts;
 mod site;

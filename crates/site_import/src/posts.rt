@@ -29,7 +29,7 @@ pub(crate) struct PostRow<'v> {
 fn read_row(value: &Value) -> Option<PostRow<'_>>
     ensures { option_map post_by result ≡ shape_of (view value.now) }
 {
-    let id = id_at(value)?;
+    let id = id_at(value, "id")?;
     let kind = kind_named(text_at(value, "kind")?)?;
     let status = status_named(text_at(value, "status")?)?;
     read_texts(value, id, kind, status)

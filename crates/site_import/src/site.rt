@@ -1,16 +1,18 @@
 //! A whole site file.
-ghost use Rattle.std.specs.Prelude.{◌≡◌, ◌≢◌, ◌≤◌, Ok, Err, IfOk, IfErr, All};
+ghost use Rattle.std.specs.Prelude.{◌≡◌, ◌≢◌, ◌≤◌, ◌++◌, Ok, Err, IfOk, IfErr, All, option_map};
 ghost use Rattle.serde_json.specs.View.{view};
-ghost use Rattle.site_import.specs.Site.{is_version_1, site_file_of, site_file_in};
+ghost use Rattle.site_import.specs.Site.{version_of, front_in, options_in, records_in, site_file_of, site_file_in};
 
 use crate::active::read_active;
 use crate::fault::{ImportFault, Place, Section};
+use crate::front::read_front;
 use crate::options::read_options;
 use crate::posts::read_posts;
 use crate::templates::read_templates;
+use hook_changes::{Listed, Text};
 use serde_json::Value;
 use site_records::SiteRecords;
-use std::alloc::Global;
+use std::alloc::{AllocError, Global};
 
 /// What a site file adds to a site.
 #[derive(Drop)]
@@ -18,10 +20,65 @@ pub struct SiteFile {
     pub records: SiteRecords,
 }
 
-fn is_version_1(value: &Value) -> bool
-    ensures { result ≡ is_version_1 (view value.now) }
+fn version_of(value: &Value) -> Option<u64>
+    ensures { result ≡ version_of (view value.now) }
 {
-    matches!(value.get("version").and_then(Value::as_u64), Some(1))
+    let version = value.get("version")?.as_u64()?;
+    if (1..=2).contains(&version) {
+        Some(version)
+    } else {
+        None
+    }
+}
+
+/// The value of `front`, which is a section from version 2 on.
+fn front_in(value: &Value, version: u64) -> Option<&Value>
+    ensures { option_map (λ v. view v.now) result ≡ front_in version (view value.now) }
+{
+    if version < 2 {
+        return None;
+    }
+    value.get("front")
+}
+
+/// All options of a site file. Of one name the later value counts, so `front` wins.
+fn read_all_options(
+    alloc: Global,
+    value: &Value,
+    version: u64,
+) -> Result<Listed<(Text, Text)>, ImportFault>
+    ensures ok { IfOk result (λ options. options_in version (view value.now) ≡ Ok options) }
+    ensures err { IfErr result (λ fault. fault ≢ ImportFault.OutOfMemory
+        → options_in version (view value.now) ≡ Err fault) }
+{
+    let options = read_options(alloc, value.get("options"))?;
+    let front = read_front(alloc, front_in(value, version))?;
+    Ok(joined(options, front)?)
+}
+
+fn joined(
+    options: Listed<(Text, Text)>,
+    front: Listed<(Text, Text)>,
+) -> Result<Listed<(Text, Text)>, AllocError>
+    ensures { IfOk result (λ all. all ≡ options ++ front) }
+{
+    let mut all = options.into_vec();
+    all.append(&mut front.into_vec())?;
+    Ok(Listed::new(all))
+}
+
+#[tactic(auto, unfolding(crate::specs::Site::records_in))]
+fn read_sections(alloc: Global, value: &Value, version: u64) -> Result<SiteRecords, ImportFault>
+    ensures ok { IfOk result (λ records. records_in version (view value.now) ≡ Ok records) }
+    ensures err { IfErr result (λ fault. fault ≢ ImportFault.OutOfMemory
+        → records_in version (view value.now) ≡ Err fault) }
+{
+    Ok(SiteRecords {
+        posts: read_posts(alloc, value.get("posts"))?,
+        options: read_all_options(alloc, value, version)?,
+        templates: read_templates(alloc, value.get("templates"))?,
+        active: read_active(alloc, value.get("active"))?,
+    })
 }
 
 #[tactic(auto, unfolding(crate::specs::Site::site_file_of))]
@@ -33,19 +90,15 @@ fn read_records(alloc: Global, value: &Value) -> Result<SiteRecords, ImportFault
     if !value.is_object() {
         return Err(ImportFault::BadImport(Place::whole(Section::Root)));
     }
-    if !is_version_1(value) {
+    let Some(version) = version_of(value) else {
         return Err(ImportFault::BadImport(Place::whole(Section::Version)));
-    }
-    Ok(SiteRecords {
-        posts: read_posts(alloc, value.get("posts"))?,
-        options: read_options(alloc, value.get("options"))?,
-        templates: read_templates(alloc, value.get("templates"))?,
-        active: read_active(alloc, value.get("active"))?,
-    })
+    };
+    read_sections(alloc, value, version)
 }
 
-/// The records of a tree. Other keys than `version`, `posts`, `options`, `templates` and `active` are ignored. Whether
-/// the IDs are new and the plugins are there isn't looked at.
+/// The records of a tree of version 1 or 2. Other keys than `version`, `posts`, `options`, `templates`, `active` and, in
+/// version 2, `front` are ignored. What `front` says becomes options after the others. Whether the IDs are new and the
+/// plugins are there isn't looked at.
 pub fn read_site_value(alloc: Global, value: &Value) -> Result<SiteFile, ImportFault>
     ensures ok { IfOk result (λ file. site_file_of (view value.now) ≡ Ok file.records) }
     ensures err { IfErr result (λ fault. fault ≢ ImportFault.OutOfMemory

@@ -20,7 +20,7 @@ pub fn worked_site_files()
         ≡ Err (ImportFault.BadImport (whole Section.Root)) }
     ensures no_version { site_file_in (codes "{}")
         ≡ Err (ImportFault.BadImport (whole Section.Version)) }
-    ensures version_2 { site_file_in (codes "{\"version\":2}")
+    ensures version_3 { site_file_in (codes "{\"version\":3}")
         ≡ Err (ImportFault.BadImport (whole Section.Version)) }
     ensures version_in_a_text { site_file_in (codes "{\"version\":\"1\"}")
         ≡ Err (ImportFault.BadImport (whole Section.Version)) }
@@ -28,6 +28,8 @@ pub fn worked_site_files()
         ≡ Err (ImportFault.BadImport (whole Section.Version)) }
 
     // A missing section has no entries, and other keys are ignored.
+    ensures version_2 { site_file_in (codes "{\"version\":2}")
+        ≡ Ok no_records }
     ensures nothing { site_file_in (codes "{\"version\":1}")
         ≡ Ok no_records }
     ensures other_keys { site_file_in (codes "{\"version\":1,\"front\":0,\"x\":null}")
@@ -67,11 +69,33 @@ pub fn worked_site_files()
     ensures active_number { site_file_in (codes "{\"version\":1,\"active\":[\"once\",1]}")
         ≡ Err (ImportFault.BadImport (entry_of Section.Active 1)) }
 
+    // What the front shows: options after the others, in version 2 alone.
+    ensures front_page { site_file_in (codes "{\"version\":2,\"front\":{\"show\":\"page\",\"page\":7}}")
+        ≡ Ok (record no_records { options = (codes "show_on_front", codes "page") ∷ (codes "page_on_front", codes "7") ∷ [] }) }
+    ensures front_posts { site_file_in (codes "{\"version\":2,\"front\":{\"show\":\"posts\",\"page\":0}}")
+        ≡ Ok (record no_records { options = (codes "show_on_front", codes "posts") ∷ [] }) }
+    ensures front_after_options { site_file_in (codes "{\"version\":2,\"front\":{\"show\":\"posts\"},\"options\":{\"show_on_front\":\"page\",\"x\":\"1\"}}")
+        ≡ Ok (record no_records { options = (codes "show_on_front", codes "page") ∷ (codes "x", codes "1") ∷ (codes "show_on_front", codes "posts") ∷ [] }) }
+    ensures front_in_version_1 { site_file_in (codes "{\"version\":1,\"front\":{\"show\":\"page\",\"page\":7}}")
+        ≡ Ok no_records }
+    ensures front_x { site_file_in (codes "{\"version\":2,\"front\":{\"show\":\"x\"}}")
+        ≡ Err (ImportFault.BadImport (whole Section.Front)) }
+    ensures front_without_page { site_file_in (codes "{\"version\":2,\"front\":{\"show\":\"page\"}}")
+        ≡ Err (ImportFault.BadImport (whole Section.Front)) }
+    ensures front_page_0 { site_file_in (codes "{\"version\":2,\"front\":{\"show\":\"page\",\"page\":0}}")
+        ≡ Err (ImportFault.BadImport (whole Section.Front)) }
+    ensures null_front { site_file_in (codes "{\"version\":2,\"front\":null}")
+        ≡ Err (ImportFault.BadImport (whole Section.Front)) }
+
     // The first fault is that of the first section, wherever its key stands.
     ensures posts_before_options { site_file_in (codes "{\"version\":1,\"options\":0,\"posts\":0}")
         ≡ Err (ImportFault.BadImport (whole Section.Posts)) }
     ensures options_before_templates { site_file_in (codes "{\"version\":1,\"templates\":0,\"options\":0}")
         ≡ Err (ImportFault.BadImport (whole Section.Options)) }
+    ensures options_before_front { site_file_in (codes "{\"version\":2,\"front\":0,\"options\":0}")
+        ≡ Err (ImportFault.BadImport (whole Section.Options)) }
+    ensures front_before_templates { site_file_in (codes "{\"version\":2,\"templates\":0,\"front\":0}")
+        ≡ Err (ImportFault.BadImport (whole Section.Front)) }
     ensures templates_before_active { site_file_in (codes "{\"version\":1,\"active\":0,\"templates\":{\"x\":[]}}")
         ≡ Err (ImportFault.BadTemplate (entry_of Section.Templates 0)) }
 {}

@@ -25,9 +25,9 @@ status_of tree = option_and_then status_named (find.as_str tree)
 abbrev pub status_given : Data → Option (Option PostStatus)
 status_given tree = if_there status_of (find.get (codes "status") tree)
 
--- the ID of a post: a whole number from 1 to 2,147,483,647
-abbrev pub id_at : Data → Option ℕ
-id_at tree = whole_at (codes "id") 1 2147483647 tree
+-- the ID at a key: a whole number from 1 to 2,147,483,647
+abbrev pub id_at : List ℕ → Data → Option ℕ
+id_at key tree = whole_at key 1 2147483647 tree
 
 -- the name of an option: 1 to 64 bytes
 abbrev pub option_named : List ℕ → Option (List ℕ)

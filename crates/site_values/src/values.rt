@@ -76,11 +76,11 @@ pub fn status_given(value: &Value) -> Option<Option<PostStatus>>
     }
 }
 
-/// The ID at the key `id`: a whole number from 1 to 2,147,483,647, without fraction and exponent.
-pub fn id_at(value: &Value) -> Option<u32>
-    ensures { result ≡ id_at (view value.now) }
+/// The ID at a key: a whole number from 1 to 2,147,483,647, without fraction and exponent.
+pub fn id_at(value: &Value, key: &str) -> Option<u32>
+    ensures { result ≡ id_at key.now (view value.now) }
 {
-    let id = value.get("id")?.as_u64()?;
+    let id = value.get(key)?.as_u64()?;
     if (1..=MAX_ID).contains(&id) {
         Some(id as u32)
     } else {

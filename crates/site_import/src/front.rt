@@ -1,0 +1,79 @@
+//! What a site file says of the front.
+ghost use Rattle.std.specs.Prelude.{◌≡◌, ◌≢◌, Ok, Err, IfOk, IfErr, option_map};
+ghost use Rattle.serde_json.specs.View.{view};
+ghost use Rattle.site_import.specs.Walks.{section_of};
+ghost use Rattle.site_import.specs.Front.{shown_in, options_for, front_of};
+
+use crate::fault::{ImportFault, Place, Section};
+use hook_changes::{Listed, Text};
+use itoa::Buffer;
+use serde_json::Value;
+use site_values::{id_at, text_at};
+use std::alloc::{AllocError, Global};
+
+/// What a front shows: posts, or the page with an ID.
+#[derive(Clone, Copy)]
+pub(crate) enum Shown {
+    Posts,
+    Page(u32),
+}
+
+fn read_shown(value: &Value) -> Option<Shown>
+    ensures { result ≡ shown_in (view value.now) }
+{
+    match text_at(value, "show")? {
+        "posts" => Some(Shown::Posts),
+        "page" => Some(Shown::Page(id_at(value, "page")?)),
+        _ => None,
+    }
+}
+
+/// The options that say what the front shows.
+fn options_for(alloc: Global, shown: Shown) -> Result<Listed<(Text, Text)>, ImportFault>
+    ensures ok { IfOk result (λ options. options ≡ options_for shown) }
+    ensures err { IfErr result (λ fault. fault ≡ ImportFault.OutOfMemory) }
+{
+    let mut options = Listed::empty(alloc);
+    match shown {
+        Shown::Posts => options.push(option(alloc, "show_on_front", "posts")?)?,
+        Shown::Page(id) => {
+            options.push(option(alloc, "show_on_front", "page")?)?;
+            options.push(option(alloc, "page_on_front", Buffer::new().format(id))?)?;
+        }
+    }
+    Ok(options)
+}
+
+fn option(alloc: Global, name: &str, value: &str) -> Result<(Text, Text), AllocError>
+    ensures { IfOk result (λ option. option ≡ (name.now, value.now)) }
+{
+    Ok((Text::copied(alloc, name)?, Text::copied(alloc, value)?))
+}
+
+#[tactic(auto, unfolding(crate::specs::Front::front_of))]
+fn read_section(alloc: Global, value: &Value) -> Result<Listed<(Text, Text)>, ImportFault>
+    ensures ok { IfOk result (λ options. front_of (view value.now) ≡ Ok options) }
+    ensures err { IfErr result (λ fault. fault ≢ ImportFault.OutOfMemory
+        → front_of (view value.now) ≡ Err fault) }
+{
+    let Some(shown) = read_shown(value) else {
+        return Err(ImportFault::BadImport(Place::whole(Section::Front)));
+    };
+    options_for(alloc, shown)
+}
+
+/// The section of a site file's object, which may be missing, as the options that it sets.
+pub(crate) fn read_front(
+    alloc: Global,
+    found: Option<&Value>,
+) -> Result<Listed<(Text, Text)>, ImportFault>
+    ensures ok { IfOk result (λ options. section_of front_of (option_map (λ v. view v.now) found.entry)
+        ≡ Ok options) }
+    ensures err { IfErr result (λ fault. fault ≢ ImportFault.OutOfMemory
+        → section_of front_of (option_map (λ v. view v.now) found.entry) ≡ Err fault) }
+{
+    match found {
+        Some(value) => read_section(alloc, value),
+        None => Ok(Listed::empty(alloc)),
+    }
+}
