@@ -5,8 +5,14 @@ use hook_changes::Listed;
 /// The kind of what is found, by which its template is chosen (Theme Handbook, Template Hierarchy).
 #[derive(Clone, Copy, PartialEq, Eq)]
 pub enum FoundKind {
+    /// A front that lists posts, unless it is a `Home`.
     Front,
+    /// A front that shows a page.
+    FrontPage,
+    /// A front that lists posts while the option `show_on_front` is `page`.
+    Home,
     Single,
+    /// A page that was asked for by its ID.
     Page,
     Month,
     NotFound,

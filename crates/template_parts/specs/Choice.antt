@@ -7,7 +7,9 @@ use Rattle.site_records.specs.declared.found.FoundKind.TheVariants as kind
 
 -- the templates for what was found, before `index` (Theme Handbook, Template Hierarchy)
 abbrev pub candidates : FoundKind → List (List ℕ)
-candidates kind.Front = codes "home" ∷ []
+candidates kind.Front = codes "front-page" ∷ codes "home" ∷ []
+candidates kind.FrontPage = codes "front-page" ∷ codes "page" ∷ codes "singular" ∷ []
+candidates kind.Home = codes "home" ∷ []
 candidates kind.Single = codes "single" ∷ codes "singular" ∷ []
 candidates kind.Page = codes "page" ∷ codes "singular" ∷ []
 candidates kind.Month = codes "date" ∷ codes "archive" ∷ []

@@ -9,6 +9,7 @@ mod page;
 mod place;
 mod settings;
 mod steps;
+mod worked;
 
 pub use choice::choose;
 pub use laws::{
@@ -18,3 +19,4 @@ pub use page::{Page, PageTurn};
 pub use page_escapes::escape_html as escape;
 pub use settings::Settings;
 pub use template_trees::{Element, Item, Node, Part, PostTag, Tag, Template};
+pub use worked::worked_choices;

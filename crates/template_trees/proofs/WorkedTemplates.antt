@@ -30,6 +30,10 @@ pub no_nodes : template_in (codes "404") (codes "[]") ≡ taken []
 unfolding computes
 no_nodes = refl
 
+pub front_page : template_in (codes "front-page") (codes "[]") ≡ taken []
+unfolding computes
+front_page = refl
+
 pub part : template_in (codes "header")
     (codes "[\"H\",{\"tag\":\"post_date\"},{\"action\":\"mine\"}]")
     ≡ taken (plain (Item.Text (codes "H")) ∷ plain (Item.Tag (Tag.OfPost PostTag.PostDate))

@@ -49,7 +49,7 @@ part_named name =
 -- the templates of whole pages (Theme Handbook, Template Hierarchy)
 abbrev pub page_templates : List (List ℕ)
 page_templates =
-    codes "index" ∷ codes "home" ∷ codes "single" ∷ codes "page"
+    codes "index" ∷ codes "home" ∷ codes "front-page" ∷ codes "single" ∷ codes "page"
     ∷ codes "singular" ∷ codes "date" ∷ codes "archive" ∷ codes "404" ∷ []
 
 -- whether it is the name of a part

@@ -13,7 +13,15 @@ pub fn is_template_name(name: &str) -> bool
 {
     let is_of_a_page = matches!(
         name,
-        "index" | "home" | "single" | "page" | "singular" | "date" | "archive" | "404"
+        "index"
+            | "home"
+            | "front-page"
+            | "single"
+            | "page"
+            | "singular"
+            | "date"
+            | "archive"
+            | "404"
     );
     is_of_a_page || is_part_name(name)
 }

@@ -16,6 +16,7 @@ pub fn worked_templates()
         ++ codes "{\"tag\":\"the_content\"}],\"else\":[\"<p>Nothing found.</p>\"]},{\"tag\":\"wp_footer\"}]")
         ≡ taken default_index }
     ensures no_nodes { template_in (codes "404") (codes "[]") ≡ taken [] }
+    ensures front_page { template_in (codes "front-page") (codes "[]") ≡ taken [] }
 
     // A part holds texts, tags and actions.
     ensures part { template_in (codes "header")

@@ -5,6 +5,7 @@ pub returns : goal.returns
 returns c = record {
   default = computed.default;
   no_nodes = computed.no_nodes;
+  front_page = computed.front_page;
   part = computed.part;
   part_in_a_page = computed.part_in_a_page;
   part_in_a_part = computed.part_in_a_part;
