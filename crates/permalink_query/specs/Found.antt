@@ -1,6 +1,6 @@
 -- Which posts a query finds.
-use Rattle.std.specs.Prelude.{Bool, true, false, not, ℕ, ◌-◌, ◌*◌, ◌&&◌, nat_le, take, drop, if◌then◌else◌, List, [], ◌∷◌, filter, find, codes, Option, Some, None, option_and_then, option_map, unwrap_or}
-use Rattle.std.specs.Option.{option_to_list}
+use Rattle.std.specs.Prelude.{Bool, true, false, not, ℕ, ◌-◌, ◌*◌, ◌&&◌, ◌||◌, nat_le, take, drop, if◌then◌else◌, List, [], ◌∷◌, filter, find, codes, Option, Some, None, is_some, option_and_then, option_map, unwrap_or}
+use Rattle.std.specs.Option.{option_to_list, option_map_or}
 use Rattle.std.specs.Str.{bytes_eq}
 use Rattle.site_records.specs.declared.post.Post.{Post}
 use Rattle.site_records.specs.declared.post.PostKind.{PostKind}
@@ -14,7 +14,7 @@ use Rattle.permalink_query.specs.declared.query.Query.{Query}
 use Rattle.permalink_query.specs.declared.query.Query.TheVariants as query
 use Rattle.site_records.specs.declared.found.Found.{Found}
 use Rattle.site_records.specs.declared.found.FoundKind.{FoundKind}
-use Rattle.site_records.specs.declared.found.FoundKind.TheVariants.{Front, Single, Page, Month, NotFound}
+use Rattle.site_records.specs.declared.found.FoundKind.TheVariants.{Front, FrontPage, Home, Single, Page, Month, NotFound}
 
 -- the first option of a name counts (get_option)
 abbrev pub option_value : Text → List (Text × Text) → Option Text
@@ -59,20 +59,45 @@ abbrev pub unless_empty : FoundKind → List Post → Found
 unless_empty kind [] = nothing
 unless_empty kind (p ∷ ps) = showing kind (p ∷ ps)
 
--- the front is found also without posts, at its first part alone (class WP, handle_404)
-abbrev pub front_of : ℕ → List Post → Found
-front_of part posts = if nat_le part 1 then showing Front posts else unless_empty Front posts
+-- whether the front is to show a page (option show_on_front)
+abbrev pub fronts_a_page : List (Text × Text) → Bool
+fronts_a_page options = option_map_or (λ value. bytes_eq value (codes "page")) (option_value (codes "show_on_front") options) false
 
--- a query that finds nothing whatever a site has: no post or page is asked for, or the calendar has no such month
-abbrev pub is_void : Query → Bool
-is_void query.Nothing = true
-is_void (query.Month year month part) = not (is_month year month)
-is_void _ = false
+-- a number other than 0
+abbrev pub page_number : Text → Option ℕ
+page_number value = option_and_then (λ n. if nat_le 1 n then Some n else None) (whole_number value)
+
+-- the ID of the page that the front shows, unless it lists posts (option page_on_front)
+abbrev pub page_on_front : List (Text × Text) → Option ℕ
+page_on_front options =
+    if fronts_a_page options then option_and_then page_number (option_value (codes "page_on_front") options) else None
+
+-- the kind of a front that lists posts (is_home, is_front_page)
+abbrev pub list_kind : List (Text × Text) → FoundKind
+list_kind options = if fronts_a_page options then Home else Front
+
+-- a front that lists posts is found also without any, at its first part alone (class WP, handle_404)
+abbrev pub front_of : FoundKind → ℕ → List Post → Found
+front_of kind part posts = if nat_le part 1 then showing kind posts else unless_empty kind posts
+
+-- a front that lists posts: of a part that is no number it has none
+abbrev pub listed_front : List Post → List (Text × Text) → Option ℕ → Found
+listed_front posts options part =
+    option_map_or (λ n. front_of (list_kind options) n (part_of_posts (posts_per_page options) n (published_posts posts)))
+    part nothing
+
+-- a query that finds nothing whatever posts a site has: for nothing, for a month that the calendar doesn't have, or, if the
+-- front lists posts, for a part of it that is no number
+abbrev pub is_void : List (Text × Text) → Query → Bool
+is_void options query.Nothing = true
+is_void options (query.Front part) = not (is_some (page_on_front options) || is_some part)
+is_void options (query.Month year month part) = not (is_month year month)
+is_void options _ = false
 
 -- what a site's posts and options have for a query (class WP_Query)
 abbrev pub found : List Post → List (Text × Text) → Query → Found
 found posts options (query.Front part) =
-    front_of part (part_of_posts (posts_per_page options) part (published_posts posts))
+    option_map_or (λ id. unless_empty FrontPage (published_with OfPage id posts)) (page_on_front options) (listed_front posts options part)
 found posts options (query.Single id) = unless_empty Single (published_with OfPost id posts)
 found posts options (query.Page id) = unless_empty Page (published_with OfPage id posts)
 found posts options (query.Month year month part) =

@@ -24,7 +24,7 @@ last_value name pairs = option_map (λ p. p.1) (find (λ p. bytes_eq p.0 name) (
 abbrev pub part_number : Text → Option ℕ
 part_number text = option_map (λ n. max n 1) (whole_number text)
 
--- without `paged` it is the first part
+-- without `paged` it is the first part, and there is none if `paged` is no number
 abbrev pub part_of : Option Text → Option ℕ
 part_of paged = option_map_or part_number paged (Some 1)
 
@@ -39,7 +39,7 @@ query_by pairs =
     option_map_or (λ id. asks Single (whole_number id)) (last_value (codes "p") pairs)
     (option_map_or (λ id. asks Page (whole_number id)) (last_value (codes "page_id") pairs)
     (option_map_or (λ month. asks (λ m. asks (Month m.0 m.1) part) (year_and_month month)) (last_value (codes "m") pairs)
-    (asks Front part)))
+    (Front part)))
 
 -- a path is the script's up to its first `?`, and a form's pairs after it (URL Standard, application/x-www-form-urlencoded parsing)
 abbrev pub query_of : Text → Query

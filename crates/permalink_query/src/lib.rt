@@ -13,4 +13,4 @@ pub use fault::FindFault;
 pub use lookup::find;
 pub use query::{Query, read};
 pub use site_records::{Found, FoundKind};
-pub use worked::{worked_finds, worked_queries};
+pub use worked::{worked_finds, worked_fronts, worked_queries};

@@ -30,7 +30,11 @@ ghost use Rattle.permalink_query.specs.Found.{
   posts_of_month,
   published_with,
   unless_empty,
+  fronts_a_page,
+  page_on_front,
+  list_kind,
   front_of,
+  listed_front,
   nothing,
   is_void,
   found,
@@ -50,11 +54,13 @@ use std::alloc::{AllocError, Global};
 const DEFAULT_SIZE: u32 = 10;
 
 /// What a site has for a query: published posts and pages alone, and of a list the part that the
-/// query names, newest first (class WP_Query). A part has as many posts as the first option named
-/// `posts_per_page` says, if that is a number from 1 to 100, and else 10. Nothing is found if
-/// there is no such post or page, and if a part is empty, but for the first part of the front.
-/// A month that the calendar doesn't have finds nothing. It is refused on allocation failure, or by the
-/// limit on the steps of a statement, and not at all if there is nothing to look for.
+/// query names, newest first (class WP_Query). A part has as many posts as the option `posts_per_page`
+/// says, if that is a number from 1 to 100, and else 10. If the option `show_on_front` is `page` and
+/// `page_on_front` a number other than 0, the front shows the page with that ID, whatever the part.
+/// Of options the first of a name counts. Nothing is found if there is no such post or page, and if a
+/// part is empty, but for the first part of a front that lists posts. A part of it that is no number
+/// finds nothing, and neither does a month that the calendar doesn't have. It is refused on allocation
+/// failure, or by the limit on the steps of a statement, and not at all if there is nothing to look for.
 pub fn find(
     alloc: Global,
     tables: &mut Tables,
@@ -64,13 +70,10 @@ pub fn find(
     ensures ok { IfOk result (λ f. f ≡ found tables.old.posts options.now query.now) }
     ensures same { tables.new ≡ tables.old }
     ensures err { IfErr result (IsFindFault tables.old.step_limit) }
-    ensures void { is_void query.now ≡ true → result ≡ Ok nothing }
+    ensures void { is_void options.now query.now ≡ true → result ≡ Ok nothing }
 {
     match *query {
-        Query::Front { part } => {
-            let posts = front_part(tables, posts_per_page(options), part)?;
-            Ok(front(alloc, part, posts))
-        }
+        Query::Front { part } => find_front(alloc, tables, options, part),
         Query::Single { id } => {
             let posts = published(alloc, tables, PostKind::Post, id)?;
             Ok(unless_empty(alloc, FoundKind::Single, posts))
@@ -83,6 +86,48 @@ pub fn find(
             find_month(alloc, tables, options, year, month, part)
         }
         Query::Nothing => Ok(nothing(alloc)),
+    }
+}
+
+/// The page that the front shows, or else a part of all posts.
+fn find_front(
+    alloc: Global,
+    tables: &mut Tables,
+    options: &[(Text, Text)],
+    part: Option<u32>,
+) -> Result<Found, FindFault>
+    ensures ok { IfOk result (λ f. f ≡ found tables.old.posts options.now (Query.Front part)) }
+    ensures same { tables.new ≡ tables.old }
+    ensures err { IfErr result (IsFindFault tables.old.step_limit) }
+    ensures void { is_void options.now (Query.Front part) ≡ true → result ≡ Ok nothing }
+{
+    match page_on_front(options) {
+        Some(id) => {
+            let posts = published(alloc, tables, PostKind::Page, id)?;
+            Ok(unless_empty(alloc, FoundKind::FrontPage, posts))
+        }
+        None => list_front(alloc, tables, options, part),
+    }
+}
+
+/// A part of all posts, or nothing if the part is no number.
+fn list_front(
+    alloc: Global,
+    tables: &mut Tables,
+    options: &[(Text, Text)],
+    part: Option<u32>,
+) -> Result<Found, FindFault>
+    ensures ok { IfOk result (λ f. f ≡ listed_front tables.old.posts options.now part) }
+    ensures same { tables.new ≡ tables.old }
+    ensures err { IfErr result (IsFindFault tables.old.step_limit) }
+    ensures void { is_some part ≡ false → result ≡ Ok nothing }
+{
+    match part {
+        Some(part) => {
+            let posts = front_part(tables, posts_per_page(options), part)?;
+            Ok(front(alloc, list_kind(options), part, posts))
+        }
+        None => Ok(nothing(alloc)),
     }
 }
 
@@ -210,17 +255,17 @@ fn if_published(
     Ok(posts)
 }
 
-fn front(alloc: Global, part: u32, posts: Listed<Post>) -> Found
-    ensures { result ≡ front_of part posts }
+fn front(alloc: Global, kind: FoundKind, part: u32, posts: Listed<Post>) -> Found
+    ensures { result ≡ front_of kind part posts }
 {
     if part <= 1 {
         Found {
-            kind: FoundKind::Front,
+            kind,
             posts,
             status: 200,
         }
     } else {
-        unless_empty(alloc, FoundKind::Front, posts)
+        unless_empty(alloc, kind, posts)
     }
 }
 
@@ -257,6 +302,37 @@ fn posts_per_page(options: &[(Text, Text)]) -> u32
         Some(size) if (1..=100).contains(&size) => size,
         _ => DEFAULT_SIZE,
     }
+}
+
+/// The ID of the page that the front shows, if it shows one.
+fn page_on_front(options: &[(Text, Text)]) -> Option<u32>
+    ensures { result ≡ page_on_front options.now }
+{
+    if !fronts_a_page(options) {
+        return None;
+    }
+    match option_value(options, "page_on_front").and_then(whole_number) {
+        Some(id) if id > 0 => Some(id),
+        _ => None,
+    }
+}
+
+/// The kind of a front that lists posts.
+fn list_kind(options: &[(Text, Text)]) -> FoundKind
+    ensures { result ≡ list_kind options.now }
+{
+    if fronts_a_page(options) {
+        FoundKind::Home
+    } else {
+        FoundKind::Front
+    }
+}
+
+/// Whether the front is to show a page.
+fn fronts_a_page(options: &[(Text, Text)]) -> bool
+    ensures { result ≡ fronts_a_page options.now }
+{
+    matches!(option_value(options, "show_on_front"), Some("page"))
 }
 
 /// The first value of an option.

@@ -24,8 +24,9 @@ use std::borrow::CowStr;
 /// What a request asks for (class WP_Query). Parts are counted from 1; part 0 is the first too.
 #[derive(Clone, Copy, PartialEq, Eq)]
 pub enum Query {
-    /// A part of all posts, newest first.
-    Front { part: u32 },
+    /// The page that the site has at its front, or else a part of all posts, newest first. The part is `None` if
+    /// `paged` is no number, which finds nothing if posts are listed.
+    Front { part: Option<u32> },
     /// One post.
     Single { id: u32 },
     /// One page.
@@ -40,7 +41,7 @@ pub enum Query {
 /// (URL Standard, `application/x-www-form-urlencoded`). The first of `p`, `page_id` and `m` that is
 /// there decides alone, by its last value; `paged` counts with `m` and with the front, which is
 /// asked for if none of the three is there. Any other path asks for nothing, and so does a value
-/// that is not of its form. It fails only if memory runs out.
+/// that is not of its form, but for `paged` with the front. It fails only if memory runs out.
 pub fn read(alloc: Global, path: &str) -> Result<Query, AllocError>
     ensures { IfOk result (λ query. query ≡ query_of path.now) }
 {
@@ -76,12 +77,12 @@ fn read_list(alloc: Global, form: &str) -> Result<Query, AllocError>
     ensures { IfOk result (λ query. query ≡
         let part = part_of (last_value (codes "paged") (parse form.now)) in
         option_map_or (λ month. asks (λ m. asks (Query.Month m.0 m.1) part) (year_and_month month))
-        (last_value (codes "m") (parse form.now)) (asks Query.Front part)) }
+        (last_value (codes "m") (parse form.now)) (Query.Front part)) }
 {
     let part = read_part(alloc, form)?;
     match last_value(alloc, form, "m")? {
         Some(text) => Ok(month(text.as_str(), part)),
-        None => Ok(front(part)),
+        None => Ok(Query::Front { part }),
     }
 }
 
@@ -109,15 +110,6 @@ fn month(text: &str, part: Option<u32>) -> Query
     match (year_and_month(text), part) {
         (Some((year, month)), Some(part)) => Query::Month { year, month, part },
         _ => Query::Nothing,
-    }
-}
-
-fn front(part: Option<u32>) -> Query
-    ensures { result ≡ asks Query.Front part }
-{
-    match part {
-        Some(part) => Query::Front { part },
-        None => Query::Nothing,
     }
 }
 

@@ -1,5 +1,5 @@
 //! Worked queries that are theorems: each clause below is computed from the definitions.
-ghost use Rattle.std.specs.Prelude.{◌≡◌, codes, [], ◌∷◌, true, false};
+ghost use Rattle.std.specs.Prelude.{◌≡◌, codes, [], ◌∷◌, Some, None, true, false};
 ghost use Rattle.post_tables.specs.Worked.{monday, tuesday, wednesday, post, page, some_posts};
 ghost use Rattle.permalink_query.specs.Paths.{query_of};
 ghost use Rattle.permalink_query.specs.Found.{
@@ -7,25 +7,27 @@ ghost use Rattle.permalink_query.specs.Found.{
   showing,
   nothing,
   posts_per_page,
+  page_on_front,
   published_posts,
   part_of_posts,
 };
+ghost use Rattle.permalink_query.specs.Worked.{fronting};
 ghost use Rattle.permalink_query.specs.Months.{is_in_month};
 
 use crate::query::Query;
-use site_records::FoundKind;
+use site_records::{FoundKind, PostStatus};
 
 /// What some paths ask for. The call itself does nothing: it carries these facts.
 #[tactic(auto, unfolding(form_urlencoded::proofs::OnLiterals::form_urlencoded_on_literals))]
 pub fn worked_queries()
     // The front has two names, and any other path asks for nothing.
-    ensures front { query_of (codes "/") ≡ Query.Front 1 }
-    ensures empty_form { query_of (codes "/?") ≡ Query.Front 1 }
+    ensures front { query_of (codes "/") ≡ Query.Front (Some 1) }
+    ensures empty_form { query_of (codes "/?") ≡ Query.Front (Some 1) }
     ensures script { query_of (codes "/index.php?p=1") ≡ Query.Single 1 }
     ensures other_path { query_of (codes "/x") ≡ Query.Nothing }
     ensures no_path { query_of (codes "") ≡ Query.Nothing }
     ensures encoded_path { query_of (codes "%2F?p=1") ≡ Query.Nothing }
-    ensures other_name { query_of (codes "/?P=1&page=2") ≡ Query.Front 1 }
+    ensures other_name { query_of (codes "/?P=1&page=2") ≡ Query.Front (Some 1) }
 
     // Names and values are compared decoded, and only the first `?` cuts.
     ensures escaped { query_of (codes "/?%70=%31") ≡ Query.Single 1 }
@@ -60,9 +62,9 @@ pub fn worked_queries()
     ensures year_alone { query_of (codes "/?m=2024") ≡ Query.Nothing }
 
     // Parts count on lists alone.
-    ensures second_part { query_of (codes "/?paged=2") ≡ Query.Front 2 }
-    ensures part_0 { query_of (codes "/?paged=00") ≡ Query.Front 1 }
-    ensures no_part { query_of (codes "/?paged=") ≡ Query.Nothing }
+    ensures second_part { query_of (codes "/?paged=2") ≡ Query.Front (Some 2) }
+    ensures part_0 { query_of (codes "/?paged=00") ≡ Query.Front (Some 1) }
+    ensures no_part { query_of (codes "/?paged=") ≡ Query.Front None }
     ensures bad_part { query_of (codes "/?m=202405&paged=x") ≡ Query.Nothing }
     ensures part_of_a_post { query_of (codes "/?p=1&paged=x") ≡ Query.Single 1 }
     ensures part_of_a_page { query_of (codes "/?page_id=4&paged=2") ≡ Query.Page 4 }
@@ -71,11 +73,12 @@ pub fn worked_queries()
 /// What a site has for some queries: posts 1, 2, 5 and 6, the draft 3 and the page 4, all of May 2024.
 /// The call itself does nothing: it carries these facts.
 pub fn worked_finds()
-    ensures front { found some_posts [] (Query.Front 1) ≡ showing FoundKind.Front
+    ensures front { found some_posts [] (Query.Front (Some 1)) ≡ showing FoundKind.Front
         (post 2 wednesday ∷ post 6 tuesday ∷ post 5 monday ∷ post 1 monday ∷ []) }
-    ensures part_0 { found some_posts [] (Query.Front 0) ≡ found some_posts [] (Query.Front 1) }
-    ensures no_second_part { found some_posts [] (Query.Front 2) ≡ nothing }
-    ensures empty_front { found [] [] (Query.Front 1) ≡ showing FoundKind.Front [] }
+    ensures part_0 { found some_posts [] (Query.Front (Some 0)) ≡ found some_posts [] (Query.Front (Some 1)) }
+    ensures no_second_part { found some_posts [] (Query.Front (Some 2)) ≡ nothing }
+    ensures part_that_is_no_number { found some_posts [] (Query.Front None) ≡ nothing }
+    ensures empty_front { found [] [] (Query.Front (Some 1)) ≡ showing FoundKind.Front [] }
 
     ensures one_post { found some_posts [] (Query.Single 5)
         ≡ showing FoundKind.Single (post 5 monday ∷ []) }
@@ -102,10 +105,48 @@ pub fn worked_finds()
 
     // The first option of a name counts, if it is a number from 1 to 100.
     ensures two_by_two { found some_posts ((codes "posts_per_page", codes "2") ∷ [])
-        (Query.Front 2) ≡ showing FoundKind.Front (post 5 monday ∷ post 1 monday ∷ []) }
+        (Query.Front (Some 2)) ≡ showing FoundKind.Front (post 5 monday ∷ post 1 monday ∷ []) }
     ensures first_option { posts_per_page ((codes "posts_per_page", codes "3")
         ∷ (codes "posts_per_page", codes "4") ∷ []) ≡ 3 }
     ensures size_0 { posts_per_page ((codes "posts_per_page", codes "0") ∷ []) ≡ 10 }
     ensures size_101 { posts_per_page ((codes "posts_per_page", codes "101") ∷ []) ≡ 10 }
     ensures no_size { posts_per_page ((codes "posts_per_page", codes "all") ∷ []) ≡ 10 }
+{}
+
+/// What the front of a site with the posts above is: with the page 4 at its front, with an ID there that is no
+/// published page's, and with posts in place of a page. The call itself does nothing: it carries these facts.
+pub fn worked_fronts()
+    // The page is shown whatever the part, and asked for by its ID it is no front.
+    ensures page { found some_posts (fronting (codes "page") (codes "4")) (Query.Front (Some 1))
+        ≡ showing FoundKind.FrontPage (page 4 tuesday ∷ []) }
+    ensures second_part { found some_posts (fronting (codes "page") (codes "4")) (Query.Front (Some 2))
+        ≡ showing FoundKind.FrontPage (page 4 tuesday ∷ []) }
+    ensures no_number { found some_posts (fronting (codes "page") (codes "4")) (Query.Front None)
+        ≡ showing FoundKind.FrontPage (page 4 tuesday ∷ []) }
+    ensures by_its_id { found some_posts (fronting (codes "page") (codes "4")) (Query.Page 4)
+        ≡ showing FoundKind.Page (page 4 tuesday ∷ []) }
+    ensures leading_zeros { page_on_front (fronting (codes "page") (codes "0000000004")) ≡ Some 4 }
+
+    // Nothing is found if there is no published page with that ID: another ID, a post, a draft.
+    ensures no_such_id { found some_posts (fronting (codes "page") (codes "99")) (Query.Front (Some 1)) ≡ nothing }
+    ensures no_post { found some_posts (fronting (codes "page") (codes "5")) (Query.Front (Some 1)) ≡ nothing }
+    ensures no_draft { found (record (page 4 tuesday) { status = PostStatus.Draft } ∷ [])
+        (fronting (codes "page") (codes "4")) (Query.Front (Some 1)) ≡ nothing }
+
+    // Posts are listed if one of the two options doesn't say which page.
+    ensures posts { found some_posts (fronting (codes "posts") (codes "4")) (Query.Front (Some 1))
+        ≡ found some_posts [] (Query.Front (Some 1)) }
+    ensures other_text { found some_posts (fronting (codes "Page") (codes "4")) (Query.Front (Some 1))
+        ≡ found some_posts [] (Query.Front (Some 1)) }
+    ensures page_x { found some_posts (fronting (codes "page") (codes "x")) (Query.Front (Some 1))
+        ≡ showing FoundKind.Home
+        (post 2 wednesday ∷ post 6 tuesday ∷ post 5 monday ∷ post 1 monday ∷ []) }
+    ensures page_0 { page_on_front (fronting (codes "page") (codes "00")) ≡ None }
+    ensures no_text { page_on_front (fronting (codes "page") []) ≡ None }
+    ensures too_great { page_on_front (fronting (codes "page") (codes "2147483648")) ≡ None }
+    ensures no_page { found [] ((codes "show_on_front", codes "page") ∷ []) (Query.Front (Some 1))
+        ≡ showing FoundKind.Home [] }
+    ensures no_part { found [] ((codes "show_on_front", codes "page") ∷ []) (Query.Front None) ≡ nothing }
+    ensures first_option { page_on_front ((codes "show_on_front", codes "posts")
+        ∷ fronting (codes "page") (codes "4")) ≡ None }
 {}
