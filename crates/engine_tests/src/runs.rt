@@ -13,8 +13,8 @@ use std::alloc::{AllocError, Global};
 /// What a run answers.
 pub type Answer = Result<&'static str, RunFault>;
 
-/// What a run is over: whether the bundle's plugins are there, other plugins, the names of the active ones, and how many
-/// calls it has.
+/// What a run is over: whether the bundle's plugins are there, other plugins, the names of the active ones, and how
+/// many calls it has.
 #[derive(Clone, Copy)]
 pub struct Setting<'a>(pub bool, pub &'a [Given<'a>], pub &'a [&'a str], pub u32);
 
