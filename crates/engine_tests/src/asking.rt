@@ -1,12 +1,12 @@
 //! Test callbacks that ask, and one that shows what it is called with.
-ghost use Rattle.std.specs.Prelude.{◌≡◌, IfOk};
+ghost use Rattle.std.specs.Prelude.{◌≡◌, ◌++◌, IfOk};
 ghost use Rattle.hook_changes.specs.declared.reply.Ask.{Ask};
 ghost use Rattle.hook_machine.specs.Meaning.{first_or_empty};
-ghost use Rattle.engine_tests.specs.Asking.{second_or_empty, after_two, shown, deeper_ask, first_ask};
-ghost use Rattle.engine_tests.specs.Asking.{next_ask, last_shown, asks_or_shows, listed, shows, asking};
+ghost use Rattle.engine_tests.specs.Asking.{after_one, second_or_empty, deeper_hook, plain_ask};
+ghost use Rattle.engine_tests.specs.Asking.{shown, first_ask, listed, shows, asks_or_shows, asking};
 
 use crate::callbacks::first_argument;
-use hook_changes::{Answer, Ask, Call, CallbackId, Listed, Reply, Text, Then};
+use hook_changes::{Answer, Ask, Call, CallbackId, Listed, Reply, Text};
 use std::alloc::{AllocError, Global};
 
 /// The reply of the callback with this number, one of those that ask or show.
@@ -16,8 +16,7 @@ pub fn asking(alloc: Global, number: u32, call: &Call) -> Result<Reply, AllocErr
     if number == 207 {
         return shows(alloc, call.args.as_slice());
     }
-    let ask = next_ask(alloc, number, call)?;
-    asks_or_shows(alloc, ask, call.answers.as_slice())
+    asks_or_shows(alloc, number, call)
 }
 
 /// Prints and answers the arguments.
@@ -26,11 +25,7 @@ fn shows(alloc: Global, args: &[Text]) -> Result<Reply, AllocError>
 {
     let echo = listed(alloc, args)?;
     let text = echo.clone()?;
-    Ok(Reply {
-        changes: Listed::empty(alloc),
-        echo,
-        next: Then::Answer(text),
-    })
+    Ok(Reply::answer(alloc, text).with_echo(echo))
 }
 
 /// The arguments, each with a semicolon after it.
@@ -46,27 +41,17 @@ fn listed(alloc: Global, args: &[Text]) -> Result<Text, AllocError>
 }
 
 /// Asks, or else answers what it was told last.
-fn asks_or_shows(alloc: Global, ask: Option<Ask>, answers: &[Answer]) -> Result<Reply, AllocError>
-    ensures { IfOk result (λ reply. reply ≡ asks_or_shows ask answers.now) }
+fn asks_or_shows(alloc: Global, number: u32, call: &Call) -> Result<Reply, AllocError>
+    ensures { IfOk result (λ reply. reply ≡ asks_or_shows number call.now.args call.now.answers) }
 {
-    let next = match ask {
-        Some(ask) => Then::Ask(ask),
-        None => Then::Answer(last_shown(alloc, answers)?),
+    let ask = match call.answers.as_slice() {
+        [] => first_ask(alloc, number, call)?,
+        [_] if number == 208 => Ask::Doing {
+            hook: Text::copied(alloc, second_argument(call))?,
+        },
+        [told] | [_, told, ..] => return Ok(Reply::answer(alloc, shown(alloc, told)?)),
     };
-    Ok(Reply {
-        changes: Listed::empty(alloc),
-        echo: Text::empty(alloc),
-        next,
-    })
-}
-
-fn last_shown(alloc: Global, answers: &[Answer]) -> Result<Text, AllocError>
-    ensures { IfOk result (λ text. text ≡ last_shown answers.now) }
-{
-    match answers {
-        [] => Ok(Text::empty(alloc)),
-        [told] | [_, told, ..] => shown(alloc, told),
-    }
+    Ok(Reply::ask(alloc, ask))
 }
 
 fn shown(alloc: Global, answer: &Answer) -> Result<Text, AllocError>
@@ -81,72 +66,79 @@ fn shown(alloc: Global, answer: &Answer) -> Result<Text, AllocError>
     }
 }
 
-fn next_ask(alloc: Global, number: u32, call: &Call) -> Result<Option<Ask>, AllocError>
-    ensures { IfOk result (λ ask. ask ≡ next_ask number call.now.args call.now.answers) }
-{
-    match call.answers.as_slice() {
-        [] => Ok(Some(first_ask(alloc, number, call)?)),
-        [_] if number == 208 => Ok(Some(Ask::Doing {
-            hook: Text::copied(alloc, second_argument(call))?,
-        })),
-        _ => Ok(None),
-    }
-}
-
 /// What is asked first: of the hook that the second argument names, with the further arguments.
 fn first_ask(alloc: Global, number: u32, call: &Call) -> Result<Ask, AllocError>
     ensures { IfOk result (λ ask. ask ≡ first_ask number call.now.args) }
 {
-    let hook = Text::copied(alloc, second_argument(call))?;
-    let callback = CallbackId::new(207);
+    let value = first_argument(call);
+    let name = second_argument(call);
     match number {
-        201 => filter_ask(alloc, hook, call),
-        202 | 208 => Ok(Ask::Act {
-            hook,
-            args: copies(alloc, after_two(call))?,
-        }),
+        201 => filter_ask(
+            alloc,
+            name,
+            value,
+            "",
+            after_one(after_one(call.args.as_slice())),
+        ),
+        209 => filter_ask(
+            alloc,
+            deeper_hook(value, name),
+            value,
+            "x",
+            after_one(call.args.as_slice()),
+        ),
+        _ => plain_ask(
+            alloc,
+            number,
+            name,
+            after_one(after_one(call.args.as_slice())),
+        ),
+    }
+}
+
+/// Asks for a filter of a value with some letters after it.
+fn filter_ask(
+    alloc: Global,
+    hook: &str,
+    value: &str,
+    letters: &str,
+    args: &[Text],
+) -> Result<Ask, AllocError>
+    ensures { IfOk result (λ ask. ask ≡ Ask.Apply hook.now (value.now ++ letters.now) args.now) }
+{
+    let args = copies(alloc, args)?;
+    let value = Text::new(format!(in alloc; "{value}{letters}")?);
+    let hook = Text::copied(alloc, hook)?;
+    Ok(Ask::Apply { hook, value, args })
+}
+
+fn plain_ask(alloc: Global, number: u32, hook: &str, args: &[Text]) -> Result<Ask, AllocError>
+    ensures { IfOk result (λ ask. ask ≡ plain_ask number hook.now args.now) }
+{
+    let hook = Text::copied(alloc, hook)?;
+    match number {
         203 => Ok(Ask::Has {
             hook,
             callback: None,
         }),
         204 => Ok(Ask::Has {
             hook,
-            callback: Some(callback),
+            callback: Some(CallbackId::new(207)),
         }),
         205 => Ok(Ask::Doing { hook }),
         206 => Ok(Ask::Did { hook }),
-        _ => deeper_ask(alloc, first_argument(call), hook),
-    }
-}
-
-fn filter_ask(alloc: Global, hook: Text, call: &Call) -> Result<Ask, AllocError>
-    ensures { IfOk result (λ ask. ask ≡ Ask.Apply hook (first_or_empty call.now.args) (after_two call.now.args)) }
-{
-    let value = Text::copied(alloc, first_argument(call))?;
-    let args = copies(alloc, after_two(call))?;
-    Ok(Ask::Apply { hook, value, args })
-}
-
-/// One level deeper with a longer value, up to 32 bytes, and then the hook that is named.
-fn deeper_ask(alloc: Global, value: &str, hook: Text) -> Result<Ask, AllocError>
-    ensures { IfOk result (λ ask. ask ≡ deeper_ask value.now hook) }
-{
-    let mut longer = Text::copied(alloc, value)?;
-    let mut args = Listed::empty(alloc);
-    if value.len() >= 32 {
-        return Ok(Ask::Apply {
+        _ => Ok(Ask::Act {
             hook,
-            value: longer,
-            args,
-        });
+            args: copies(alloc, args)?,
+        }),
     }
-    longer.push_str("x")?;
-    args.push(hook)?;
-    Ok(Ask::Apply {
-        hook: Text::copied(alloc, "the_title")?,
-        value: longer,
-        args,
-    })
+}
+
+/// The title's own hook while the value is shorter than 32 bytes, and then the hook that is named.
+fn deeper_hook<'a>(value: &str, name: &'a str) -> &'a str
+    ensures { result.now ≡ deeper_hook value.now name.now }
+{
+    if value.len() < 32 { "the_title" } else { name }
 }
 
 fn second_argument(call: &Call) -> &str
@@ -158,17 +150,17 @@ fn second_argument(call: &Call) -> &str
     }
 }
 
-fn after_two(call: &Call) -> &[Text]
-    ensures { result.now ≡ after_two call.entry.now.args }
+fn after_one(args: &[Text]) -> &[Text]
+    ensures { result.now ≡ after_one args.entry.now }
 {
-    match call.args.as_slice() {
-        [_, _, more @ ..] => more,
+    match args {
+        [_, more @ ..] => more,
         _ => &[],
     }
 }
 
 /// Copies of the texts.
-pub fn copies(alloc: Global, texts: &[Text]) -> Result<Listed<Text>, AllocError>
+fn copies(alloc: Global, texts: &[Text]) -> Result<Listed<Text>, AllocError>
     ensures { IfOk result (λ copies. copies ≡ texts.now) }
 {
     let mut copies = Listed::empty(alloc);

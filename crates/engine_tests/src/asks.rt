@@ -1,16 +1,10 @@
 //! Asks with arguments, of hooks that have callbacks and of texts that are no hook's name, each worked out from the
 //! rules.
-ghost use Rattle.hook_machine.specs.Runs.{CanBegin, IsReady};
-
-use crate::callbacks::Tested;
 use crate::names::{LONGEST, TOO_LONG};
-use crate::passes::texts;
-use crate::plugins::{Given, Hook, Load, plugins};
+use crate::plugins::{Given, Hook, Load};
+use crate::runs::{Setting, Step, are_answered};
 use Load::{No, On};
-use callback_store::Plugins;
-use content_cache::PieceCache;
-use hook_changes::{Listed, Text};
-use hook_machine::{Run, RunFault};
+use hook_machine::RunFault;
 use std::alloc::Global;
 
 /// What the plugin's load list adds, the value and the further arguments of a pass of the filter `the_title`, what it
@@ -45,13 +39,16 @@ const DID: Load = On(Hook::Title, 20, 206, 16);
 /// Fires an action, and then asks whether its hook runs.
 const ACTS_THEN_DOING: Load = On(Hook::Title, 10, 208, 16);
 
-/// Asks what its own hook makes of the value with one byte more, up to 32 bytes, and then what the named one makes of
-/// it.
+/// Asks what its own hook makes of the value with one byte more while it is shorter than 32 bytes, and then what the
+/// named one makes of it with one byte more.
 const DEEPER: Load = On(Hook::Title, 10, 209, 16);
 
-const XS: &str = "xxxxxxxxxxxxxxxxxxxxxxxxxxxxxxxx";
+/// The callbacks that ask, and the one that shows.
+static NUMBERS: [u32; 9] = [201, 202, 203, 204, 205, 206, 207, 208, 209];
 
-const _: () = prove!(XS.len() == 32);
+const XS: &str = "xxxxxxxxxxxxxxxxxxxxxxxxxxxxxxxxx";
+
+const _: () = prove!(XS.len() == 33);
 
 /// Asks for a filter and for an action: their callbacks get the arguments that they accept.
 static PASSES: [Case; 13] = [
@@ -287,75 +284,18 @@ static NAMES: [Case; 16] = [
 ];
 
 fn is_run(alloc: Global, case: &Case) -> bool {
-    let given = Given(
-        "a-b",
-        &[201, 202, 203, 204, 205, 206, 207, 208, 209],
-        &case.0,
-    );
-    match plugins(alloc, &[given]) {
-        Ok(plugins) => is_run_over(alloc, &plugins, case),
-        Err(_) => false,
-    }
-}
-
-fn is_run_over(alloc: Global, plugins: &Plugins<Tested>, case: &Case) -> bool {
-    let Ok(active) = texts(alloc, &["a-b"]) else {
-        return false;
-    };
-    match texts(alloc, case.2) {
-        Ok(args) => runs(alloc, plugins, active.as_slice(), &args, case),
-        Err(_) => false,
-    }
-}
-
-fn runs(
-    alloc: Global,
-    plugins: &Plugins<Tested>,
-    active: &[Text],
-    args: &Listed<Text>,
-    case: &Case,
-) -> bool {
-    let Ok(mut cache) = PieceCache::new(alloc, 1) else {
-        return false;
-    };
-    match Run::new(alloc, plugins, active, &[], 100) {
-        Ok(mut run) => {
-            let is_answered = run.load().is_ok()
-                && is_answered(alloc, &mut run, args, case, &mut cache);
-            run.end();
-            is_answered
-        }
-        Err(_) => false,
-    }
-}
-
-/// Whether the filter answers so and prints so.
-fn is_answered(
-    alloc: Global,
-    run: &mut Run<'_, Tested>,
-    args: &Listed<Text>,
-    case: &Case,
-    cache: &mut PieceCache,
-) -> bool
-    requires { CanBegin run.old }
-{
-    let Ok(value) = Text::copied(alloc, case.1) else {
-        return false;
-    };
-    match run.apply_filters("the_title", value, args, cache) {
-        Ok(text) => case.3 == Ok(text.as_str()) && is_printed(run, case.4),
-        Err(fault) => case.3 == Err(fault),
-    }
-}
-
-/// Whether that was printed.
-fn is_printed(run: &mut Run<'_, Tested>, wanted: &str) -> bool
-    requires { CanBegin run.old }
-{
-    match run.take_output() {
-        Ok(text) => text.as_str() == wanted,
-        Err(_) => false,
-    }
+    let given = [Given("a-b", &NUMBERS, &case.0)];
+    let steps = [
+        Step::Filters("the_title", case.1, case.2, case.3),
+        Step::Prints(case.4),
+    ];
+    // Nothing is printed by a run that was refused.
+    let count = if case.3.is_ok() { 2 } else { 1 };
+    are_answered(
+        alloc,
+        &Setting(false, &given, &["a-b"], 100),
+        &steps[..count],
+    )
 }
 
 #[test]
@@ -388,61 +328,24 @@ static PAGES: [(&str, &str, &str); 3] = [
 ];
 
 /// Whether a page's own passes over that name do so.
-fn is_named(alloc: Global, name: &str, answer: &str, printed: &str) -> bool {
+fn is_named(
+    alloc: Global,
+    name: &'static str,
+    answer: &'static str,
+    printed: &'static str,
+) -> bool {
     let load = [
         On(Hook::Longest, 10, 207, 16),
         On(Hook::TooLong, 10, 207, 16),
         On(Hook::Empty, 10, 207, 16),
     ];
-    match plugins(alloc, &[Given("a-b", &[207], &load)]) {
-        Ok(plugins) => is_named_over(alloc, &plugins, name, answer, printed),
-        Err(_) => false,
-    }
-}
-
-fn is_named_over(
-    alloc: Global,
-    plugins: &Plugins<Tested>,
-    name: &str,
-    answer: &str,
-    printed: &str,
-) -> bool {
-    let Ok(active) = texts(alloc, &["a-b"]) else {
-        return false;
-    };
-    let Ok(mut cache) = PieceCache::new(alloc, 1) else {
-        return false;
-    };
-    match Run::new(alloc, plugins, active.as_slice(), &[], 2) {
-        Ok(mut run) => {
-            let is_named = run.load().is_ok()
-                && is_passed(alloc, &mut run, name, answer, &mut cache)
-                && is_printed(&mut run, printed);
-            run.end();
-            is_named
-        }
-        Err(_) => false,
-    }
-}
-
-/// Whether the filter of that name answers so, and the action does what it does.
-fn is_passed(
-    alloc: Global,
-    run: &mut Run<'_, Tested>,
-    name: &str,
-    answer: &str,
-    cache: &mut PieceCache,
-) -> bool
-    requires { CanBegin run.old }
-    ensures { CanBegin run.new }
-{
-    let (Ok(value), Ok(args)) = (Text::copied(alloc, "v"), texts(alloc, &["p"])) else {
-        return false;
-    };
-    match run.apply_filters(name, value, &args, cache) {
-        Ok(text) => text.as_str() == answer && run.do_action(name, &args, cache).is_ok(),
-        Err(_) => false,
-    }
+    let given = [Given("a-b", &NUMBERS, &load)];
+    let steps = [
+        Step::Filters(name, "v", &["p"], Ok(answer)),
+        Step::Acts(name, &["p"]),
+        Step::Prints(printed),
+    ];
+    are_answered(alloc, &Setting(false, &given, &["a-b"], 2), &steps)
 }
 
 #[test]

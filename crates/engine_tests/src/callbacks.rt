@@ -1,14 +1,15 @@
 //! The test callbacks.
 ghost use Rattle.std.specs.Prelude.{◌≡◌, IfOk};
 ghost use Rattle.hook_machine.specs.Meaning.{first_or_empty};
-ghost use Rattle.engine_tests.specs.Tested.{tested, lettered, changes, letter};
+ghost use Rattle.engine_tests.specs.Tested.{tested, lettered, changes, climbs, next_priority, letter};
 
 use crate::asking::asking;
+use bundled_plugins::bundled_reply;
 use callback_store::Stated;
 use hook_changes::{Call, CallbackId, Change, Listed, Reply, Text, Then};
 use std::alloc::{AllocError, Global};
 
-/// A test callback, by its number.
+/// A callback, by its number: one of the bundle below 100, and else one of those made for tests.
 #[derive(Clone, Copy)]
 pub struct Tested {
     pub id: CallbackId,
@@ -27,6 +28,9 @@ impl Stated for Tested {
     #[tactic(auto, unfolding(crate::specs::Tested::tested))]
     fn answer(&self, alloc: Global, call: &Call) -> Result<Reply, AllocError> {
         let number = self.id.number();
+        if number < 100 {
+            return bundled_reply(alloc, self.id, call);
+        }
         if number == 106 {
             return Err(AllocError);
         }
@@ -40,13 +44,10 @@ impl Stated for Tested {
 fn lettered(alloc: Global, number: u32, value: &str) -> Result<Reply, AllocError>
     ensures { IfOk result (λ reply. reply ≡ lettered number value.now) }
 {
-    let mut text = Text::copied(alloc, value)?;
-    text.push_str(letter(number))?;
-    Ok(Reply {
-        changes: changes(alloc, number, value)?,
-        echo: Text::empty(alloc),
-        next: Then::Answer(text),
-    })
+    let changes = changes(alloc, number, value)?;
+    let letter = letter(number);
+    let text = Text::new(format!(in alloc; "{value}{letter}")?);
+    Ok(Reply::answer(alloc, text).with_changes(changes))
 }
 
 /// The first argument, or empty text.
@@ -66,7 +67,7 @@ fn letter(number: u32) -> &'static str
         101 => "a",
         102 => "b",
         103 => "c",
-        104 => "x",
+        104 | 107 => "x",
         _ => "r",
     }
 }
@@ -81,19 +82,36 @@ fn changes(alloc: Global, number: u32, value: &str) -> Result<Listed<Change>, Al
             hook,
             priority: None,
         },
-        104 if value.len() < 3 => Change::Add {
-            hook,
-            priority: 11 + value.len() as i32,
-            callback: CallbackId::new(104),
-            accepted: 1,
-        },
         105 => Change::Remove {
             hook,
             priority: 10,
             callback: CallbackId::new(105),
         },
+        _ if climbs(number, value) => Change::Add {
+            hook,
+            priority: next_priority(value),
+            callback: CallbackId::new(number),
+            accepted: 1,
+        },
         _ => return Ok(changes),
     };
     changes.push(change)?;
     Ok(changes)
+}
+
+/// Whether a callback adds itself at a greater priority.
+fn climbs(number: u32, value: &str) -> bool
+    ensures { result ≡ climbs number value.now }
+{
+    number == 107 || number == 104 && value.len() < 3
+}
+
+/// 11 and the length of the value, or the greatest priority.
+fn next_priority(value: &str) -> i32
+    ensures { result ≡ next_priority value.now }
+{
+    if value.len() > 2_147_483_636 {
+        return 2_147_483_647;
+    }
+    11 + value.len() as i32
 }

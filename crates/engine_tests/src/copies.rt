@@ -3,36 +3,26 @@ use shortcode_atts::{Atts, parse};
 use site_records::PostDate;
 use std::alloc::{AllocError, Global};
 
-/// Whether the attributes are those of the text below.
-fn are_spelled(atts: &Atts) -> bool {
-    atts.named("a") == Some("x y")
-        && atts.named("b") == Some("")
-        && atts.pair(2).is_none()
-        && atts.positional().len() == 1
-        && atts.positional()[0].as_str() == "six"
+/// The copy of a text's attributes.
+fn copied(alloc: Global, text: &str) -> Result<Atts, AllocError> {
+    parse(alloc, text)?.clone()
 }
 
-/// Whether the attributes of a text and their copy are spelled so.
 fn attributes_are_copied(alloc: Global) -> bool {
-    let Ok(atts) = parse(alloc, " A='x y' b=\"\" six") else {
-        return false;
-    };
-    match atts.clone() {
-        Ok(copy) => are_spelled(&atts) && are_spelled(&copy),
+    match copied(alloc, " A='x y' six") {
+        Ok(copy) => copy.named("a") == Some("x y") && copy.positional().len() == 1,
         Err(_) => false,
     }
 }
 
-/// Whether a date and its copy, once the date itself is gone, give the text back.
+/// Whether the copy of a date gives its text back.
 fn date_is_copied(text: &str) -> bool {
     let Some(date) = PostDate::read(text) else {
         return false;
     };
-    let is_text = date.as_str() == text;
     let copy: Result<PostDate, AllocError> = date.clone();
-    drop(date);
     match copy {
-        Ok(copy) => is_text && copy.as_str() == text,
+        Ok(copy) => copy.as_str() == text,
         Err(_) => false,
     }
 }

@@ -15,9 +15,7 @@ mod callbacks;
 #[cfg(test)]
 mod copies;
 #[cfg(test)]
-mod expecting;
-#[cfg(test)]
-mod inputs_and_outputs;
+mod inputs;
 #[cfg(test)]
 mod names;
 #[cfg(test)]
@@ -28,6 +26,8 @@ mod plugin_lists;
 mod plugins;
 #[cfg(test)]
 mod refusals;
+#[cfg(test)]
+mod runs;
 #[cfg(test)]
 mod site_files;
 #[cfg(test)]

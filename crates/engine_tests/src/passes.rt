@@ -1,21 +1,15 @@
 //! Passes over the test plugins, each worked out from the rules.
-ghost use Rattle.hook_machine.specs.Runs.{CanBegin, IsReady};
-
-use crate::callbacks::Tested;
-use crate::plugins::{Given, Load, plugins};
-use Load::{Add, No, Tag};
-use callback_store::Plugins;
-use content_cache::PieceCache;
-use hook_changes::{Listed, Text};
-use hook_machine::{Run, RunFault};
-use std::alloc::{AllocError, Global};
+use crate::plugins::{Given, Hook, Load};
+use crate::runs::{Answer, Setting, Step, are_answered};
+use Hook::Title;
+use Load::{No, On, Tag};
+use hook_machine::RunFault;
+use std::alloc::Global;
 
 /// What the load lists of the plugins `a-b` and `B` add, whether `B` is active beside `a-b`, how many calls a run has,
 /// and what is answered: two passes of the filter `the_title` over empty text, and `TEXT` with its shortcodes replaced.
 /// All callbacks but 103 are those of `a-b`.
 struct Case([Load; 3], [Load; 2], bool, u32, Answer, Answer, Answer);
-
-type Answer = Result<&'static str, RunFault>;
 
 const TEXT: &str = "x[t] [[t]";
 
@@ -30,7 +24,11 @@ const NONE: [Load; 2] = [No, No];
 static CASES: [Case; 23] = [
     // A hook that is emptied: the list that the pass reached is run to its end, and the next pass has none.
     Case(
-        [Add(10, 101), Add(10, 102), Add(20, 102)],
+        [
+            On(Title, 10, 101, 1),
+            On(Title, 10, 102, 1),
+            On(Title, 20, 102, 1),
+        ],
         NONE,
         false,
         10,
@@ -40,7 +38,11 @@ static CASES: [Case; 23] = [
     ),
     // The largest and the smallest priority.
     Case(
-        [Add(2147483647, 102), Add(-2147483648, 105), No],
+        [
+            On(Title, 2147483647, 102, 1),
+            On(Title, -2147483648, 105, 1),
+            No,
+        ],
         NONE,
         false,
         10,
@@ -50,7 +52,7 @@ static CASES: [Case; 23] = [
     ),
     // A load list adds the callback of another plugin while that one is active, and one that no plugin has never.
     Case(
-        [Add(10, 103), Add(20, 999), No],
+        [On(Title, 10, 103, 1), On(Title, 20, 999, 1), No],
         NONE,
         false,
         10,
@@ -59,7 +61,7 @@ static CASES: [Case; 23] = [
         PLAIN,
     ),
     Case(
-        [Add(10, 103), Add(20, 999), No],
+        [On(Title, 10, 103, 1), On(Title, 20, 999, 1), No],
         NONE,
         true,
         10,
@@ -70,7 +72,7 @@ static CASES: [Case; 23] = [
     // A plugin that isn't active has no say: `B` would add its own callback and that of `a-b`.
     Case(
         [No, No, No],
-        [Add(10, 103), Add(20, 102)],
+        [On(Title, 10, 103, 1), On(Title, 20, 102, 1)],
         false,
         10,
         Ok(""),
@@ -79,7 +81,7 @@ static CASES: [Case; 23] = [
     ),
     Case(
         [No, No, No],
-        [Add(10, 103), Add(20, 102)],
+        [On(Title, 10, 103, 1), On(Title, 20, 102, 1)],
         true,
         10,
         Ok("cb"),
@@ -88,8 +90,8 @@ static CASES: [Case; 23] = [
     ),
     // Load lists are carried out in the order of the plugins' names by bytes.
     Case(
-        [Add(10, 102), No, No],
-        [Add(10, 103), No],
+        [On(Title, 10, 102, 1), No, No],
+        [On(Title, 10, 103, 1), No],
         true,
         10,
         Ok("cb"),
@@ -98,7 +100,7 @@ static CASES: [Case; 23] = [
     ),
     // A callback that adds itself one priority higher until the value has 3 bytes: four calls.
     Case(
-        [Add(10, 104), No, No],
+        [On(Title, 10, 104, 1), No, No],
         NONE,
         false,
         8,
@@ -107,7 +109,7 @@ static CASES: [Case; 23] = [
         PLAIN,
     ),
     Case(
-        [Add(10, 104), No, No],
+        [On(Title, 10, 104, 1), No, No],
         NONE,
         false,
         7,
@@ -116,7 +118,7 @@ static CASES: [Case; 23] = [
         TOO_MANY,
     ),
     Case(
-        [Add(10, 104), No, No],
+        [On(Title, 10, 104, 1), No, No],
         NONE,
         false,
         3,
@@ -127,7 +129,7 @@ static CASES: [Case; 23] = [
     // A callback that removes itself is run to the end of this pass, and is in no later one: at a smaller priority
     // than another, at the same one before and after it, and at a greater one.
     Case(
-        [Add(10, 105), Add(20, 102), No],
+        [On(Title, 10, 105, 1), On(Title, 20, 102, 1), No],
         NONE,
         false,
         10,
@@ -136,7 +138,7 @@ static CASES: [Case; 23] = [
         PLAIN,
     ),
     Case(
-        [Add(10, 105), Add(10, 102), No],
+        [On(Title, 10, 105, 1), On(Title, 10, 102, 1), No],
         NONE,
         false,
         10,
@@ -145,7 +147,7 @@ static CASES: [Case; 23] = [
         PLAIN,
     ),
     Case(
-        [Add(10, 102), Add(10, 105), No],
+        [On(Title, 10, 102, 1), On(Title, 10, 105, 1), No],
         NONE,
         false,
         10,
@@ -154,7 +156,7 @@ static CASES: [Case; 23] = [
         PLAIN,
     ),
     Case(
-        [Add(5, 102), Add(10, 105), No],
+        [On(Title, 5, 102, 1), On(Title, 10, 105, 1), No],
         NONE,
         false,
         10,
@@ -164,7 +166,7 @@ static CASES: [Case; 23] = [
     ),
     // Its registration at a greater priority is gone when the pass would reach it, and that at a smaller one stays.
     Case(
-        [Add(5, 105), Add(10, 105), No],
+        [On(Title, 5, 105, 1), On(Title, 10, 105, 1), No],
         NONE,
         false,
         10,
@@ -174,7 +176,7 @@ static CASES: [Case; 23] = [
     ),
     // Its registration at another priority stays.
     Case(
-        [Add(10, 105), Add(15, 105), No],
+        [On(Title, 10, 105, 1), On(Title, 15, 105, 1), No],
         NONE,
         false,
         10,
@@ -184,7 +186,7 @@ static CASES: [Case; 23] = [
     ),
     // A callback that has no memory to reply ends the run.
     Case(
-        [Add(10, 106), Add(20, 102), No],
+        [On(Title, 10, 106, 1), On(Title, 20, 102, 1), No],
         NONE,
         false,
         10,
@@ -227,79 +229,23 @@ static CASES: [Case; 23] = [
     Case([No, No, No], NONE, false, 0, Ok(""), Ok(""), PLAIN),
 ];
 
-/// These texts.
-pub fn texts(alloc: Global, texts: &[&str]) -> Result<Listed<Text>, AllocError> {
-    let mut listed = Listed::empty(alloc);
-    for text in texts {
-        listed.push(Text::copied(alloc, text)?)?;
-    }
-    Ok(listed)
-}
-
 fn is_run(alloc: Global, case: &Case) -> bool {
-    let first = Given("a-b", &[101, 102, 104, 105, 106], &case.0);
-    let second = Given("B", &[103], &case.1);
-    match plugins(alloc, &[first, second]) {
-        Ok(plugins) => is_run_over(alloc, &plugins, case),
-        Err(_) => false,
-    }
-}
-
-fn is_run_over(alloc: Global, plugins: &Plugins<Tested>, case: &Case) -> bool {
-    match texts(alloc, if case.2 { &["a-b", "B"] } else { &["a-b"] }) {
-        Ok(active) => runs(alloc, plugins, active.as_slice(), case),
-        Err(_) => false,
-    }
-}
-
-fn runs(alloc: Global, plugins: &Plugins<Tested>, active: &[Text], case: &Case) -> bool {
-    let Ok(mut cache) = PieceCache::new(alloc, 1) else {
-        return false;
-    };
-    match Run::new(alloc, plugins, active, &[], case.3) {
-        Ok(mut run) => {
-            let is_answered = answers(alloc, &mut run, case, &mut cache);
-            run.end();
-            is_answered
-        }
-        Err(_) => false,
-    }
-}
-
-fn answers(alloc: Global, run: &mut Run<'_, Tested>, case: &Case, cache: &mut PieceCache) -> bool
-    requires { IsReady run.old }
-{
-    run.load().is_ok()
-        && is_title(alloc, run, case.4, cache)
-        && is_title(alloc, run, case.5, cache)
-        && is_text(run.do_shortcode(TEXT, cache), case.6)
-}
-
-fn is_title(
-    alloc: Global,
-    run: &mut Run<'_, Tested>,
-    wanted: Answer,
-    cache: &mut PieceCache,
-) -> bool
-    requires { CanBegin run.old }
-    ensures { CanBegin run.new }
-{
-    match run.apply_filters(
-        "the_title",
-        Text::empty(alloc),
-        &Listed::empty(alloc),
-        cache,
-    ) {
-        Ok(text) => wanted == Ok(text.as_str()),
-        Err(fault) => wanted == Err(fault),
-    }
-}
-
-fn is_text(found: Result<Text, RunFault>, wanted: Answer) -> bool {
-    match found {
-        Ok(text) => wanted == Ok(text.as_str()),
-        Err(fault) => wanted == Err(fault),
-    }
+    let given = [
+        Given("a-b", &[101, 102, 104, 105, 106], &case.0),
+        Given("B", &[103], &case.1),
+    ];
+    let steps = [
+        Step::Filters("the_title", "", &[], case.4),
+        Step::Filters("the_title", "", &[], case.5),
+        Step::Replaces(TEXT, case.6),
+    ];
+    let names = ["a-b", "B"];
+    let count = if case.2 { 2 } else { 1 };
+    are_answered(
+        alloc,
+        &Setting(false, &given, &names[..count], case.3),
+        &steps,
+    )
 }
 
 #[test]

@@ -1,7 +1,9 @@
 //! Which lists of plugins are refused, and why.
+ghost use Rattle.std.specs.Prelude.{◌≤◌};
+
 use crate::plugins::{Given, Load, plugins};
 use callback_store::PluginFault;
-use std::alloc::{AllocError, Global};
+use std::alloc::Global;
 
 const SAME_NAME: Option<PluginFault> = Some(PluginFault::SameName);
 
@@ -30,7 +32,7 @@ static PAIRS: [([&str; 2], [u32; 2], Option<PluginFault>); 8] = [
 fn fault_of_pair(alloc: Global, names: &[&str; 2], numbers: &[u32; 2]) -> Option<PluginFault> {
     let first = Given(names[0], &numbers[..1], &[]);
     let second = Given(names[1], &numbers[1..], &[]);
-    plugins(alloc, &[first, second]).err()
+    plugins(alloc, false, &[first, second]).err()
 }
 
 #[test]
@@ -58,16 +60,21 @@ fn fault_of_many(
     count: usize,
     callbacks: usize,
     changes: usize,
-) -> Result<Option<PluginFault>, AllocError> {
-    let numbers = vec![in alloc; 101u32; callbacks]?;
-    let load = vec![in alloc; Load::Add(10, 101); changes]?;
-    let given = vec![in alloc; Given("a", &numbers, &load); count]?;
-    Ok(plugins(alloc, &given).err())
+) -> Option<PluginFault>
+    requires count { count ≤ 65 }
+    requires callbacks { callbacks ≤ 257 }
+    requires changes { changes ≤ 257 }
+{
+    let numbers = [101; 257];
+    let load = [Load::Tag(101); 257];
+    let given = [Given("a", &numbers[..callbacks], &load[..changes]); 65];
+    plugins(alloc, false, &given[..count]).err()
 }
 
 #[test]
 fn sizes_are_refused(rt: HostRuntime) {
     for (count, callbacks, changes, fault) in &SIZES {
-        assert!(rt; fault_of_many(rt.alloc(), *count, *callbacks, *changes) == Ok(*fault));
+        assert!(rt; *count <= 65 && *callbacks <= 257 && *changes <= 257);
+        assert!(rt; fault_of_many(rt.alloc(), *count, *callbacks, *changes) == *fault);
     }
 }

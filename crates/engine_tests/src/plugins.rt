@@ -1,6 +1,9 @@
 //! Plugins over the test callbacks.
+ghost use Rattle.std.specs.Prelude.{◌≡◌, IfOk, map};
+
 use crate::callbacks::Tested;
 use crate::names::{LONGEST, TOO_LONG};
+use bundled_plugins::{NUMBERS, bundle};
 use callback_store::{Plugin, PluginFault, Plugins};
 use hook_changes::{CallbackId, Change, Listed, Text};
 use std::alloc::{AllocError, Global};
@@ -20,8 +23,6 @@ pub enum Hook {
 pub enum Load {
     /// Nothing stands there.
     No,
-    /// Adds a callback to `the_title` at a priority, with one argument.
-    Add(i32, u32),
     /// Adds a callback to a hook at a priority, with an accepted count.
     On(Hook, i32, u32, u8),
     /// Adds the tag `t` with its handler.
@@ -32,16 +33,28 @@ pub enum Load {
 #[derive(Clone, Copy)]
 pub struct Given<'a>(pub &'a str, pub &'a [u32], pub &'a [Load]);
 
-/// The plugins that are given.
-pub fn plugins(alloc: Global, given: &[Given<'_>]) -> Result<Plugins<Tested>, PluginFault> {
-    match listed(alloc, given) {
+/// The plugins that are given, beside those of the bundle or without them.
+pub fn plugins(
+    alloc: Global,
+    has_bundle: bool,
+    given: &[Given<'_>],
+) -> Result<Plugins<Tested>, PluginFault> {
+    match listed(alloc, has_bundle, given) {
         Ok(list) => Plugins::new(alloc, list),
         Err(AllocError) => Err(PluginFault::OutOfMemory),
     }
 }
 
-fn listed(alloc: Global, given: &[Given<'_>]) -> Result<Listed<Plugin<Tested>>, AllocError> {
-    let mut list = Listed::empty(alloc);
+fn listed(
+    alloc: Global,
+    has_bundle: bool,
+    given: &[Given<'_>],
+) -> Result<Listed<Plugin<Tested>>, AllocError> {
+    let mut list = if has_bundle {
+        bundle(alloc, callbacks(alloc, &NUMBERS)?)?
+    } else {
+        Listed::empty(alloc)
+    };
     for plugin in given {
         list.push(with(alloc, plugin)?)?;
     }
@@ -49,9 +62,9 @@ fn listed(alloc: Global, given: &[Given<'_>]) -> Result<Listed<Plugin<Tested>>, 
 }
 
 fn with(alloc: Global, given: &Given<'_>) -> Result<Plugin<Tested>, AllocError> {
-    let callbacks = callbacks(alloc, given.1)?;
-    let load = load_list(alloc, given.2)?;
     let name = Text::copied(alloc, given.0)?;
+    let load = load_list(alloc, given.2)?;
+    let callbacks = callbacks(alloc, given.1)?;
     Ok(Plugin {
         name,
         load,
@@ -59,7 +72,9 @@ fn with(alloc: Global, given: &Given<'_>) -> Result<Plugin<Tested>, AllocError> 
     })
 }
 
-fn callbacks(alloc: Global, numbers: &[u32]) -> Result<Listed<Tested>, AllocError> {
+fn callbacks(alloc: Global, numbers: &[u32]) -> Result<Listed<Tested>, AllocError>
+    ensures { IfOk result (λ callbacks. map (λ callback. callback.id) callbacks ≡ numbers.now) }
+{
     let mut callbacks = Listed::empty(alloc);
     for number in numbers {
         let id = CallbackId::new(*number);
@@ -68,21 +83,30 @@ fn callbacks(alloc: Global, numbers: &[u32]) -> Result<Listed<Tested>, AllocErro
     Ok(callbacks)
 }
 
-fn load_list(alloc: Global, changes: &[Load]) -> Result<Listed<Change>, AllocError> {
-    let mut load = Listed::empty(alloc);
-    for change in changes {
-        match *change {
-            Load::No => {}
-            Load::Add(priority, number) => {
-                load.push(addition(alloc, "the_title", priority, number, 1)?)?;
-            }
-            Load::On(hook, priority, number, accepted) => {
-                load.push(addition(alloc, name_of(hook), priority, number, accepted)?)?;
-            }
-            Load::Tag(number) => load.push(tag(alloc, number)?)?,
+fn load_list(alloc: Global, loads: &[Load]) -> Result<Listed<Change>, AllocError> {
+    let mut list = Listed::empty(alloc);
+    for load in loads {
+        if let Some(change) = change(alloc, *load)? {
+            list.push(change)?;
         }
     }
-    Ok(load)
+    Ok(list)
+}
+
+fn change(alloc: Global, load: Load) -> Result<Option<Change>, AllocError> {
+    match load {
+        Load::No => Ok(None),
+        Load::On(hook, priority, number, accepted) => Ok(Some(Change::Add {
+            hook: Text::copied(alloc, name_of(hook))?,
+            priority,
+            callback: CallbackId::new(number),
+            accepted,
+        })),
+        Load::Tag(number) => Ok(Some(Change::AddTag {
+            tag: Text::copied(alloc, "t")?,
+            callback: CallbackId::new(number),
+        })),
+    }
 }
 
 fn name_of(hook: Hook) -> &'static str {
@@ -93,26 +117,4 @@ fn name_of(hook: Hook) -> &'static str {
         Hook::TooLong => TOO_LONG,
         Hook::Empty => "",
     }
-}
-
-fn addition(
-    alloc: Global,
-    hook: &str,
-    priority: i32,
-    number: u32,
-    accepted: u8,
-) -> Result<Change, AllocError> {
-    Ok(Change::Add {
-        hook: Text::copied(alloc, hook)?,
-        priority,
-        callback: CallbackId::new(number),
-        accepted,
-    })
-}
-
-fn tag(alloc: Global, number: u32) -> Result<Change, AllocError> {
-    Ok(Change::AddTag {
-        tag: Text::copied(alloc, "t")?,
-        callback: CallbackId::new(number),
-    })
 }

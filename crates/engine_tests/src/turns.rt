@@ -1,52 +1,30 @@
 //! Pages by turns, each with the number of turns that the rules give it.
-ghost use Rattle.std.specs.Prelude.{◌≡◌, IfOk, map};
-ghost use Rattle.bundled_plugins.specs.Bundle.{numbers};
-ghost use Rattle.hook_machine.specs.Runs.{IsReady};
+ghost use Rattle.std.specs.Prelude.{IfOk};
 ghost use Rattle.template_parts.specs.Page.{CanGoOn};
 
-use bundled_plugins::{NUMBERS, bundle, bundled_reply};
-use callback_store::{PluginFault, Plugins, Stated};
+use crate::callbacks::Tested;
+use crate::plugins::{Given, Hook, Load, plugins};
+use crate::runs::{Answer, loaded};
+use callback_store::{PluginFault, Plugins};
 use content_cache::PieceCache;
-use hook_changes::{Call, CallbackId, Listed, Reply, Text};
-use hook_machine::{Run, RunFault};
+use hook_changes::{Listed, Text};
+use hook_machine::RunFault;
 use site_records::{Found, FoundKind, Post, PostDate, PostKind, PostStatus};
 use std::alloc::{AllocError, Global};
 use template_parts::{Page, PageTurn, Settings};
 use template_trees::default_index;
 
-/// A callback of the bundle, by its number.
-#[derive(Clone, Copy)]
-pub struct Bundled {
-    id: CallbackId,
-}
-
-impl Stated for Bundled {
-    ghost use Rattle.bundled_plugins.specs.Replies.{says};
-
-    ghost says = { says };
-
-    ghost number = { λ callback. callback.id };
-
-    fn id(&self) -> CallbackId {
-        self.id
-    }
-
-    fn answer(&self, alloc: Global, call: &Call) -> Result<Reply, AllocError> {
-        bundled_reply(alloc, self.id, call)
-    }
-}
-
 /// The active plugin, the title and content of the one post if there is one, how many calls a page has, how many turns
 /// stop after a callback, and what the next turn gives: a page, or a fault that each later turn gives too.
-pub struct Case(
+struct Case(
     &'static str,
     Option<(&'static str, &'static str)>,
     u32,
     u32,
-    Result<&'static str, RunFault>,
+    Answer,
 );
 
-pub static CASES: [Case; 9] = [
+static CASES: [Case; 14] = [
     // Nothing is invoked.
     Case("", None, 10_000, 0, Ok("<p>Nothing found.</p>")),
     // Two callbacks of the title, and core's of the content.
@@ -87,29 +65,32 @@ pub static CASES: [Case; 9] = [
     ),
     // No call at all.
     Case("marks", Some(("T", "")), 0, 0, TOO_MANY),
+    // A callback that adds itself at a greater priority while the title is shorter than 3 bytes, and then core's.
+    Case("climb", Some(("", "")), 5, 5, Ok("<h2>xxxx</h2>")),
+    Case("climb", Some(("", "")), 4, 4, TOO_MANY),
+    // One that always does.
+    Case("climb-on", Some(("", "")), 5, 5, TOO_MANY),
+    Case("climb-on", Some(("", "")), 1000, 1000, TOO_MANY),
+    // A callback that never has the memory to reply.
+    Case(
+        "fail",
+        Some(("T", "")),
+        10_000,
+        0,
+        Err(RunFault::OutOfMemory),
+    ),
 ];
 
-const TOO_MANY: Result<&str, RunFault> = Err(RunFault::TooManyCalls);
+const TOO_MANY: Answer = Err(RunFault::TooManyCalls);
 
-fn callbacks(alloc: Global) -> Result<Listed<Bundled>, AllocError>
-    ensures { IfOk result (λ callbacks. map (λ callback. callback.id) callbacks ≡ numbers) }
-{
-    let mut callbacks = Vec::new(alloc);
-    for number in NUMBERS {
-        let id = CallbackId::new(number);
-        callbacks.push(Bundled { id })?;
-    }
-    Ok(Listed::new(callbacks))
-}
-
-pub fn plugins(alloc: Global) -> Result<Plugins<Bundled>, PluginFault> {
-    let Ok(callbacks) = callbacks(alloc) else {
-        return Err(PluginFault::OutOfMemory);
-    };
-    match bundle(alloc, callbacks) {
-        Ok(list) => Plugins::new(alloc, list),
-        Err(AllocError) => Err(PluginFault::OutOfMemory),
-    }
+/// The bundle's plugins, and some that are made for tests.
+fn all_plugins(alloc: Global) -> Result<Plugins<Tested>, PluginFault> {
+    let given = [
+        Given("climb", &[104], &[Load::On(Hook::Title, 10, 104, 1)]),
+        Given("climb-on", &[107], &[Load::On(Hook::Title, 10, 107, 1)]),
+        Given("fail", &[106], &[Load::On(Hook::Title, 10, 106, 1)]),
+    ];
+    plugins(alloc, true, &given)
 }
 
 fn post(alloc: Global, title: &str, content: &str) -> Result<Option<Post>, AllocError> {
@@ -150,53 +131,45 @@ fn settings(alloc: Global) -> Result<Settings, AllocError> {
     })
 }
 
-fn active(alloc: Global, name: &str) -> Result<Listed<Text>, AllocError> {
-    let mut active = Listed::empty(alloc);
-    active.push(Text::copied(alloc, name)?)?;
-    Ok(active)
-}
-
-/// A run of the case, with its plugins loaded.
-pub fn loaded<'p>(
-    alloc: Global,
-    plugins: &'p Plugins<Bundled>,
-    case: &Case,
-) -> Result<Run<'p, Bundled>, RunFault>
-    ensures { IfOk result (λ run. IsReady run) }
-{
-    let active = active(alloc, case.0)?;
-    let mut run = Run::new(alloc, plugins, active.as_slice(), &[], case.2)?;
-    run.load()?;
-    Ok(run)
-}
-
 fn begun<'p>(
     alloc: Global,
-    plugins: &'p Plugins<Bundled>,
+    plugins: &'p Plugins<Tested>,
     case: &Case,
-) -> Result<Page<'p, Bundled>, RunFault>
+) -> Result<Page<'p, Tested>, RunFault>
     ensures { IfOk result (λ page. CanGoOn page) }
 {
     let found = found(alloc, case)?;
     let settings = settings(alloc)?;
-    let run = loaded(alloc, plugins, case)?;
+    let run = loaded(alloc, plugins, &[case.0], case.2)?;
     Ok(Page::begin(alloc, found, settings, run))
 }
 
-/// Whether that is the page, or the fault.
-fn is_end(turned: Result<PageTurn, RunFault>, end: Result<&str, RunFault>) -> bool {
+/// Whether a turn gave that page, or that fault.
+fn is_end(turned: Result<PageTurn, RunFault>, wanted: Answer) -> bool {
     match turned {
-        Ok(PageTurn::Done(200, bytes)) => match end {
-            Ok(text) => bytes.as_slice() == text.as_bytes(),
-            Err(_) => false,
-        },
-        Ok(_) => false,
-        Err(fault) => end == Err(fault),
+        Ok(PageTurn::Done(status, bytes)) => is_page(status, bytes.as_slice(), wanted),
+        Ok(PageTurn::More) => false,
+        Err(fault) => wanted == Err(fault),
+    }
+}
+
+fn is_page(status: u16, bytes: &[u8], wanted: Answer) -> bool {
+    match wanted {
+        Ok(text) => status == 200 && bytes == text.as_bytes(),
+        Err(_) => false,
+    }
+}
+
+/// Whether the whole page is that one, or refused by that fault.
+fn is_whole(finished: Result<(u16, Vec<u8>), RunFault>, wanted: Answer) -> bool {
+    match finished {
+        Ok((status, bytes)) => is_page(status, bytes.as_slice(), wanted),
+        Err(fault) => wanted == Err(fault),
     }
 }
 
 /// Whether that many turns stop before the page's end.
-fn is_stopped(page: &mut Page<'_, Bundled>, cache: &mut PieceCache, turns: u32) -> bool
+fn is_stopped(page: &mut Page<'_, Tested>, cache: &mut PieceCache, turns: u32) -> bool
     requires { CanGoOn page.old }
     ensures { CanGoOn page.new }
 {
@@ -209,57 +182,55 @@ fn is_stopped(page: &mut Page<'_, Bundled>, cache: &mut PieceCache, turns: u32) 
     true
 }
 
-fn goes_by_turns(page: &mut Page<'_, Bundled>, cache: &mut PieceCache, case: &Case) -> bool
-    requires { CanGoOn page.old }
-{
-    is_stopped(page, cache, case.3)
-        && is_end(page.turn(cache), case.4)
-        && (case.4.is_ok() || is_end(page.turn(cache), case.4))
-}
-
-fn is_case(alloc: Global, plugins: &Plugins<Bundled>, case: &Case) -> bool {
-    let Ok(mut cache) = PieceCache::new(alloc, 2) else {
-        return false;
-    };
+/// Whether the case's page stops as often and then ends so, and each later call gives the fault of a refused one.
+fn is_case(alloc: Global, plugins: &Plugins<Tested>, case: &Case, cache: &mut PieceCache) -> bool {
     match begun(alloc, plugins, case) {
-        Ok(mut page) => goes_by_turns(&mut page, &mut cache, case),
+        Ok(mut page) => {
+            let is_ended = is_stopped(&mut page, cache, case.3) && is_end(page.turn(cache), case.4);
+            let later = page.finish(cache);
+            is_ended && (case.4.is_ok() || is_whole(later, case.4))
+        }
         Err(_) => false,
     }
 }
 
-/// Whether a page that has stopped twice is finished as any other.
-fn is_finished(alloc: Global, plugins: &Plugins<Bundled>) -> bool {
+/// Whether the case's page is finished so, once some turns have stopped.
+fn is_finished(
+    alloc: Global,
+    plugins: &Plugins<Tested>,
+    case: &Case,
+    turns: u32,
+    cache: &mut PieceCache,
+) -> bool {
+    match begun(alloc, plugins, case) {
+        Ok(mut page) => {
+            let is_stopped = is_stopped(&mut page, cache, turns);
+            is_whole(page.finish(cache), case.4) && is_stopped
+        }
+        Err(_) => false,
+    }
+}
+
+fn are_cases(alloc: Global, plugins: &Plugins<Tested>) -> bool {
     let Ok(mut cache) = PieceCache::new(alloc, 2) else {
         return false;
     };
-    let Ok(mut page) = begun(alloc, plugins, &CASES[1]) else {
-        return false;
-    };
-    if !is_stopped(&mut page, &mut cache, 2) {
-        return false;
+    for case in &CASES {
+        let is_case = is_case(alloc, plugins, case, &mut cache)
+            && is_finished(alloc, plugins, case, 0, &mut cache)
+            && is_finished(alloc, plugins, case, case.3, &mut cache);
+        if !is_case {
+            return false;
+        }
     }
-    match page.finish(&mut cache) {
-        Ok((status, bytes)) => status == 200 && bytes.as_slice() == "<h2>TX1Y</h2>".as_bytes(),
-        Err(_) => false,
-    }
+    true
 }
 
 #[test]
 fn pages_stop_after_each_callback(rt: HostRuntime) {
-    let Ok(plugins) = plugins(rt.alloc()) else {
-        assert!(rt; false);
-        return;
-    };
-    for case in &CASES {
-        assert!(rt; is_case(rt.alloc(), &plugins, case));
+    let alloc = rt.alloc();
+    match all_plugins(alloc) {
+        Ok(plugins) => assert!(rt; are_cases(alloc, &plugins)),
+        Err(_) => assert!(rt; false),
     }
-}
-
-#[test]
-fn a_stopped_page_is_finished(rt: HostRuntime) {
-    let Ok(plugins) = plugins(rt.alloc()) else {
-        assert!(rt; false);
-        return;
-    };
-    assert!(rt; is_finished(rt.alloc(), &plugins));
 }
