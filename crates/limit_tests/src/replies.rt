@@ -1,0 +1,24 @@
+//! What a line is to be replied.
+use site_program::{Refusal, SiteReply};
+
+/// A reply.
+#[derive(Clone, Copy)]
+pub enum Wanted {
+    Ok,
+    Id(u32),
+    No(Refusal),
+    Page(u16, &'static str),
+}
+
+/// Whether that is the reply.
+pub fn is_reply(reply: &SiteReply, wanted: Wanted) -> bool {
+    match (reply, wanted) {
+        (SiteReply::Ok, Wanted::Ok) => true,
+        (SiteReply::OkId(id), Wanted::Id(other)) => *id == other,
+        (SiteReply::Refused(refusal), Wanted::No(other)) => *refusal == other,
+        (SiteReply::Page { status, body }, Wanted::Page(other, text)) => {
+            *status == other && body.as_slice() == text.as_bytes()
+        }
+        _ => false,
+    }
+}
