@@ -1,9 +1,11 @@
 /*
  * read, write and writev that give and take little, and fail: a read of standard input gives at most FAIL_PIECE bytes,
- * and fails once FAIL_GOOD bytes were given; standard output takes FAIL_ROOM bytes, and then fails. A variable that
- * isn't set limits nothing. If FAIL_TIMES is set, that many calls fail, and later ones do all that they are asked to.
- * If FAIL_SILENTLY is set, a write that fails says that it took no byte. It is compiled by the toolchain's own
- * compiler, which brings no headers, so what it takes from the C library is declared here.
+ * and fails once FAIL_GOOD bytes were given; standard output takes at most FAIL_TAKES bytes a write, FAIL_ROOM bytes in
+ * all, and then fails. A variable that isn't set limits nothing. If FAIL_TIMES is set, that many calls fail, and later
+ * ones do all that they are asked to. If FAIL_SILENTLY is set, a write that fails says that it took no byte. As the
+ * program ends, the number of its writes to standard output is written to the file that FAIL_COUNT names. It is
+ * compiled by the toolchain's own compiler, which brings no headers, so what it takes from the C library is declared
+ * here.
  */
 typedef unsigned long size_t;
 typedef long ssize_t;
@@ -17,6 +19,8 @@ extern void *dlsym(void *handle, const char *name);
 extern char *getenv(const char *name);
 extern unsigned long strtoul(const char *text, char **end, int base);
 extern int *__errno_location(void);
+extern int creat(const char *name, unsigned int mode);
+extern int dprintf(int file, const char *format, ...);
 
 /* The next definition behind this one, as the loader finds it. */
 #define NEXT ((void *)-1L)
@@ -24,9 +28,11 @@ extern int *__errno_location(void);
 
 static size_t piece;
 static size_t good;
+static size_t takes;
 static size_t room;
 static size_t times;
 static int is_silent;
+static unsigned long writes;
 
 static size_t limit(const char *name)
 {
@@ -38,9 +44,17 @@ __attribute__((constructor)) static void begin(void)
 {
     piece = limit("FAIL_PIECE");
     good = limit("FAIL_GOOD");
+    takes = limit("FAIL_TAKES");
     room = limit("FAIL_ROOM");
     times = limit("FAIL_TIMES");
     is_silent = getenv("FAIL_SILENTLY") != 0;
+}
+
+__attribute__((destructor)) static void end(void)
+{
+    const char *name = getenv("FAIL_COUNT");
+    if (name)
+        dprintf(creat(name, 0600), "%lu\n", writes);
 }
 
 static size_t least(size_t one, size_t other)
@@ -71,13 +85,15 @@ ssize_t read(int file, void *bytes, size_t count)
 ssize_t write(int file, const void *bytes, size_t count)
 {
     ssize_t (*next)(int, const void *, size_t) = (ssize_t(*)(int, const void *, size_t))dlsym(NEXT, "write");
+    if (file == 1)
+        writes++;
     if (file != 1 || times == 0)
         return next(file, bytes, count);
     if (room == 0) {
         ssize_t fault = failed();
         return is_silent ? 0 : fault;
     }
-    ssize_t taken = next(file, bytes, least(count, room));
+    ssize_t taken = next(file, bytes, least(count, least(takes, room)));
     if (taken > 0)
         room -= (size_t)taken;
     return taken;

@@ -3,6 +3,7 @@
 import json
 import subprocess
 import sys
+from collections import Counter
 from pathlib import Path
 
 sys.path.insert(0, str(Path(__file__).resolve().parent.parent))
@@ -115,6 +116,7 @@ class Memory:
         self.lines = [json.dumps(command).encode() for command in hungry()]
         self.without = {}
         self.begins = self.ends = None
+        self.came = Counter()
 
     def measure(self):
         """The smallest limits with which the program serves no line, and all of them."""
@@ -156,6 +158,13 @@ class Memory:
         for reply, wanted in zip(kept, self.replies_without(places)):
             if reply != wanted:
                 raise Wrong(f"{where} one is {shown(reply)}, wanted {shown(wanted)}")
+        kind = "ended" if end != DONE else "refused lines" if places else "were as without a limit"
+        self.came[f"runs {kind}"] += 1
+        self.came["lines refused"] += len(places)
+
+    def tell(self):
+        """Says what came of the limits that were tried."""
+        print(f"memory: {STEPS} limits: " + ", ".join(f"{count} {what}" for what, count in sorted(self.came.items())))
 
 
 class Stack:
@@ -193,3 +202,4 @@ def cases(program):
     yield "the smallest memory", memory.measure
     for step in range(STEPS):
         yield f"memory, step {step} of {STEPS}", lambda step=step: memory.judge(step)
+    memory.tell()
