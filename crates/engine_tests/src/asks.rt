@@ -287,7 +287,7 @@ fn is_run(alloc: Global, case: &Case) -> bool {
     let given = [Given("a-b", &NUMBERS, &case.0)];
     let steps = [
         Step::Filters("the_title", case.1, case.2, case.3),
-        Step::Prints(case.4),
+        Step::Prints(Ok(case.4)),
     ];
     // Nothing is printed by a run that was refused.
     let count = if case.3.is_ok() { 2 } else { 1 };
@@ -342,8 +342,8 @@ fn is_named(
     let given = [Given("a-b", &NUMBERS, &load)];
     let steps = [
         Step::Filters(name, "v", &["p"], Ok(answer)),
-        Step::Acts(name, &["p"]),
-        Step::Prints(printed),
+        Step::Acts(name, &["p"], None),
+        Step::Prints(Ok(printed)),
     ];
     are_answered(alloc, &Setting(false, &given, &["a-b"], 2), &steps)
 }

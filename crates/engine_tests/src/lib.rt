@@ -17,6 +17,8 @@ mod copies;
 #[cfg(test)]
 mod inputs;
 #[cfg(test)]
+mod interleaved;
+#[cfg(test)]
 mod names;
 #[cfg(test)]
 mod passes;

@@ -254,3 +254,17 @@ fn passes_are_as_the_rules_have_them(rt: HostRuntime) {
         assert!(rt; is_run(rt.alloc(), case));
     }
 }
+
+// Once a callback had no memory to reply, each later call of the run answers the same.
+#[test]
+fn a_run_without_memory_stays_so(rt: HostRuntime) {
+    let given = [Given("a-b", &[106], &[On(Title, 10, 106, 1)])];
+    let steps = [
+        Step::Acts("the_title", &[], Some(RunFault::OutOfMemory)),
+        Step::Acts("init", &[], Some(RunFault::OutOfMemory)),
+        Step::Filters("init", "", &[], NO_MEMORY),
+        Step::Replaces(TEXT, NO_MEMORY),
+        Step::Prints(NO_MEMORY),
+    ];
+    assert!(rt; are_answered(rt.alloc(), &Setting(false, &given, &["a-b"], 10), &steps));
+}

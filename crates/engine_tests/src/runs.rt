@@ -23,12 +23,12 @@ pub struct Setting<'a>(pub bool, pub &'a [Given<'a>], pub &'a [&'a str], pub u32
 pub enum Step {
     /// A pass of the filter of that name over a value, with further arguments: what it answers.
     Filters(&'static str, &'static str, &'static [&'static str], Answer),
-    /// A pass of the action of that name, with arguments. It is carried out.
-    Acts(&'static str, &'static [&'static str]),
+    /// A pass of the action of that name, with arguments: the fault that it answers, if it isn't carried out.
+    Acts(&'static str, &'static [&'static str], Option<RunFault>),
     /// The text with its shortcodes replaced.
     Replaces(&'static str, Answer),
     /// What was printed since the last such step.
-    Prints(&'static str),
+    Prints(Answer),
     /// Of how many texts the cache keeps the pieces.
     Keeps(usize),
 }
@@ -99,9 +99,9 @@ fn is_answered(alloc: Global, run: &mut Run<'_, Tested>, step: Step, cache: &mut
         Step::Filters(hook, value, args, wanted) => {
             is_text(filtered(alloc, run, hook, value, args, cache), wanted)
         }
-        Step::Acts(hook, args) => acts(alloc, run, hook, args, cache).is_ok(),
+        Step::Acts(hook, args, fault) => acts(alloc, run, hook, args, cache).err() == fault,
         Step::Replaces(text, wanted) => is_text(run.do_shortcode(text, cache), wanted),
-        Step::Prints(wanted) => is_text(run.take_output(), Ok(wanted)),
+        Step::Prints(wanted) => is_text(run.take_output(), wanted),
         Step::Keeps(count) => cache.kept() == count,
     }
 }

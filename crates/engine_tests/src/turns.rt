@@ -16,15 +16,15 @@ use template_trees::default_index;
 
 /// The active plugin, the title and content of the one post if there is one, how many calls a page has, how many turns
 /// stop after a callback, and what the next turn gives: a page, or a fault that each later turn gives too.
-struct Case(
+pub struct Case(
     &'static str,
     Option<(&'static str, &'static str)>,
     u32,
-    u32,
-    Answer,
+    pub u32,
+    pub Answer,
 );
 
-static CASES: [Case; 14] = [
+pub static CASES: [Case; 14] = [
     // Nothing is invoked.
     Case("", None, 10_000, 0, Ok("<p>Nothing found.</p>")),
     // Two callbacks of the title, and core's of the content.
@@ -70,7 +70,6 @@ static CASES: [Case; 14] = [
     Case("climb", Some(("", "")), 4, 4, TOO_MANY),
     // One that always does.
     Case("climb-on", Some(("", "")), 5, 5, TOO_MANY),
-    Case("climb-on", Some(("", "")), 1000, 1000, TOO_MANY),
     // A callback that never has the memory to reply.
     Case(
         "fail",
@@ -79,12 +78,14 @@ static CASES: [Case; 14] = [
         0,
         Err(RunFault::OutOfMemory),
     ),
+    // One that always does, and many calls.
+    Case("climb-on", Some(("", "")), 1000, 1000, TOO_MANY),
 ];
 
 const TOO_MANY: Answer = Err(RunFault::TooManyCalls);
 
 /// The bundle's plugins, and some that are made for tests.
-fn all_plugins(alloc: Global) -> Result<Plugins<Tested>, PluginFault> {
+pub fn all_plugins(alloc: Global) -> Result<Plugins<Tested>, PluginFault> {
     let given = [
         Given("climb", &[104], &[Load::On(Hook::Title, 10, 104, 1)]),
         Given("climb-on", &[107], &[Load::On(Hook::Title, 10, 107, 1)]),
@@ -131,7 +132,7 @@ fn settings(alloc: Global) -> Result<Settings, AllocError> {
     })
 }
 
-fn begun<'p>(
+pub fn begun<'p>(
     alloc: Global,
     plugins: &'p Plugins<Tested>,
     case: &Case,
@@ -145,7 +146,7 @@ fn begun<'p>(
 }
 
 /// Whether a turn gave that page, or that fault.
-fn is_end(turned: Result<PageTurn, RunFault>, wanted: Answer) -> bool {
+pub fn is_end(turned: Result<PageTurn, RunFault>, wanted: Answer) -> bool {
     match turned {
         Ok(PageTurn::Done(status, bytes)) => is_page(status, bytes.as_slice(), wanted),
         Ok(PageTurn::More) => false,
@@ -161,7 +162,7 @@ fn is_page(status: u16, bytes: &[u8], wanted: Answer) -> bool {
 }
 
 /// Whether the whole page is that one, or refused by that fault.
-fn is_whole(finished: Result<(u16, Vec<u8>), RunFault>, wanted: Answer) -> bool {
+pub fn is_whole(finished: Result<(u16, Vec<u8>), RunFault>, wanted: Answer) -> bool {
     match finished {
         Ok((status, bytes)) => is_page(status, bytes.as_slice(), wanted),
         Err(fault) => wanted == Err(fault),
