@@ -1,5 +1,6 @@
 //! The entries of a group, which a plan and its passes share.
-ghost use Rattle.std.specs.Prelude.{◌≡◌, ◌∷◌, ◌++◌, [], ◌==◌, not, filter, length, drop, IfOk, OnOk, OnErr, MatchOption};
+ghost use Rattle.std.specs.Prelude.{◌≡◌, ◌∷◌, ◌++◌, [], ◌==◌, not, filter, length, drop};
+ghost use Rattle.std.specs.Prelude.{IfOk, OnOk, OnErr, MatchOption};
 ghost use Rattle.call_plans.specs.Entries.{with_entry};
 
 use hook_changes::CallbackId;

@@ -7,8 +7,8 @@ use hook_changes::{CallbackId, HookName};
 use hook_registry::Entry;
 use std::alloc::AllocError;
 
-// A change takes the plans out, and puts them back only once both they and the registry have it. So a change that either
-// of them refuses leaves no plans, and never plans that differ from the registry.
+// A change takes the plans out, and puts them back only once both they and the registry have it. So a change that
+// either of them refuses leaves no plans, and never plans that differ from the registry.
 impl State {
     ghost use Rattle.hook_registry.specs.Table.{add, remove, remove_all};
     ghost use Rattle.call_plans.specs.Position.{next_entry};

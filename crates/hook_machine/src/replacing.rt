@@ -1,10 +1,12 @@
 //! Shortcode passes.
-ghost use Rattle.std.specs.Prelude.{◌≡◌, ◌++◌, ◌∷◌, [], None, Some, IsTrue, IsFalse, IfOk, IfSome, IsSome, MatchOption, OnOk};
+ghost use Rattle.std.specs.Prelude.{◌≡◌, ◌++◌, ◌∷◌, [], None, Some, IsTrue, IsFalse};
+ghost use Rattle.std.specs.Prelude.{IfOk, IfSome, IsSome, MatchOption, OnOk};
 ghost use Rattle.shortcode_scan.specs.Spans.{IsSpanOf};
 ghost use Rattle.hook_registry.specs.Table.{has};
 ghost use Rattle.hook_machine.specs.World.{World};
 ghost use Rattle.hook_machine.specs.Trace.{Done};
-ghost use Rattle.hook_machine.specs.Meaning.{Invocation, invoke, text_at, shortcode_filter, pieces_pass, shortcodes_pass};
+ghost use Rattle.hook_machine.specs.Meaning.{Invocation, invoke, text_at, shortcode_filter};
+ghost use Rattle.hook_machine.specs.Meaning.{pieces_pass, shortcodes_pass};
 ghost use Rattle.hook_machine.specs.Outcomes.{engine_over};
 ghost use Rattle.hook_machine.specs.Works.{bracketed};
 ghost use Rattle.hook_machine.specs.Rest.{text_left, text_handed, in_place};
@@ -205,8 +207,8 @@ fn filter_turn<S: Stated>(
     begin_filter(plugins, state, stack, SHORTCODE_FILTER, text, args)
 }
 
-/// Hands a shortcode pass the answer of its match's handler, which goes through the filter first, or that filter's value.
-/// A filter on which nothing is registered isn't begun.
+/// Hands a shortcode pass the answer of its match's handler, which goes through the filter first, or that filter's
+/// value. A filter on which nothing is registered isn't begun.
 pub fn shown_turn<S: Stated>(
     plugins: &Plugins<S>,
     state: &mut State,

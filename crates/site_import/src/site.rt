@@ -96,9 +96,9 @@ fn read_records(alloc: Global, value: &Value) -> Result<SiteRecords, ImportFault
     read_sections(alloc, value, version)
 }
 
-/// The records of a tree of version 1 or 2. Other keys than `version`, `posts`, `options`, `templates`, `active` and, in
-/// version 2, `front` are ignored. What `front` says becomes options after the others. Whether the IDs are new and the
-/// plugins are there isn't looked at.
+/// The records of a tree of version 1 or 2. Other keys than `version`, `posts`, `options`, `templates`, `active` and,
+/// in version 2, `front` are ignored. What `front` says becomes options after the others. Whether the IDs are new and
+/// the plugins are there isn't looked at.
 pub fn read_site_value(alloc: Global, value: &Value) -> Result<SiteFile, ImportFault>
     ensures ok { IfOk result (λ file. site_file_of (view value.now) ≡ Ok file.records) }
     ensures err { IfErr result (λ fault. fault ≢ ImportFault.OutOfMemory
