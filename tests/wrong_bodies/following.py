@@ -4,7 +4,8 @@ import re
 import threading
 import time
 
-PROVED = re.compile(r"^rt: (\w+) (proved|NOT PROVED.*)$", re.M)
+# A crate is kept if an earlier run on this machine proved the same files.
+PROVED = re.compile(r"^rt: (\w+) (proved|is kept|NOT PROVED)\b", re.M)
 # What ./test writes behind the output, however the run ended.
 ENDED = re.compile(r"^rt ci has ended$", re.M)
 
@@ -23,7 +24,7 @@ class Log:
                 text = self.path.read_text(encoding="utf-8", errors="replace")
             except OSError:
                 text = ""
-        return {name: word == "proved" for name, word in PROVED.findall(text)}, bool(ENDED.search(text))
+        return {name: word != "NOT PROVED" for name, word in PROVED.findall(text)}, bool(ENDED.search(text))
 
     def wait_for(self, names):
         """Waits until all these crates are proved. The result names the first that failed, or is None."""
