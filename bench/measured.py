@@ -1,27 +1,43 @@
-"""Runs the built program on an input, for the scripts that time it."""
+"""Measures what programs take of a processor: the one way of all scripts of this folder.
 
+A figure is the least time, the program's own and the system's for it, that the same run takes out of several. Runs that
+are compared take turns, so that a busy moment of the machine slows them alike. What a single request takes is the
+difference between a run with many of them and one with none, divided by their number. Each output is compared with what
+it must be, so a program that answers wrongly isn't timed.
+"""
+
+import argparse
 import os
 import subprocess
 import sys
 import tempfile
 import time
+from collections import namedtuple
 from pathlib import Path
 
-BUILT_PROGRAM = Path(__file__).resolve().parent.parent / "crates/site/out/site"
-RUNS = 3
+CRATES = Path(__file__).resolve().parents[1] / "crates"
+SITE = CRATES / "site" / "out" / "site"
+PASSES = CRATES / "engine_bench" / "out" / "engine_bench"
+TURNS = 15
+# How many callbacks all passes of one run call, and the smallest number of passes of a run.
+PASSED, FEWEST = 200_000, 20
+# A difference that can't be told from none counts as this, in seconds, so that it has a ratio and a logarithm.
+NONE = 1e-9
+
+Run = namedtuple("Run", "words given expected")
+Spent = namedtuple("Spent", "seconds kilobytes")
+# A run in which something is done a number of times, and one in which it isn't done.
+Case = namedtuple("Case", "many none times")
 
 
-def program_named(words):
-    """The program that the words of a command line name, or the built one."""
-    program = words[0] if words else str(BUILT_PROGRAM)
-    if not os.access(program, os.X_OK):
-        sys.exit(f"{program} isn't built: run ./site once, or give another program")
-    return program
-
-
-def started(words):
-    """The program that the words of a command line name, and whether they ask for the smallest sizes alone."""
-    return program_named([word for word in words if word != "--smoke"]), "--smoke" in words
+def parser_of(about):
+    """The parser of the command line that all scripts have; a script's docstring says what it is about."""
+    parser = argparse.ArgumentParser(description=about.splitlines()[0])
+    parser.add_argument("--smoke", action="store_true", help="run small sizes once, to see that the script works")
+    parser.add_argument("--svg", type=Path, metavar="FILE", help="draw the tables into FILE too")
+    program = "the program, crates/site/out/site if it is left out"
+    parser.add_argument("program", nargs="?", default=str(SITE), metavar="PROGRAM", help=program)
+    return parser
 
 
 def peak_of(pid, program):
@@ -35,27 +51,82 @@ def peak_of(pid, program):
         return 0
 
 
-def run(program, given, expected, words=()):
-    """Seconds and peak memory in kilobytes of one run with some arguments, whose output must be as expected."""
+def ended(child):
+    """Waits for a child to end, and returns its processor seconds and its peak memory in kilobytes.
+
+    The peak is read while it runs, so it is 0 if the child ends within a millisecond or so: the system's own figure
+    counts what Python had before the program took the process over.
+    """
+    peak, pid = 0, 0
+    while not pid:
+        peak = max(peak, peak_of(child.pid, child.args[0]))
+        time.sleep(0.001)
+        pid, status, usage = os.wait4(child.pid, os.WNOHANG)
+    child.returncode = os.waitstatus_to_exitcode(status)
+    return Spent(usage.ru_utime + usage.ru_stime, peak)
+
+
+def spent(run):
+    """What one run takes, whose output must be as expected."""
     with tempfile.TemporaryFile() as source, tempfile.TemporaryFile() as written:
-        source.write(given)
+        source.write(run.given)
         source.seek(0)
-        begin = time.perf_counter()
-        child = subprocess.Popen([program, *words], stdin=source, stdout=written)
-        peak = 0
-        while child.poll() is None:
-            peak = max(peak, peak_of(child.pid, program))
-            time.sleep(0.001)
-        seconds = time.perf_counter() - begin
+        child = subprocess.Popen(run.words, stdin=source, stdout=written)
+        figures = ended(child)
         if child.returncode != 0:
-            sys.exit(f"{program} ended with status {child.returncode}")
+            sys.exit(f"{run.words[0]} ended with status {child.returncode}")
         written.seek(0)
-        if written.read() != expected:
-            sys.exit(f"{program} answered wrongly")
-        return seconds, peak
+        if written.read() != run.expected:
+            sys.exit(f"{run.words[0]} answered wrongly")
+    return figures
 
 
-def best(program, given, expected, words=()):
-    """The fastest of some runs, and the greatest peak."""
-    runs = [run(program, given, expected, words) for _ in range(RUNS)]
-    return min(seconds for seconds, _ in runs), max(memory for _, memory in runs)
+def difference(whole, part):
+    """What a time has more than another."""
+    return max(whole - part, NONE)
+
+
+class Bench:
+    """What the command line of a script says, and the runs that are made for it."""
+
+    def __init__(self, given):
+        self.smoke, self.svg, self.program = given.smoke, given.svg, given.program
+        self.words = (given.program, "--calls", "100000")
+        if not os.access(self.program, os.X_OK):
+            sys.exit(f"{self.program} isn't built: run ./site once, or give another program")
+
+    def run(self, exchange):
+        """A run of the program over the lines of an exchange."""
+        return Run(self.words, exchange.lines.encode(), exchange.replies.encode())
+
+    def repeated(self, before, exchange, times):
+        """The case of an exchange that is made a number of times after another."""
+        return Case(self.run(before + exchange * times), self.run(before), times)
+
+    def passes(self, count, spread):
+        """The case of passes of a filter over `count` callbacks, at one priority or, if spread, each at its own."""
+        if not os.access(PASSES, os.X_OK):
+            sys.exit(f"{PASSES} isn't built: run `rt run` in its crate's folder once")
+        times = FEWEST if self.smoke else max(PASSED // count, FEWEST)
+
+        def run(passes):
+            return Run((str(PASSES), str(count), str(passes), *["many"] * spread), b"", b"value\n")
+
+        return Case(run(times), run(0), times)
+
+    def best(self, runs):
+        """The least time and the largest peak of each of some runs, which take turns."""
+        runs = list(runs)
+        turns = [[spent(run) for run in runs] for _ in range(1 if self.smoke else TURNS)]
+        return [Spent(min(it.seconds for it in of), max(it.kilobytes for it in of)) for of in zip(*turns)]
+
+    def costs(self, cases):
+        """For each of some cases the seconds of one time, and the peak of the run with many."""
+        runs = dict.fromkeys(run for case in cases for run in (case.many, case.none))
+        best = dict(zip(runs, self.best(runs)))
+
+        def cost(case):
+            many, none = best[case.many], best[case.none]
+            return Spent(difference(many.seconds, none.seconds) / case.times, many.kilobytes)
+
+        return [cost(case) for case in cases]
