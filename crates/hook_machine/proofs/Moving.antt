@@ -1,5 +1,5 @@
 -- How the calls of the stepping machine move along what is left.
-use Rattle.std.proofs.Common.{◌≡◌, ℕ, ◌+◌, ◌<◌, ℤ, true, false, List, [], ◌∷◌, ◌++◌, take, Option, None, Some, IsSome, Result, Ok, Err, refl, sym, ap, ◌∙◌}
+use Rattle.std.proofs.Common.{◌≡◌, ◌⊎◌, inl, inr, ℕ, ◌+◌, ◌≤◌, ◌<◌, ℤ, true, false, List, [], ◌∷◌, ◌++◌, take, Option, None, Some, IsSome, Result, Ok, Err, refl, sym, ap, ◌∙◌}
 use Rattle.std.specs.Prelude.{map, pos, is_some, bytes_eq}
 use Rattle.std.specs.List.{list_any}
 use Rattle.hook_changes.specs.Names.{is_hook_name}
@@ -17,7 +17,7 @@ use Rattle.shortcode_scan.specs.declared.Piece.{Piece}
 use Rattle.shortcode_scan.specs.Pieces.{pieces_of}
 use Rattle.shortcode_scan.specs.Live.{live}
 use Rattle.hook_machine.specs.declared.fault.RunFault.{RunFault}
-use Rattle.hook_machine.specs.declared.fault.RunFault.TheVariants.{TooManyCalls, TooDeep}
+use Rattle.hook_machine.specs.declared.fault.RunFault.TheVariants.{TooManyCalls, TooDeep, OutOfMemory}
 use Rattle.hook_machine.specs.declared.pass.PassKind.{PassKind}
 use Rattle.hook_machine.specs.declared.pass.PassKind.TheVariants.{Filter, Action}
 use Rattle.call_plans.specs.declared.position.Position.{Position}
@@ -74,10 +74,11 @@ module _ (engine : Engine) where
   pub handed_moves : (t : Trace Text) (w : World) (x : Text) (fs : List Frame) → t ≡ Done w x → Moves engine (then_rest engine t fs) (Ok (Handed x)) w fs
   handed_moves t w x fs e = ap (λ (t : Trace Text). then_rest engine t fs) e
 
-  -- one that is refused
-  pub deep_moves : (t : Trace Text) (f : RunFault) (fs : List Frame) → t ≡ Refused TooDeep → f ≡ TooDeep → (v : World) (gs : List Frame)
-      → Moves engine (then_rest engine t fs) (Err f) v gs
-  deep_moves t f fs e q v gs = rw q (ap (λ (t : Trace Text). then_rest engine t fs) e)
+  -- one that is refused, unless memory was
+  pub deep_moves : (t : Trace Text) (depth : ℕ) (f : RunFault) (fs : List Frame) → (32 ≤ depth → t ≡ Refused TooDeep)
+      → (f ≡ OutOfMemory) ⊎ ((f ≡ TooDeep) × (32 ≤ depth)) → (v : World) (gs : List Frame) → Moves engine (then_rest engine t fs) (Err f) v gs
+  deep_moves t depth f fs h (inl e) v gs = rw e tt
+  deep_moves t depth f fs h (inr e) v gs = rw e.0 (ap (λ (t : Trace Text). then_rest engine t fs) (h e.1))
 
   -- ---- passes
 
@@ -250,17 +251,15 @@ module _ (engine : Engine) where
       → Moves engine (then_rest engine (pending_left engine w k call pending) fs) (Ok (Handed nothing)) w fs
   waits_moves w k call nothing fs pending e n = rw n (handed_moves (pending_left engine w k call pending) w [] fs e)
 
-  pub text_waits : (w : World) (k : ℕ) (call : Call) → pending_left engine w k call ForText ≡ Done w []
+  -- an invocation that waits, to which nothing is handed
+  pub others_wait : (w : World) (k : ℕ) (call : Call) (pending : Pending) → ((n : Then) → pending ≡ Next n → ⊥) → (pending ≡ Core → ⊥)
+      → pending_left engine w k call pending ≡ Done w []
   unfolding pending_left
-  text_waits w k call = refl
-
-  pub nothing_waits : (w : World) (k : ℕ) (call : Call) → pending_left engine w k call ForNothing ≡ Done w []
-  unfolding pending_left
-  nothing_waits w k call = refl
-
-  pub core_waits : (w : World) (k : ℕ) (call : Call) → pending_left engine w k call ForCore ≡ Done w []
-  unfolding pending_left
-  core_waits w k call = refl
+  others_wait w k call (Next n) h g = absurd (h n refl)
+  others_wait w k call Core h g = absurd (g refl)
+  others_wait w k call ForText h g = refl
+  others_wait w k call ForNothing h g = refl
+  others_wait w k call ForCore h g = refl
 
   -- a result that is handed to an invocation
   pub text_answered : (w up : World) (k : ℕ) (call : Call) (text : Text) (fs : List Frame) → up ≡ risen w
@@ -284,15 +283,21 @@ module _ (engine : Engine) where
   unfolding pending_handed
   core_handed w up k call text fs e = handed_moves (Done (risen w) text) up text fs (ap (λ (v : World). Done v text) (sym e))
 
-  pub next_handed : (w : World) (k : ℕ) (call : Call) (n : Then) (text : Text) (fs : List Frame)
-      → Moves engine (then_rest engine (pending_handed engine w k call (Next n) text) fs) (Ok (Handed text)) w fs
+  -- one that waits for nothing hands the result on
+  others_hand : (w : World) (k : ℕ) (call : Call) (pending : Pending) (text : Text) → (pending ≡ ForText → ⊥) → (pending ≡ ForNothing → ⊥)
+      → (pending ≡ ForCore → ⊥) → pending_handed engine w k call pending text ≡ Done w text
   unfolding pending_handed
-  next_handed w k call n text fs = refl
+  others_hand w k call (Next n) text f g h = refl
+  others_hand w k call Core text f g h = refl
+  others_hand w k call ForText text f g h = absurd (f refl)
+  others_hand w k call ForNothing text f g h = absurd (g refl)
+  others_hand w k call ForCore text f g h = absurd (h refl)
 
-  pub begun_handed : (w : World) (k : ℕ) (call : Call) (text : Text) (fs : List Frame)
-      → Moves engine (then_rest engine (pending_handed engine w k call Core text) fs) (Ok (Handed text)) w fs
-  unfolding pending_handed
-  begun_handed w k call text fs = refl
+  pub others_handed : (w : World) (k : ℕ) (call : Call) (pending : Pending) (text : Text) (fs : List Frame) → (pending ≡ ForText → ⊥)
+      → (pending ≡ ForNothing → ⊥) → (pending ≡ ForCore → ⊥)
+      → Moves engine (then_rest engine (pending_handed engine w k call pending text) fs) (Ok (Handed text)) w fs
+  others_handed w k call pending text fs f g h =
+      handed_moves (pending_handed engine w k call pending text) w text fs (others_hand w k call pending text f g h)
 
   -- ---- shortcodes
 

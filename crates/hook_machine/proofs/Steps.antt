@@ -1,5 +1,5 @@
 -- How a stopped run moves along what is left of it: each law is one step of the frames.
-use Rattle.std.proofs.Common.{◌≡◌, ℕ, ◌+◌, ◌-◌, ◌≤◌, ◌<◌, ℤ, true, false, ◌==◌, List, [], ◌∷◌, ◌++◌, take, Option, None, Some, Result, Ok, Err, refl, sym, ap, ◌∙◌}
+use Rattle.std.proofs.Common.{◌≡◌, ℕ, ◌+◌, ◌-◌, ◌≤◌, ◌<◌, ℤ, Bool, true, false, cond, ◌==◌, List, [], ◌∷◌, ◌++◌, take, Option, None, Some, Result, Ok, Err, refl, sym, ap, ◌∙◌}
 use Rattle.std.specs.Prelude.{map}
 use Rattle.hook_changes.specs.declared.reply.Call.{Call}
 use Rattle.hook_changes.specs.declared.reply.Reply.{Reply}
@@ -20,6 +20,7 @@ use Rattle.hook_machine.specs.declared.pass.PassKind.{PassKind}
 use Rattle.call_plans.specs.declared.position.Position.{Position}
 use Rattle.hook_machine.specs.declared.pieces.Matched.{Matched}
 use Rattle.hook_machine.specs.declared.frame.HookPass.{HookPass}
+use Rattle.hook_machine.specs.declared.frame.Pending.{Pending}
 use Rattle.hook_machine.specs.declared.frame.Pending.TheVariants.{Next, Core, ForText, ForNothing, ForCore}
 use Rattle.hook_machine.specs.declared.frame.Frame.{Frame}
 use Rattle.hook_machine.specs.declared.frame.Frame.TheVariants as frame
@@ -31,7 +32,7 @@ use Rattle.hook_machine.specs.Trace.{Trace, Done, Refused, Turn, and_then}
 use Rattle.hook_machine.specs.Meaning.{Engine, Invocation, hook_call, arguments, value_after, group_pass, priorities_pass, pass, filter_pass, action_pass, piece_pass, pieces_pass, shortcodes_pass, answered, deeper, follow, said, invoked, invoked_with, invoke, replied, first_or_empty, text_at}
 use Rattle.hook_machine.specs.Works.{work_pass, answer_shown}
 use Rattle.call_plans.specs.Position.{first_of, reach, next_entry}
-use Rattle.hook_machine.specs.Rest.{left_hook, risen, with_answer, above_left, pass_from, pass_left, pending_left, pending_handed, goes_on, handed, rest_with, then_rest, rest}
+use Rattle.hook_machine.specs.Rest.{begun, left_hook, risen, with_answer, above_left, pass_from, pass_left, pending_left, pending_handed, goes_on, handed, rest_with, then_rest, rest}
 use Rattle.hook_machine.specs.Moves.{Moves}
 use Rattle.hook_machine.proofs.Agree.{invoke-step}
 use Rattle.hook_machine.proofs.Ending.{invoke_some, deeper_within, deeper_beyond}
@@ -191,7 +192,7 @@ module _ (engine : Engine) where
   invoked_core w k call h = rw h refl
 
   -- core's callback takes a turn, and its shortcode pass is left
-  pub turn_core : (w taken : World) (k : ℕ) (call : Call) (fs fs' : List Frame) → 0 < w.calls → (k == 0) ≡ true → taken ≡ record w { calls = w.calls - 1 }
+  turn_core : (w taken : World) (k : ℕ) (call : Call) (fs fs' : List Frame) → 0 < w.calls → (k == 0) ≡ true → taken ≡ record w { calls = w.calls - 1 }
       → fs' ≡ frame.Invocation (record { callback = k; call = call; pending = Core }) ∷ fs
       → then_rest engine (invoke engine w k call) fs ≡ Turn taken (rest engine taken fs')
   unfolding rest goes_on pending_left
@@ -213,11 +214,29 @@ module _ (engine : Engine) where
   turn_other w k call fs h n = ap (λ (t : Trace Text). then_rest engine t fs)
       (invoke_some engine w k call h ∙ invoked_other (record w { calls = w.calls - 1 }) k call n)
 
-  pub turn_on : (w taken : World) (k : ℕ) (call : Call) (reply : Reply) (w' : World) (fs fs' : List Frame) → 0 < w.calls → (k == 0) ≡ false
+  turn_on : (w taken : World) (k : ℕ) (call : Call) (reply : Reply) (w' : World) (fs fs' : List Frame) → 0 < w.calls → (k == 0) ≡ false
       → taken ≡ record w { calls = w.calls - 1 } → reply ≡ said engine k call
       → w' ≡ replied engine taken reply → fs' ≡ frame.Invocation (record { callback = k; call = call; pending = Next reply.next }) ∷ fs
       → then_rest engine (invoke engine w k call) fs ≡ Turn w' (rest engine w' fs')
   turn_on w taken k call reply w' fs fs' h n t r e f = rw (f, e, t, r) (turn_other w k call fs h n)
+
+  -- a callback takes a turn, whichever it is, and what its invocation is to do next is left
+  turn_by : (b : Bool) (w taken : World) (k : ℕ) (call : Call) (found : World × Pending) (fs fs' : List Frame) → (k == 0) ≡ b → 0 < w.calls
+      → taken ≡ record w { calls = w.calls - 1 }
+      → found ≡ cond b (taken, Core) (replied engine taken (said engine k call), Next (said engine k call).next)
+      → fs' ≡ frame.Invocation (record { callback = k; call = call; pending = found.1 }) ∷ fs
+      → then_rest engine (invoke engine w k call) fs ≡ Turn found.0 (rest engine found.0 fs')
+  turn_by true w taken k call found fs fs' n h t e f =
+      rw (f, e) (turn_core w taken k call fs (frame.Invocation (record { callback = k; call = call; pending = Core }) ∷ fs) h n t refl)
+  turn_by false w taken k call found fs fs' n h t e f =
+      rw (f, e) (turn_on w taken k call (said engine k call) (replied engine taken (said engine k call)) fs
+      (frame.Invocation (record { callback = k; call = call; pending = Next (said engine k call).next }) ∷ fs) h n t refl refl refl)
+
+  pub turn_begun : (w taken : World) (k : ℕ) (call : Call) (found : World × Pending) (fs fs' : List Frame) → 0 < w.calls
+      → taken ≡ record w { calls = w.calls - 1 } → found ≡ begun engine taken k call
+      → fs' ≡ frame.Invocation (record { callback = k; call = call; pending = found.1 }) ∷ fs
+      → then_rest engine (invoke engine w k call) fs ≡ Turn found.0 (rest engine found.0 fs')
+  turn_begun w taken k call found fs fs' h t e f = turn_by (k == 0) w taken k call found fs fs' refl h t e f
 
   -- a callback's answer is handed on
   pub answer_goes : (w : World) (k : ℕ) (call : Call) (text : Text) → pending_left engine w k call (Next (next.Answer text)) ≡ Done w text

@@ -1,7 +1,8 @@
 //! How an invocation goes on: by its answer, by what it asks, or by what was answered to it.
-ghost use Rattle.std.specs.Prelude.{◌≡◌, ◌∷◌, IfErr, OnOk};
+ghost use Rattle.std.specs.Prelude.{◌≡◌, ◌⊎◌, ◌+◌, ◌<◌, ◌≤◌, ◌∷◌, IfErr, OnOk};
 ghost use Rattle.hook_changes.specs.declared.reply.Then.TheVariants as next;
 ghost use Rattle.hook_changes.specs.declared.reply.Ask.TheVariants.{Apply, Act, Shortcodes};
+ghost use Rattle.hook_machine.specs.declared.fault.RunFault.TheVariants.{TooDeep, OutOfMemory};
 ghost use Rattle.hook_machine.specs.declared.frame.Pending.TheVariants.{Next, Core};
 ghost use Rattle.hook_machine.specs.Meaning.{invoke};
 ghost use Rattle.hook_machine.specs.Outcomes.{engine_over};
@@ -36,17 +37,21 @@ fn invoke_again<S: Stated>(
     invoke_turn(plugins, state, stack, callback, call)
 }
 
-/// Puts an invocation on the stack that waits for what it asked.
+/// Goes one level deeper, and puts the invocation that waits for what is done there on the stack.
 fn wait(
+    state: &mut State,
     stack: &mut Stack,
     callback: CallbackId,
     call: Call,
     pending: Pending,
 ) -> Result<(), RunFault>
-    ensures ok { OnOk result (stack.new ≡ Frame.Invocation
+    ensures within { OnOk result (state.old.depth < 32) }
+    ensures deeper { OnOk result (state.new ≡ record state.old { depth = state.old.depth + 1 }) }
+    ensures waits { OnOk result (stack.new ≡ Frame.Invocation
         (record { callback = callback; call = call; pending = pending }) ∷ stack.old) }
-    ensures err { IfErr result (λ fault. fault ≡ RunFault.OutOfMemory) }
+    ensures err { IfErr result (λ fault. (fault ≡ OutOfMemory) ⊎ ((fault ≡ TooDeep) × (32 ≤ state.old.depth))) }
 {
+    state.deepen()?;
     stack.put_first(Frame::Invocation(Invoked {
         callback,
         call,
@@ -71,8 +76,7 @@ fn ask_apply<S: Stated>(
         stack.old result state.new stack.new }
     ensures grows { Shrinks 1 result stack.old stack.new }
 {
-    state.deepen()?;
-    wait(stack, callback, call, Pending::ForText)?;
+    wait(state, stack, callback, call, Pending::ForText)?;
     begin_filter(plugins, state, stack, hook.as_str(), value, args)
 }
 
@@ -91,8 +95,7 @@ fn ask_act<S: Stated>(
         stack.old result state.new stack.new }
     ensures grows { Shrinks 1 result stack.old stack.new }
 {
-    state.deepen()?;
-    wait(stack, callback, call, Pending::ForNothing)?;
+    wait(state, stack, callback, call, Pending::ForNothing)?;
     begin_action(plugins, state, stack, hook.as_str(), args)
 }
 
@@ -111,8 +114,7 @@ fn ask_shortcodes<S: Stated>(
         stack.old result state.new stack.new }
     ensures grows { Shrinks 1 result stack.old stack.new }
 {
-    state.deepen()?;
-    wait(stack, callback, call, Pending::ForText)?;
+    wait(state, stack, callback, call, Pending::ForText)?;
     begin_text(plugins, state, stack, text, cache)
 }
 
@@ -131,8 +133,7 @@ fn core_turn<S: Stated>(
 {
     let mut call = call;
     let text = take_first_argument(state.alloc(), &mut call);
-    state.deepen()?;
-    wait(stack, callback, call, Pending::ForCore)?;
+    wait(state, stack, callback, call, Pending::ForCore)?;
     begin_text(plugins, state, stack, text, cache)
 }
 
@@ -233,9 +234,7 @@ pub fn invocation_turn<S: Stated>(
     match pending {
         Pending::Next(next) => follow_turn(plugins, state, stack, callback, call, next, cache),
         Pending::Core => core_turn(plugins, state, stack, callback, call, cache),
-        Pending::ForText => Ok(Move::Handed(Text::empty(state.alloc()))),
-        Pending::ForNothing => Ok(Move::Handed(Text::empty(state.alloc()))),
-        Pending::ForCore => Ok(Move::Handed(Text::empty(state.alloc()))),
+        _ => Ok(Move::Handed(Text::empty(state.alloc()))),
     }
 }
 
@@ -271,10 +270,6 @@ pub fn waiting_turn<S: Stated>(
             state.keep_call(call);
             Ok(Move::Handed(text))
         }
-        Pending::Next(next) => {
-            drop(next);
-            Ok(Move::Handed(text))
-        }
-        Pending::Core => Ok(Move::Handed(text)),
+        _ => Ok(Move::Handed(text)),
     }
 }

@@ -22,7 +22,7 @@ use crate::turning::{begin_filter, invoke_turn};
 use callback_store::{Plugins, Stated};
 use content_cache::PieceCache;
 use hook_changes::{Call, CallbackId, Listed, Text};
-use shortcode_scan::{Piece, Span, part};
+use shortcode_scan::{Piece, Span, text_at};
 use std::alloc::{AllocError, Global};
 use std::marker::Model;
 
@@ -74,7 +74,7 @@ fn next_handling(
         let whole = cut.text();
         let work = work_of_piece(state, whole, &piece)?;
         match work {
-            Work::Shown(span) => so_far.push_str(part(whole, span))?,
+            Work::Shown(span) => so_far.push_str(text_at(whole, span))?,
             Work::Handled {
                 handler,
                 call,
@@ -169,7 +169,7 @@ fn tag_argument(alloc: Global, text: &str, name: Span) -> Result<Listed<Text>, A
     ensures { IfOk result (λ args. args ≡ text_at text.now name ∷ []) }
 {
     let mut args = Listed::empty(alloc);
-    args.push(Text::copied(alloc, part(text, name))?)?;
+    args.push(Text::copied(alloc, text_at(text, name))?)?;
     Ok(args)
 }
 

@@ -1,7 +1,9 @@
 //! How a stopped run goes on, from one invocation to the next.
+ghost use Rattle.std.specs.Prelude.{◌≡◌, ℕ, List, IfOk, IfErr, OnOk, take};
 ghost use Rattle.hook_machine.specs.Meaning.{pass, filter_pass, action_pass, invoke};
+ghost use Rattle.hook_machine.specs.Meaning.{hook_call, arguments, value_after};
 ghost use Rattle.hook_machine.specs.Outcomes.{engine_over};
-ghost use Rattle.hook_machine.specs.Rest.{pass_left};
+ghost use Rattle.hook_machine.specs.Rest.{begun, pass_left};
 ghost use Rattle.hook_machine.specs.Moves.{Does, Shrinks, Invokes};
 
 use crate::fault::RunFault;
@@ -12,6 +14,27 @@ use crate::state::State;
 use call_plans::Position;
 use callback_store::{Plugins, Stated};
 use hook_changes::{Call, CallbackId, HookName, Listed, NameFault, Text};
+use std::alloc::AllocError;
+use std::mem;
+
+/// What an invocation is to do next, once its callback has replied and the reply's echo and changes are carried out.
+fn begun<S: Stated>(
+    plugins: &Plugins<S>,
+    state: &mut State,
+    callback: CallbackId,
+    call: &Call,
+) -> Result<Pending, RunFault>
+    ensures ok { IfOk result (λ pending. (state.new, pending)
+        ≡ begun (engine_over S.says S.number plugins.now) state.old callback call.now) }
+    ensures err { IfErr result (λ fault. fault ≡ RunFault.OutOfMemory) }
+{
+    if callback.number() == 0 {
+        return Ok(Pending::Core);
+    }
+    let reply = reply_of(plugins, state.alloc(), callback, call)?;
+    state.carry_out(plugins, &reply)?;
+    Ok(Pending::Next(reply.next))
+}
 
 /// Invokes a callback, and keeps how it goes on.
 pub fn invoke_turn<S: Stated>(
@@ -26,22 +49,39 @@ pub fn invoke_turn<S: Stated>(
     ensures invokes { Invokes result }
 {
     state.take_call()?;
-    if callback.number() == 0 {
-        stack.put_first(Frame::Invocation(Invoked {
-            callback,
-            call,
-            pending: Pending::Core,
-        }))?;
-        return Ok(Move::Turned);
-    }
-    let reply = reply_of(plugins, state.alloc(), callback, &call)?;
-    state.carry_out(plugins, &reply)?;
+    let pending = begun(plugins, state, callback, &call)?;
     stack.put_first(Frame::Invocation(Invoked {
         callback,
         call,
-        pending: Pending::Next(reply.next),
+        pending,
     }))?;
     Ok(Move::Turned)
+}
+
+/// The call of a pass's next callback, into which a filter's value moves.
+fn next_call(state: &mut State, pass: &mut HookPass, accepted: u8) -> Result<Call, AllocError>
+    ensures call { IfOk result (λ call. call ≡ hook_call pass.old.position.hook
+        (take accepted (arguments pass.old.kind pass.old.value pass.old.args))) }
+    ensures pass { pass.new ≡ record pass.old { value = pass.new.value } }
+    ensures kept { OnOk result ((answer : List ℕ)
+        → value_after pass.old.kind pass.new.value answer ≡ value_after pass.old.kind pass.old.value answer) }
+    ensures state { state.new ≡ state.old }
+{
+    let alloc = state.alloc();
+    let value = mem::replace(&mut pass.value, Text::empty(alloc));
+    let spare = state.spare_call();
+    let made = call_of_hook(
+        alloc,
+        pass.kind,
+        pass.position.hook.as_str(),
+        value,
+        pass.args.as_slice(),
+        accepted,
+        spare,
+    )?;
+    let (call, kept) = made;
+    pass.value = kept;
+    Ok(call)
 }
 
 /// Goes on with a pass: its next entry is invoked, or it leaves its hook.
@@ -55,35 +95,15 @@ pub fn pass_turn<S: Stated>(
         (λ engine. pass_left engine state.old pass) stack.old result state.new stack.new }
     ensures shrinks { Shrinks 0 result stack.old stack.new }
 {
-    let HookPass {
-        kind,
-        args,
-        value,
-        mut position,
-    } = pass;
-    match state.next(&mut position)? {
+    let mut pass = pass;
+    match state.next(&mut pass.position)? {
         None => {
             state.leave();
-            Ok(Move::Handed(value))
+            Ok(Move::Handed(pass.value))
         }
         Some(entry) => {
-            let spare = state.spare_call();
-            let made = call_of_hook(
-                state.alloc(),
-                kind,
-                position.hook.as_str(),
-                value,
-                args.as_slice(),
-                entry.accepted,
-                spare,
-            )?;
-            let (call, value) = made;
-            stack.put_first(Frame::Pass(HookPass {
-                kind,
-                args,
-                value,
-                position,
-            }))?;
+            let call = next_call(state, &mut pass, entry.accepted)?;
+            stack.put_first(Frame::Pass(pass))?;
             invoke_turn(plugins, state, stack, entry.callback, call)
         }
     }

@@ -4,7 +4,7 @@
 //! pieces are found leftmost first, in one pass, each stretch of the text searched once for each thing.
 #![tactic(auto)]
 
-ghost use Rattle.std.specs.Prelude.{◌≡◌, ℕ, List, slice_range, IfOk};
+ghost use Rattle.std.specs.Prelude.{◌≡◌, ℕ, List, [], slice_range, IfOk, IsTrue};
 ghost use Rattle.std.specs.List.{AllByRecursion};
 ghost use Rattle.shortcode_scan.specs.Spans.{IsSpanOf, HasSpansOf};
 ghost use Rattle.shortcode_scan.specs.Pieces.{IsPieces, pieces_of, joined};
@@ -54,6 +54,13 @@ pub enum Piece {
 /// opens.
 const FEW_NAMES: usize = 8;
 
+/// Whether the text has no `[`, so that it opens no name, whichever there are.
+pub fn opens_nothing(text: &str) -> bool
+    ensures { IsTrue result → (names : List (List ℕ)) → live names text.now ≡ [] }
+{
+    opening_from(text.as_bytes(), 0).is_none()
+}
+
 /// The names that the text opens, in the order of `names`: those that stand in it as `[` and the name, followed by the
 /// end or by one of `<`, `>`, `&`, `/`, `[`, `]`, `=` and the bytes up to the space (Shortcode API, do_shortcode).
 ///
@@ -61,10 +68,10 @@ const FEW_NAMES: usize = 8;
 pub fn live(alloc: Global, names: &[TagName], text: &str) -> Result<Vec<TagName>, AllocError>
     ensures { IfOk result (λ found. found.items ≡ live names.now text.now) }
 {
-    let text = text.as_bytes();
-    if opening_from(text, 0).is_none() {
+    if opens_nothing(text) {
         return Ok(Vec::new(alloc));
     }
+    let text = text.as_bytes();
     if names.len() <= FEW_NAMES {
         live_few(alloc, names, text)
     } else {
@@ -85,8 +92,8 @@ pub fn pieces(alloc: Global, live: &[TagName], text: &str) -> Result<Vec<Piece>,
     Ok(pieces)
 }
 
-/// The part of the text at a span, which lies between two of its characters, as each span of its pieces does.
-pub fn part(text: &str, span: Span) -> &str
+/// What a span names of the text. It lies between two of its characters, as each span of its pieces does.
+pub fn text_at(text: &str, span: Span) -> &str
     requires { IsSpanOf text.now span }
     ensures { result.now ≡ slice_range text.now span.start span.end }
 {

@@ -1,5 +1,5 @@
 use Rattle.std.proofs.Common.{rules}
-use Rattle.shortcode_scan.proofs.part.Goals as goal
+use Rattle.shortcode_scan.proofs.text_at.Goals as goal
 
 pub returns : goal.returns
 returns c = search rules

@@ -1,6 +1,6 @@
 use Rattle.std.proofs.Common.{◌∙◌}
 use Rattle.hook_machine.specs.Outcomes.{engine_over}
-use Rattle.hook_machine.proofs.Moving.{text_answered, nothing_handed, core_handed, next_handed, begun_handed}
+use Rattle.hook_machine.proofs.Moving.{text_answered, nothing_handed, core_handed, others_handed}
 use Rattle.hook_machine.proofs.asking.waiting_turn.Goals as goal
 
 pub returns-in-ForText-clause-moves : goal.returns-in-ForText-clause-moves
@@ -18,12 +18,7 @@ returns-in-ForCore-clause-moves g c =
     rw c.in-ForCore.is (core_handed (engine_over g.S.Stated.says g.S.Stated.number c.args.plugins.now) c.args.state.now c.keep_call.new.self
     c.args.invoked.callback c.args.invoked.call c.args.text c.args.stack.now (c.keep_call.ensures ∙ c.rise-in-ForCore.ensures))
 
-pub returns-in-Next-clause-moves : goal.returns-in-Next-clause-moves
-returns-in-Next-clause-moves g c =
-    rw c.in-Next.is (next_handed (engine_over g.S.Stated.says g.S.Stated.number c.args.plugins.now) c.args.state.now c.args.invoked.callback
-    c.args.invoked.call c.in-Next.next c.args.text c.args.stack.now)
-
-pub returns-in-Core-clause-moves : goal.returns-in-Core-clause-moves
-returns-in-Core-clause-moves g c =
-    rw c.in-Core.is (begun_handed (engine_over g.S.Stated.says g.S.Stated.number c.args.plugins.now) c.args.state.now c.args.invoked.callback
-    c.args.invoked.call c.args.text c.args.stack.now)
+pub returns-in_default-clause-moves : goal.returns-in_default-clause-moves
+returns-in_default-clause-moves g c =
+    others_handed (engine_over g.S.Stated.says g.S.Stated.number c.args.plugins.now) c.args.state.now c.args.invoked.callback c.args.invoked.call
+    c.args.invoked.pending c.args.text c.args.stack.now c.in_default.not-ForText c.in_default.not-ForNothing c.in_default.not-ForCore

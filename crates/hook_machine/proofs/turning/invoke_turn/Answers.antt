@@ -1,8 +1,6 @@
-use Rattle.std.proofs.Common.{eq-eqb, ◌∙◌, arith}
-use Rattle.std.proofs.lemmas.Bool.{ne_eqb}
 use Rattle.std.proofs.lemmas.Result.{err_from_is_err_and}
 use Rattle.hook_machine.specs.Outcomes.{engine_over}
-use Rattle.hook_machine.proofs.Steps.{turn_core, turn_on}
+use Rattle.hook_machine.proofs.Steps.{turn_begun}
 use Rattle.hook_machine.proofs.Moving.{refused_moves}
 use Rattle.hook_machine.proofs.turning.invoke_turn.Goals as goal
 
@@ -12,15 +10,8 @@ returns-in_err-take_call-clause-moves g c =
     rw (p.1, p.2) (refused_moves (engine_over g.S.Stated.says g.S.Stated.number c.args.plugins.now) c.args.state.now c.args.callback c.args.call
     c.args.stack.now c.in_err-take_call.field-0.0 c.in_err-take_call.ensures.none c.in_err-take_call.ensures.fault _ _)
 
-pub returns-then-number-eq0-clause-moves : goal.returns-then-number-eq0-clause-moves
-returns-then-number-eq0-clause-moves g c =
-    turn_core (engine_over g.S.Stated.says g.S.Stated.number c.args.plugins.now) c.args.state.now c.take_call.new.self c.args.callback c.args.call
-    c.args.stack.now c.put_first.new.self c.in_ok-take_call.ensures.left (eq-eqb c.args.callback 0 (omega arith)) c.in_ok-take_call.ensures.ok
-    c.in_ok-put_first.ensures.ok
-
 pub returns-clause-moves : goal.returns-clause-moves
 returns-clause-moves g c =
-    turn_on (engine_over g.S.Stated.says g.S.Stated.number c.args.plugins.now) c.args.state.now c.take_call.new.self c.args.callback c.args.call
-    c.in_ok-reply.reply c.carry_out.new.self c.args.stack.now c.put_first-2.new.self c.in_ok-take_call.ensures.left
-    (ne_eqb c.args.callback 0 (λ e. c.if-number-eq0.false (c.number.ensures ∙ e))) c.in_ok-take_call.ensures.ok c.in_ok-reply.ensures
-    c.in_ok-carry_out.ensures.ok c.in_ok-put_first-2.ensures.ok
+    turn_begun (engine_over g.S.Stated.says g.S.Stated.number c.args.plugins.now) c.args.state.now c.take_call.new.self c.args.callback c.args.call
+    (c.begun.new.state, c.in_ok-pending.pending) c.args.stack.now c.put_first.new.self c.in_ok-take_call.ensures.left c.in_ok-take_call.ensures.ok
+    c.in_ok-pending.ensures.ok c.in_ok-put_first.ensures.ok
