@@ -9,7 +9,8 @@ use Rattle.std.proofs.lemmas.List.{drop-drop, length-take-le, length-drop}
 use Rattle.std.proofs.Math.ListN.{drop_of_length-le}
 use Rattle.std.proofs.Math.Seq.{drop-cons}
 use Rattle.jiff.specs.Words.{days_in_month}
-use Rattle.site_records.specs.Dates.{number, number_from, is_digit, is_day, is_clock, is_moment, has_marks, is_post_date}
+use Rattle.site_records.specs.Digits.{number, number_from, is_digit}
+use Rattle.site_records.specs.Dates.{is_day, is_clock, is_moment, has_marks, is_post_date}
 use Rattle.permalink_query.proofs.MonthLemmas.{days_bounds}
 
 abbrev pub by_bytes : List ℕ → List ℕ → Ordering

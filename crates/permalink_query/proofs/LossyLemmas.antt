@@ -13,7 +13,8 @@ use Rattle.std.specs.Option.{option_or, option_map_or}
 use Rattle.form_urlencoded.specs.Form.{decode, DecodesTo}
 use Rattle.permalink_query.specs.Numbers.{is_within, whole_number, year_and_month}
 use Rattle.permalink_query.specs.Paths.{last_value}
-use Rattle.site_records.specs.Dates.{number, number_from, is_digit}
+use Rattle.site_records.specs.Digits.{number, number_from, is_digit}
+use Rattle.site_records.specs.Ids.{max_id}
 
 abbrev pub is_ascii : List ℕ → Bool
 is_ascii = list_all (λ b. nat_lt b 128)
@@ -78,7 +79,7 @@ differ bs name fails holds =
     ]
 
 pub lossy-whole_number : (bs : List ℕ) → whole_number (utf8_lossy bs) ≡ whole_number bs
-lossy-whole_number bs = lossy_number (λ text n. if is_within 1 10 (length text) && nat_le n 2147483647 then Some n else None) bs
+lossy-whole_number bs = lossy_number (λ text n. if is_within 1 10 (length text) && nat_le n max_id then Some n else None) bs
 
 pub lossy-year_and_month : (bs : List ℕ) → year_and_month (utf8_lossy bs) ≡ year_and_month bs
 lossy-year_and_month bs =

@@ -2,7 +2,8 @@
 use Rattle.std.proofs.Common.{◌≡◌, ◌<◌, ◌≤◌, Bool, true, ◌&&◌, List, [], ◌∷◌, ◌++◌, ℕ, ◌+◌, ◌-◌, ◌*◌, ◌/◌, ◌%◌, ◌==◌, ◌||◌, ℤ, pos, false, lit≤, if◌then◌else◌, Some, codes, nat_le, refl, ap, arith, ◌∙◌}
 use Rattle.std.proofs.lemmas.Bool.{le-leb, leb-true, and_parts}
 use Rattle.jiff.specs.Words.{days_in_month, is_leap_year}
-use Rattle.site_records.specs.Dates.{number, number_from, is_digit, is_day, is_post_date}
+use Rattle.site_records.specs.Digits.{number, number_from, is_digit}
+use Rattle.site_records.specs.Dates.{is_day, is_post_date}
 use Rattle.permalink_query.specs.Months.{is_month, two_digits, day_text}
 
 digit : (d : ℕ) → d < 10 → is_digit (48 + d) ≡ true

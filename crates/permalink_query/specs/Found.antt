@@ -1,7 +1,8 @@
 -- Which posts a query finds.
-use Rattle.std.specs.Prelude.{Bool, true, false, not, ℕ, ◌-◌, ◌*◌, ◌&&◌, ◌||◌, nat_le, take, drop, if◌then◌else◌, List, [], ◌∷◌, filter, find, codes, Option, Some, None, is_some, option_and_then, option_map, unwrap_or}
+use Rattle.std.specs.Prelude.{Bool, true, false, not, ℕ, ◌-◌, ◌*◌, ◌&&◌, ◌||◌, nat_le, take, drop, if◌then◌else◌, List, [], ◌∷◌, filter, codes, Option, Some, None, is_some, option_and_then, unwrap_or}
 use Rattle.std.specs.Option.{option_to_list, option_map_or}
 use Rattle.std.specs.Str.{bytes_eq}
+use Rattle.site_records.specs.Texts.{text_named}
 use Rattle.site_records.specs.declared.post.Post.{Post}
 use Rattle.site_records.specs.declared.post.PostKind.{PostKind}
 use Rattle.site_records.specs.declared.post.PostKind.TheVariants.{Post as OfPost, Page as OfPage}
@@ -16,17 +17,13 @@ use Rattle.site_records.specs.declared.found.Found.{Found}
 use Rattle.site_records.specs.declared.found.FoundKind.{FoundKind}
 use Rattle.site_records.specs.declared.found.FoundKind.TheVariants.{Front, FrontPage, Home, Single, Page, Month, NotFound}
 
--- the first option of a name counts (get_option)
-abbrev pub option_value : Text → List (Text × Text) → Option Text
-option_value name options = option_map (λ o. o.1) (find (λ o. bytes_eq o.0 name) options)
-
 -- a number from 1 to 100
 abbrev pub part_size : Text → Option ℕ
 part_size value = option_and_then (λ n. if is_within 1 100 n then Some n else None) (whole_number value)
 
 -- how many posts make a part: 10 if the option doesn't say (option posts_per_page)
 abbrev pub posts_per_page : List (Text × Text) → ℕ
-posts_per_page options = unwrap_or (option_and_then part_size (option_value (codes "posts_per_page") options)) 10
+posts_per_page options = unwrap_or (option_and_then part_size (text_named (codes "posts_per_page") options)) 10
 
 -- the published ones of a kind (class WP_Query, post_type and post_status)
 abbrev pub published : PostKind → List Post → List Post
@@ -61,7 +58,7 @@ unless_empty kind (p ∷ ps) = showing kind (p ∷ ps)
 
 -- whether the front is to show a page (option show_on_front)
 abbrev pub fronts_a_page : List (Text × Text) → Bool
-fronts_a_page options = option_map_or (λ value. bytes_eq value (codes "page")) (option_value (codes "show_on_front") options) false
+fronts_a_page options = option_map_or (λ value. bytes_eq value (codes "page")) (text_named (codes "show_on_front") options) false
 
 -- a number other than 0
 abbrev pub page_number : Text → Option ℕ
@@ -70,7 +67,7 @@ page_number value = option_and_then (λ n. if nat_le 1 n then Some n else None) 
 -- the ID of the page that the front shows, unless it lists posts (option page_on_front)
 abbrev pub page_on_front : List (Text × Text) → Option ℕ
 page_on_front options =
-    if fronts_a_page options then option_and_then page_number (option_value (codes "page_on_front") options) else None
+    if fronts_a_page options then option_and_then page_number (text_named (codes "page_on_front") options) else None
 
 -- the kind of a front that lists posts (is_home, is_front_page)
 abbrev pub list_kind : List (Text × Text) → FoundKind

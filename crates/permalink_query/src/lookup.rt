@@ -15,7 +15,6 @@ ghost use Rattle.std.specs.Prelude.{
   IfOk,
   IfErr,
   filter,
-  option_map,
 };
 ghost use Rattle.std.specs.List.{list_all};
 ghost use Rattle.std.specs.Option.{option_to_list};
@@ -23,7 +22,6 @@ ghost use Rattle.post_tables.specs.Page.{is_kind, is_published, page_of};
 ghost use Rattle.site_records.specs.Dates.{is_post_date};
 ghost use Rattle.permalink_query.specs.Faults.{IsFindFault};
 ghost use Rattle.permalink_query.specs.Found.{
-  option_value,
   posts_per_page,
   part_of_posts,
   published_posts,
@@ -39,7 +37,7 @@ ghost use Rattle.permalink_query.specs.Found.{
   is_void,
   found,
 };
-ghost use Rattle.permalink_query.specs.Months.{is_month, month_start, month_end};
+ghost use Rattle.permalink_query.specs.Months.{is_month};
 
 use crate::fault::FindFault;
 use crate::month::month_span;
@@ -47,7 +45,7 @@ use crate::number::whole_number;
 use crate::query::Query;
 use hook_changes::{Listed, Text};
 use post_tables::Tables;
-use site_records::{Found, FoundKind, Post, PostDate, PostKind, PostStatus};
+use site_records::{Found, FoundKind, Post, PostDate, PostKind, PostStatus, text_named};
 use std::alloc::{AllocError, Global};
 
 /// How many posts make a part if the option doesn't say.
@@ -298,7 +296,7 @@ fn posts_per_page(options: &[(Text, Text)]) -> u32
     ensures value { result ≡ posts_per_page options.now }
     ensures few { result ≤ 100 }
 {
-    match option_value(options, "posts_per_page").and_then(whole_number) {
+    match text_named(options, "posts_per_page").and_then(whole_number) {
         Some(size) if (1..=100).contains(&size) => size,
         _ => DEFAULT_SIZE,
     }
@@ -311,7 +309,7 @@ fn page_on_front(options: &[(Text, Text)]) -> Option<u32>
     if !fronts_a_page(options) {
         return None;
     }
-    match option_value(options, "page_on_front").and_then(whole_number) {
+    match text_named(options, "page_on_front").and_then(whole_number) {
         Some(id) if id > 0 => Some(id),
         _ => None,
     }
@@ -332,13 +330,5 @@ fn list_kind(options: &[(Text, Text)]) -> FoundKind
 fn fronts_a_page(options: &[(Text, Text)]) -> bool
     ensures { result ≡ fronts_a_page options.now }
 {
-    matches!(option_value(options, "show_on_front"), Some("page"))
-}
-
-/// The first value of an option.
-fn option_value<'o>(options: &'o [(Text, Text)], name: &str) -> Option<&'o str>
-    ensures { option_map (λ s. s.now) result ≡ option_value name.now options.now }
-{
-    let (_, value) = options.iter().find(|(other, _)| other.as_str() == name)?;
-    Some(value.as_str())
+    matches!(text_named(options, "show_on_front"), Some("page"))
 }

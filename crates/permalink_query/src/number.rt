@@ -1,28 +1,10 @@
 //! The numbers that queries and options are made of.
-ghost use Rattle.std.specs.Prelude.{◌≡◌, ◌<◌, ◌≤◌, ◌^◌, length, IfSome};
-ghost use Rattle.site_records.specs.Dates.{number};
+ghost use Rattle.std.specs.Prelude.{◌≡◌};
 ghost use Rattle.permalink_query.specs.Numbers.{whole_number, year_and_month};
 
-/// The largest number that a query names.
-const GREATEST: u64 = 2_147_483_647;
+use site_records::{MAX_ID, number};
 
-/// The number that some digits spell, and nothing if another byte stands among them.
-fn number(digits: &[u8]) -> Option<u64>
-    requires { length digits.now ≤ 10 }
-    ensures value { result ≡ number digits.now }
-    ensures within { IfSome result (λ n. n < 10 ^ length digits.now) }
-{
-    let mut n = 0u64;
-    for b in digits {
-        if *b < b'0' || *b > b'9' {
-            return None;
-        }
-        n = 10 * n + u64::from(*b - b'0');
-    }
-    Some(n)
-}
-
-/// The number of one to ten digits, if it is at most 2,147,483,647.
+/// The number of one to ten digits, if it is at most the largest ID.
 pub(crate) fn whole_number(text: &str) -> Option<u32>
     ensures { result ≡ whole_number text.now }
 {
@@ -30,7 +12,7 @@ pub(crate) fn whole_number(text: &str) -> Option<u32>
         return None;
     }
     let n = number(text.as_bytes())?;
-    if n > GREATEST {
+    if n > u64::from(MAX_ID) {
         return None;
     }
     Some(n as u32)

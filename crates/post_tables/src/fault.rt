@@ -15,7 +15,7 @@ pub enum TablesFault {
     /// The ID of a post to be imported stands twice among these, or is there already.
     #[error("an ID stands twice")]
     DuplicateId,
-    /// The largest ID was given: 2,147,483,647.
+    /// The largest ID was given: [`MAX_ID`](site_records::MAX_ID).
     #[error("the IDs are used up")]
     IdsUsedUp,
     /// There was not enough memory.

@@ -1,9 +1,7 @@
 //! The statements on posts.
 ghost use Rattle.std.specs.Prelude.{
   ◌≡◌,
-  ◌<◌,
   ◌≤◌,
-  ◌^◌,
   true,
   option_map,
   not,

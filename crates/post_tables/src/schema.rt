@@ -1,5 +1,5 @@
 //! The statements that make the tables, each run once, in this order.
-ghost use Rattle.std.specs.Prelude.{◌≡◌, [], OnOk};
+ghost use Rattle.std.specs.Prelude.{◌≡◌, OnOk};
 ghost use Rattle.post_tables.specs.Rows.{no_rows};
 ghost use Rattle.post_tables.specs.Schema.{
   no_schema,
@@ -26,6 +26,7 @@ pub(crate) fn create(conn: &mut Connection<MemStore>) -> Result<(), Error>
     Ok(())
 }
 
+/// An ID is at most `MAX_ID`, which the statement writes out.
 fn create_post(conn: &mut Connection<MemStore>) -> Result<usize, Error>
     requires { IsBare no_schema conn.old }
     ensures { OnOk result (IsBare post_schema conn.new) }

@@ -38,6 +38,7 @@ ghost use Rattle.post_tables.specs.Rows.{
 };
 ghost use Rattle.post_tables.specs.Page.{newest, is_listed, page_of};
 ghost use Rattle.site_records.specs.Dates.{is_post_date};
+ghost use Rattle.site_records.specs.Ids.{max_id};
 ghost use Rattle.post_tables.specs.Stored.{IsSite, Reads, rows_of};
 
 use crate::fault::TablesFault;
@@ -51,13 +52,10 @@ use crate::posts::{NewPost, delete_post, edit_post, has_post, insert_post, large
 use crate::read::{read_found, read_names, read_pairs};
 use crate::schema::create;
 use hook_changes::{Listed, Text};
-use site_records::{Post, PostDate, PostKind, PostStatus, SiteRecords};
+use site_records::{MAX_ID, Post, PostDate, PostKind, PostStatus, SiteRecords};
 use sqlite::{Connection, MemStore};
 use std::alloc::Global;
 use std::marker::Model;
-
-// The largest ID that a client with signed 32-bit numbers can name, as the table's CHECK says.
-const GREATEST_ID: u32 = 2_147_483_647;
 
 /// What a site stores: posts and pages, options, templates, and the names of the active plugins,
 /// in a database in memory. Contracts see its rows as a record of lists and maps. A call that is
@@ -86,14 +84,14 @@ fn next_id(conn: &mut Connection<MemStore>) -> Result<u32, TablesFault>
     requires { IsSite conn.old }
     ensures reads { Reads conn.old conn.new }
     ensures id { IfOk result (λ id. id ≡ (rows_of conn.old).largest + 1) }
-    ensures left { OnOk result ((rows_of conn.old).largest < 2147483647) }
+    ensures left { OnOk result ((rows_of conn.old).largest < max_id) }
     ensures used_up { result ≡ Err TablesFault.IdsUsedUp
-        → 2147483647 ≤ (rows_of conn.old).largest }
+        → max_id ≤ (rows_of conn.old).largest }
     ensures fault { IfErr result (λ e. (e ≡ TablesFault.IdsUsedUp)
         ⊎ IsReadFault (rows_of conn.old).step_limit e) }
 {
     let largest = largest_id(conn)?;
-    if largest >= GREATEST_ID {
+    if largest >= MAX_ID {
         return Err(TablesFault::IdsUsedUp);
     }
     Ok(largest + 1)
@@ -130,8 +128,8 @@ impl Tables {
     }
 
     /// Puts in a post or a page, and answers its ID: the one after the largest that was ever given
-    /// (wp_insert_post; SQLite, AUTOINCREMENT). It is refused as `IdsUsedUp` if that is
-    /// 2,147,483,647.
+    /// (wp_insert_post; SQLite, AUTOINCREMENT). It is refused as `IdsUsedUp` if that
+    /// largest is [`MAX_ID`].
     pub fn put_post(
         &mut self,
         kind: PostKind,
@@ -155,9 +153,9 @@ impl Tables {
         ensures err { OnErr result (self.new ≡ self.old) }
 
         // There is no ID left exactly if the largest was given.
-        ensures left { OnOk result (self.old.largest < 2147483647) }
-        ensures used_up { result ≡ Err TablesFault.IdsUsedUp → 2147483647 ≤ self.old.largest }
-        ensures none_left { 2147483647 ≤ self.old.largest
+        ensures left { OnOk result (self.old.largest < max_id) }
+        ensures used_up { result ≡ Err TablesFault.IdsUsedUp → max_id ≤ self.old.largest }
+        ensures none_left { max_id ≤ self.old.largest
             → IsRefusedAs self.old.step_limit TablesFault.IdsUsedUp result }
         ensures fault { IfErr result (λ e. (e ≡ TablesFault.IdsUsedUp) ⊎ IsOfStore e) }
     {
@@ -335,7 +333,7 @@ impl Tables {
     /// templates and the active names in the order of their lists. It is refused as `DuplicateId`
     /// if the ID of a post stands twice among these, or is there already.
     pub fn import(&mut self, records: &SiteRecords) -> Result<(), TablesFault>
-        requires { All (λ p. (1 ≤ p.id) × (p.id ≤ 2147483647)) records.now.posts }
+        requires { All (λ p. (1 ≤ p.id) × (p.id ≤ max_id)) records.now.posts }
         ensures ok { OnOk result (self.new ≡ with_records records.now self.old) }
         ensures err { OnErr result (self.new ≡ self.old) }
         ensures fresh { OnOk result (are_new records.now.posts self.old.posts ≡ true) }

@@ -17,7 +17,6 @@ ghost use Rattle.post_tables.specs.Worked.{
   tuesday,
   wednesday,
   post,
-  draft,
   page,
   two_posts,
   one_deleted,

@@ -14,18 +14,18 @@ use Rattle.template_trees.specs.declared.fault.TemplateFault.{TemplateFault}
 use Rattle.template_trees.specs.declared.tree.Template.{Template}
 use Rattle.site_import.specs.Walks.{Read}
 use Rattle.site_import.specs.Site.{site_file_of}
-use Rattle.site_replies.specs.Reply.{Answer}
+use Rattle.site_replies.specs.Reply.{ReplyData}
 use Rattle.site_edits.specs.Edits.{put, edit, edited, delete, set_option, set_active, if_given, max_id}
 use Rattle.site_values.specs.Limits.{fits, max_title, max_content, max_value}
 use Rattle.site_edits.specs.Templates.{stored, set_template}
 use Rattle.site_edits.specs.Imports.{are_known, imported, import}
 
 -- what an edit does to the limit on steps: nothing
-abbrev pub KeepsLimit : Rows → Rows × Answer → Type 0
+abbrev pub KeepsLimit : Rows → Rows × ReplyData → Type 0
 KeepsLimit rows p = p.0.step_limit ≡ rows.step_limit
 
 -- of two outcomes that keep the limit, each does
-pub either : (b : Bool) (rows : Rows) (p q : Rows × Answer) → KeepsLimit rows p → KeepsLimit rows q → KeepsLimit rows (cond b p q)
+pub either : (b : Bool) (rows : Rows) (p q : Rows × ReplyData) → KeepsLimit rows p → KeepsLimit rows q → KeepsLimit rows (cond b p q)
 either true rows p q x y = x
 either false rows p q x y = y
 

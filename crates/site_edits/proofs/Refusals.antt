@@ -15,23 +15,23 @@ use Rattle.template_trees.specs.declared.tree.Template.{Template}
 use Rattle.site_import.specs.Walks.{Read}
 use Rattle.site_import.specs.Site.{site_file_of}
 use Rattle.site_replies.specs.declared.reply.Refusal.{Refusal}
-use Rattle.site_replies.specs.Reply.{Answer, refused}
+use Rattle.site_replies.specs.Reply.{ReplyData, refused}
 use Rattle.site_edits.specs.Edits.{put, edit, edited, delete, set_option, set_active, if_given, max_id}
 use Rattle.site_values.specs.Limits.{fits, max_title, max_content, max_value}
 use Rattle.site_edits.specs.Templates.{stored, set_template}
 use Rattle.site_edits.specs.Imports.{are_known, imported, import}
 
 -- what a refusal among these keeps
-abbrev pub Keeps : Rows → Rows × Answer → Type 0
+abbrev pub Keeps : Rows → Rows × ReplyData → Type 0
 Keeps rows p = (r : Refusal) → p.1 ≡ refused r → p.0 ≡ rows
 
 -- of two outcomes that keep the rows when they are refused, each does
-pub either : (b : Bool) (rows : Rows) (p q : Rows × Answer) → Keeps rows p → Keeps rows q → Keeps rows (cond b p q)
+pub either : (b : Bool) (rows : Rows) (p q : Rows × ReplyData) → Keeps rows p → Keeps rows q → Keeps rows (cond b p q)
 either true rows p q x y = x
 either false rows p q x y = y
 
-pub same : (rows : Rows) (a : Answer) → Keeps rows (rows, a)
-same rows a = λ r h. refl
+pub same : (rows : Rows) (reply : ReplyData) → Keeps rows (rows, reply)
+same rows reply = λ r h. refl
 
 pub put-keeps : (rows : Rows) (kind : PostKind) (status : PostStatus) (title content date : Text) → Keeps rows (put rows kind status title content date)
 unfolding put

@@ -9,7 +9,7 @@ use Rattle.site_records.specs.declared.post.PostStatus.{PostStatus}
 use Rattle.post_tables.specs.Rows.{Rows, Text, PostEdit, with_new, has_post, edited_posts, without_post, set_name}
 use Rattle.site_values.specs.Limits.{max_title, max_content, max_value, fits}
 use Rattle.site_replies.specs.declared.reply.Refusal.TheVariants.{NoSuchPost, BadDate, UnknownPlugin, TooLarge, IdsUsedUp}
-use Rattle.site_replies.specs.Reply.{Answer, done, done_id, refused}
+use Rattle.site_replies.specs.Reply.{ReplyData, done, done_id, refused}
 
 -- the largest ID of a post
 abbrev pub max_id : ℕ
@@ -20,7 +20,7 @@ abbrev pub if_given : (Text → Bool) → Option Text → Bool
 if_given test text = option_map_or test text true
 
 -- `put`: one more post, under the ID after the largest one ever given (wp_insert_post)
-unfoldable pub put : Rows → PostKind → PostStatus → (title content date : Text) → Rows × Answer
+unfoldable pub put : Rows → PostKind → PostStatus → (title content date : Text) → Rows × ReplyData
 put rows kind status title content date =
     if not (fits max_title title && fits max_content content) then (rows, refused TooLarge)
     else (if not (is_post_date date) then (rows, refused BadDate)
@@ -33,34 +33,34 @@ put rows kind status title content date =
     else (rows, refused IdsUsedUp)))
 
 -- the post with the ID, edited, if there is one
-unfoldable pub edited : Rows → ℕ → PostEdit → Rows × Answer
+unfoldable pub edited : Rows → ℕ → PostEdit → Rows × ReplyData
 edited rows id given =
     if has_post id rows.posts
     then (record rows { posts = edited_posts id given rows.posts }, done)
     else (rows, refused NoSuchPost)
 
 -- `edit`: what is given stands in place of what the post had (wp_update_post)
-unfoldable pub edit : Rows → ℕ → PostEdit → Rows × Answer
+unfoldable pub edit : Rows → ℕ → PostEdit → Rows × ReplyData
 edit rows id given =
     if not (if_given (fits max_title) given.title && if_given (fits max_content) given.content) then (rows, refused TooLarge)
     else (if not (if_given is_post_date given.date) then (rows, refused BadDate) else edited rows id given)
 
 -- `delete`: the post is gone, and its ID is never given again (wp_delete_post)
-unfoldable pub delete : Rows → ℕ → Rows × Answer
+unfoldable pub delete : Rows → ℕ → Rows × ReplyData
 delete rows id =
     if has_post id rows.posts
     then (record rows { posts = without_post id rows.posts }, done)
     else (rows, refused NoSuchPost)
 
 -- `option`: the option has this value from now on (update_option)
-unfoldable pub set_option : Rows → (name value : Text) → Rows × Answer
+unfoldable pub set_option : Rows → (name value : Text) → Rows × ReplyData
 set_option rows name value =
     if fits max_value value
     then (record rows { options = insert rows.options name value }, done)
     else (rows, refused TooLarge)
 
 -- `activate` and `deactivate`: a plugin that there is becomes active, or inactive (activate_plugin, deactivate_plugins)
-unfoldable pub set_active : List Shape → Rows → Text → Bool → Rows × Answer
+unfoldable pub set_active : List Shape → Rows → Text → Bool → Rows × ReplyData
 set_active plugins rows name active =
     if is_some (load_of plugins name)
     then (record rows { active = set_name name active rows.active }, done)

@@ -10,9 +10,9 @@ use Rattle.site_import.specs.Site.{site_file_of}
 use Rattle.site_import.specs.declared.fault.ImportFault.{ImportFault}
 use Rattle.site_import.specs.declared.fault.ImportFault.TheVariants as fault
 use Rattle.site_replies.specs.declared.reply.Refusal.TheVariants.{BadImport, BadDate, BadTemplate, TooLarge, OutOfMemory, UnknownPlugin, DuplicateId}
-use Rattle.site_replies.specs.Reply.{Answer, done, refused}
+use Rattle.site_replies.specs.Reply.{ReplyData, done, refused}
 
-abbrev pub import_refusal : ImportFault → Answer
+abbrev pub import_refusal : ImportFault → ReplyData
 import_refusal (fault.BadImport place) = refused BadImport
 import_refusal (fault.BadDate place) = refused BadDate
 import_refusal (fault.BadTemplate place) = refused BadTemplate
@@ -23,18 +23,18 @@ abbrev pub are_known : List Shape → List Text → Bool
 are_known plugins names = list_all (λ name. is_some (load_of plugins name)) names
 
 -- the records are added, if no ID of theirs stands twice or is there already
-abbrev pub added : Rows → SiteRecords → Rows × Answer
+abbrev pub added : Rows → SiteRecords → Rows × ReplyData
 added rows records =
     if are_new records.posts rows.posts
     then (with_records records rows, done)
     else (rows, refused DuplicateId)
 
 -- all of a site file's records are added, or none: its active plugins have to be there
-abbrev pub imported : List Shape → Rows → Read SiteRecords → Rows × Answer
+abbrev pub imported : List Shape → Rows → Read SiteRecords → Rows × ReplyData
 imported plugins rows (Err why) = (rows, import_refusal why)
 imported plugins rows (Ok records) =
     if are_known plugins records.active then added rows records else (rows, refused UnknownPlugin)
 
 -- `import`: what a site file holds is added to what there is (WordPress Importer)
-unfoldable pub import : List Shape → Rows → Data → Rows × Answer
+unfoldable pub import : List Shape → Rows → Data → Rows × ReplyData
 import plugins rows site = imported plugins rows (site_file_of site)

@@ -1,16 +1,16 @@
 -- Which replies a refusal of the database may stand in place of.
 use Rattle.std.specs.Prelude.{Bool, true, false, ◌||◌, ◌&&◌, ℕ, Option, is_some}
 use Rattle.site_replies.specs.declared.reply.Refusal.TheVariants.{BadCommand, BadImport, BadDate, UnknownPlugin, BadTemplate, TooLarge}
-use Rattle.site_replies.specs.Reply.{Answer, done, done_id, refused}
+use Rattle.site_replies.specs.Reply.{ReplyData, done, done_id, refused}
 
 -- the reply to an edit that is carried out
-abbrev pub is_done : Answer → Bool
+abbrev pub is_done : ReplyData → Bool
 is_done done = true
 is_done (done_id id) = true
 is_done _ = false
 
 -- a reply that rests on the rows, and so on a statement: the others refuse a command before one is run
-abbrev pub rests_on_rows : Answer → Bool
+abbrev pub rests_on_rows : ReplyData → Bool
 rests_on_rows (refused BadCommand) = false
 rests_on_rows (refused BadImport) = false
 rests_on_rows (refused BadDate) = false
@@ -21,5 +21,5 @@ rests_on_rows _ = true
 
 -- A refusal of the database stands in place of an edit that is carried out, and of no other reply. Only with a limit on the
 -- steps of a statement may it stand in place of whatever rests on the rows.
-abbrev pub may_be_late : Option ℕ → Answer → Bool
-may_be_late limit answer = is_done answer || (is_some limit && rests_on_rows answer)
+abbrev pub may_be_late : Option ℕ → ReplyData → Bool
+may_be_late limit reply = is_done reply || (is_some limit && rests_on_rows reply)

@@ -10,26 +10,26 @@ use Rattle.template_trees.specs.declared.fault.TemplateFault.{TemplateFault}
 use Rattle.template_trees.specs.declared.fault.TemplateFault.TheVariants as fault
 use Rattle.template_trees.specs.declared.tree.Template.{Template}
 use Rattle.site_replies.specs.declared.reply.Refusal.TheVariants.{BadTemplate, TooLarge, OutOfMemory}
-use Rattle.site_replies.specs.Reply.{Answer, done, refused}
+use Rattle.site_replies.specs.Reply.{ReplyData, done, refused}
 
-abbrev pub template_refusal : TemplateFault → Answer
+abbrev pub template_refusal : TemplateFault → ReplyData
 template_refusal fault.BadTemplate = refused BadTemplate
 template_refusal fault.TooLarge = refused TooLarge
 template_refusal fault.OutOfMemory = refused OutOfMemory
 
 -- a template is stored as the compact JSON text of its body
-abbrev pub stored : Rows → Text → Data → Result Template TemplateFault → Rows × Answer
+abbrev pub stored : Rows → Text → Data → Result Template TemplateFault → Rows × ReplyData
 stored rows name body (Ok template) = (record rows { templates = insert rows.templates name (compact_text body) }, done)
 stored rows name body (Err why) = (rows, template_refusal why)
 
 -- no template is stored under the name any more
-abbrev pub removed : Rows → Text → Rows × Answer
+abbrev pub removed : Rows → Text → Rows × ReplyData
 removed rows name =
     if is_template_name name
     then (record rows { templates = remove rows.templates name }, done)
     else (rows, refused BadTemplate)
 
 -- `template`: a body is stored in place of the one before, and `null` removes it
-unfoldable pub set_template : Rows → Text → Data → Rows × Answer
+unfoldable pub set_template : Rows → Text → Data → Rows × ReplyData
 set_template rows name body =
     if is_some (as_null body) then removed rows name else stored rows name body (template_of name body)

@@ -1,7 +1,7 @@
 //! The commands that change posts, options and active plugins.
 ghost use Rattle.std.specs.Prelude.{◌≡◌, IfOk, IfErr, OnErr, option_map, true, false, nat_le, length};
 ghost use Rattle.callback_store.specs.Shape.{shapes_of};
-ghost use Rattle.site_replies.specs.Reply.{answer_of};
+ghost use Rattle.site_replies.specs.Reply.{reply_data};
 ghost use Rattle.site_values.specs.Limits.{fits};
 ghost use Rattle.site_edits.specs.Edits.{put, edit, edited, delete, set_option, set_active, if_given};
 ghost use Rattle.site_edits.specs.Late.{may_be_late};
@@ -32,7 +32,7 @@ pub fn put(
     content: &str,
     date: &str,
 ) -> Result<SiteReply, StoreFault>
-    ensures ok { IfOk result (λ reply. (tables.new, answer_of reply)
+    ensures ok { IfOk result (λ reply. (tables.new, reply_data reply)
         ≡ put tables.old kind status title.now content.now date.now) }
     ensures err { OnErr result (tables.new ≡ tables.old) }
     ensures late { IfErr result (λ fault. fault ≡ StoreFault.Store → may_be_late tables.old.step_limit
@@ -61,7 +61,7 @@ pub fn edit(
     content: Option<&str>,
     date: Option<&str>,
 ) -> Result<SiteReply, StoreFault>
-    ensures ok { IfOk result (λ reply. (tables.new, answer_of reply)
+    ensures ok { IfOk result (λ reply. (tables.new, reply_data reply)
         ≡ edit tables.old id (edit_by status title.entry content.entry date.entry)) }
     ensures err { OnErr result (tables.new ≡ tables.old) }
     ensures late { IfErr result (λ fault. fault ≡ StoreFault.Store → may_be_late tables.old.step_limit
@@ -89,7 +89,7 @@ fn edit_post(
     content: Option<&str>,
     date: Option<&PostDate>,
 ) -> Result<SiteReply, StoreFault>
-    ensures ok { IfOk result (λ reply. (tables.new, answer_of reply)
+    ensures ok { IfOk result (λ reply. (tables.new, reply_data reply)
         ≡ edited tables.old id (edit_by status title.entry content.entry date.entry)) }
     ensures err { OnErr result (tables.new ≡ tables.old) }
     ensures late { IfErr result (λ fault. fault ≡ StoreFault.Store → may_be_late tables.old.step_limit
@@ -105,7 +105,7 @@ fn edit_post(
 /// Deletes the post. Refused as `NoSuchPost`.
 #[tactic(auto, unfolding(crate::specs::Edits::delete))]
 pub fn delete(tables: &mut Tables, id: u32) -> Result<SiteReply, StoreFault>
-    ensures ok { IfOk result (λ reply. (tables.new, answer_of reply) ≡ delete tables.old id) }
+    ensures ok { IfOk result (λ reply. (tables.new, reply_data reply) ≡ delete tables.old id) }
     ensures err { OnErr result (tables.new ≡ tables.old) }
     ensures late { IfErr result (λ fault. fault ≡ StoreFault.Store
         → may_be_late tables.old.step_limit (delete tables.old id).1 ≡ true) }
@@ -121,7 +121,7 @@ pub fn delete(tables: &mut Tables, id: u32) -> Result<SiteReply, StoreFault>
 #[tactic(auto, unfolding(crate::specs::Edits::set_option))]
 pub fn set_option(tables: &mut Tables, name: &str, value: &str) -> Result<SiteReply, StoreFault>
     ensures ok { IfOk result
-        (λ reply. (tables.new, answer_of reply) ≡ set_option tables.old name.now value.now) }
+        (λ reply. (tables.new, reply_data reply) ≡ set_option tables.old name.now value.now) }
     ensures err { OnErr result (tables.new ≡ tables.old) }
     ensures late { IfErr result (λ fault. fault ≡ StoreFault.Store
         → may_be_late tables.old.step_limit (set_option tables.old name.now value.now).1 ≡ true) }
@@ -141,7 +141,7 @@ pub fn set_active<S: Stated>(
     plugin: &str,
     active: bool,
 ) -> Result<SiteReply, StoreFault>
-    ensures ok { IfOk result (λ reply. (tables.new, answer_of reply)
+    ensures ok { IfOk result (λ reply. (tables.new, reply_data reply)
         ≡ set_active (shapes_of S.number plugins.now) tables.old plugin.now active) }
     ensures err { OnErr result (tables.new ≡ tables.old) }
     ensures late { IfErr result (λ fault. fault ≡ StoreFault.Store → may_be_late tables.old.step_limit

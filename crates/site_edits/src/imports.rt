@@ -2,7 +2,7 @@
 ghost use Rattle.std.specs.Prelude.{◌≡◌, ◌≢◌, ◌≤◌, Ok, IfOk, IfErr, OnOk, OnErr, All, true};
 ghost use Rattle.callback_store.specs.Shape.{shapes_of};
 ghost use Rattle.serde_json.specs.View.{view};
-ghost use Rattle.site_replies.specs.Reply.{answer_of};
+ghost use Rattle.site_replies.specs.Reply.{reply_data};
 ghost use Rattle.site_edits.specs.Imports.{import, imported, import_refusal, added, are_known};
 ghost use Rattle.site_edits.specs.Late.{may_be_late};
 
@@ -25,7 +25,7 @@ pub fn import<S: Stated>(
     tables: &mut Tables,
     site: &Value,
 ) -> Result<SiteReply, StoreFault>
-    ensures ok { IfOk result (λ reply. (tables.new, answer_of reply)
+    ensures ok { IfOk result (λ reply. (tables.new, reply_data reply)
         ≡ import (shapes_of S.number plugins.now) tables.old (view site.now)) }
     ensures err { OnErr result (tables.new ≡ tables.old) }
     ensures late { IfErr result (λ fault. fault ≡ StoreFault.Store → may_be_late tables.old.step_limit
@@ -44,7 +44,7 @@ fn add_known<S: Stated>(
     records: &SiteRecords,
 ) -> Result<SiteReply, StoreFault>
     requires { All (λ p. (1 ≤ p.id) × (p.id ≤ 2147483647)) records.now.posts }
-    ensures ok { IfOk result (λ reply. (tables.new, answer_of reply)
+    ensures ok { IfOk result (λ reply. (tables.new, reply_data reply)
         ≡ imported (shapes_of S.number plugins.now) tables.old (Ok records.now)) }
     ensures err { OnErr result (tables.new ≡ tables.old) }
     ensures late { IfErr result (λ fault. fault ≡ StoreFault.Store → may_be_late tables.old.step_limit
@@ -66,7 +66,7 @@ fn are_known<S: Stated>(plugins: &Plugins<S>, names: &[Text]) -> bool
 
 /// The reply for a site file that is refused.
 fn refused_import(fault: ImportFault) -> Result<SiteReply, StoreFault>
-    ensures ok { IfOk result (λ reply. answer_of reply ≡ import_refusal fault) }
+    ensures ok { IfOk result (λ reply. reply_data reply ≡ import_refusal fault) }
     ensures err { IfErr result (λ e. (e ≡ StoreFault.OutOfMemory) × (fault ≡ ImportFault.OutOfMemory)) }
     ensures other { OnOk result (fault ≢ ImportFault.OutOfMemory) }
 {
@@ -81,7 +81,7 @@ fn refused_import(fault: ImportFault) -> Result<SiteReply, StoreFault>
 
 fn add_records(tables: &mut Tables, records: &SiteRecords) -> Result<SiteReply, StoreFault>
     requires { All (λ p. (1 ≤ p.id) × (p.id ≤ 2147483647)) records.now.posts }
-    ensures ok { IfOk result (λ reply. (tables.new, answer_of reply) ≡ added tables.old records.now) }
+    ensures ok { IfOk result (λ reply. (tables.new, reply_data reply) ≡ added tables.old records.now) }
     ensures err { OnErr result (tables.new ≡ tables.old) }
     ensures late { IfErr result (λ fault. fault ≡ StoreFault.Store
         → may_be_late tables.old.step_limit (added tables.old records.now).1 ≡ true) }

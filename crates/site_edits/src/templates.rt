@@ -1,7 +1,7 @@
 //! The command that stores templates.
 ghost use Rattle.std.specs.Prelude.{◌≡◌, IfOk, IfErr, OnErr, true};
 ghost use Rattle.serde_json.specs.View.{view};
-ghost use Rattle.site_replies.specs.Reply.{answer_of};
+ghost use Rattle.site_replies.specs.Reply.{reply_data};
 ghost use Rattle.site_edits.specs.Templates.{set_template, removed};
 ghost use Rattle.site_edits.specs.Late.{may_be_late};
 
@@ -21,7 +21,7 @@ pub fn set_template(
     name: &str,
     body: &Value,
 ) -> Result<SiteReply, StoreFault>
-    ensures ok { IfOk result (λ reply. (tables.new, answer_of reply)
+    ensures ok { IfOk result (λ reply. (tables.new, reply_data reply)
         ≡ set_template tables.old name.now (view body.now)) }
     ensures err { OnErr result (tables.new ≡ tables.old) }
     ensures late { IfErr result (λ fault. fault ≡ StoreFault.Store → may_be_late tables.old.step_limit
@@ -43,7 +43,7 @@ pub fn set_template(
 }
 
 fn remove_template(tables: &mut Tables, name: &str) -> Result<SiteReply, StoreFault>
-    ensures ok { IfOk result (λ reply. (tables.new, answer_of reply) ≡ removed tables.old name.now) }
+    ensures ok { IfOk result (λ reply. (tables.new, reply_data reply) ≡ removed tables.old name.now) }
     ensures err { OnErr result (tables.new ≡ tables.old) }
     ensures late { IfErr result (λ fault. fault ≡ StoreFault.Store
         → may_be_late tables.old.step_limit (removed tables.old name.now).1 ≡ true) }

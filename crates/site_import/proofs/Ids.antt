@@ -9,6 +9,7 @@ use Rattle.std.proofs.lemmas.List.Elements.{All-nil, All-cons}
 use Rattle.serde_json.specs.Data.{Data}
 use Rattle.serde_json.specs.Find.{get, as_array, as_object, as_number, as_u64}
 use Rattle.site_records.specs.Dates.{is_post_date}
+use Rattle.site_records.specs.Ids.{max_id}
 use Rattle.site_records.specs.declared.post.Post.{Post}
 use Rattle.site_records.specs.declared.post.SiteRecords.{SiteRecords}
 use Rattle.site_values.specs.Tree.{with_found, whole_in, text_at}
@@ -22,7 +23,7 @@ use Rattle.site_import.specs.declared.fault.Place.{Place}
 use Rattle.site_import.specs.declared.fault.Section.TheVariants.{Posts, Version}
 
 abbrev pub HasId : Post → Type 0
-HasId post = (1 ≤ post.id) × (post.id ≤ 2147483647)
+HasId post = (1 ≤ post.id) × (post.id ≤ max_id)
 
 -- what was found, if something follows from it
 found_first : {A B : Type 0} (found : Option A) (next : A → Option B) (b : B) → with_found found next ≡ Some b → (a : A) × (found ≡ Some a) × (next a ≡ Some b)
@@ -34,13 +35,13 @@ read_first : {A B : Type 0} (read : Read A) (next : A → Read B) (b : B) → an
 read_first (Err fault) next b e = absurd (cc)
 read_first (Ok a) next b e = (a, refl, e)
 
-whole_in-range : (n m : ℕ) → whole_in 1 2147483647 n ≡ Some m → (1 ≤ m) × (m ≤ 2147483647)
+whole_in-range : (n m : ℕ) → whole_in 1 max_id n ≡ Some m → (1 ≤ m) × (m ≤ max_id)
 whole_in-range n m e = grind (arith, common_steps, nat_tests)
 
-id_at-range : (tree : Data) (id : ℕ) → id_at (codes "id") tree ≡ Some id → (1 ≤ id) × (id ≤ 2147483647)
+id_at-range : (tree : Data) (id : ℕ) → id_at (codes "id") tree ≡ Some id → (1 ≤ id) × (id ≤ max_id)
 id_at-range tree id e =
     let found = option_and_then as_u64 (option_and_then as_number (get (codes "id") tree)) in
-    let n = found_first found (whole_in 1 2147483647) id e in
+    let n = found_first found (whole_in 1 max_id) id e in
     whole_in-range n.0 id n.2
 
 shape_of-id : (tree : Data) (post : Post) → shape_of tree ≡ Some post → HasId post

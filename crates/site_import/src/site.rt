@@ -1,6 +1,7 @@
 //! A whole site file.
 ghost use Rattle.std.specs.Prelude.{◌≡◌, ◌≢◌, ◌≤◌, ◌++◌, Ok, Err, IfOk, IfErr, All, option_map};
 ghost use Rattle.serde_json.specs.View.{view};
+ghost use Rattle.site_records.specs.Ids.{max_id};
 ghost use Rattle.site_import.specs.Site.{version_of, front_in, options_in, records_in, site_file_of, site_file_in};
 
 use crate::active::read_active;
@@ -103,7 +104,7 @@ pub fn read_site_value(alloc: Global, value: &Value) -> Result<SiteFile, ImportF
     ensures ok { IfOk result (λ file. site_file_of (view value.now) ≡ Ok file.records) }
     ensures err { IfErr result (λ fault. fault ≢ ImportFault.OutOfMemory
         → site_file_of (view value.now) ≡ Err fault) }
-    ensures ids { IfOk result (λ file. All (λ post. (1 ≤ post.id) × (post.id ≤ 2147483647))
+    ensures ids { IfOk result (λ file. All (λ post. (1 ≤ post.id) × (post.id ≤ max_id))
         file.records.posts) }
 {
     let records = read_records(alloc, value)?;
@@ -127,7 +128,7 @@ pub fn read_site(alloc: Global, bytes: &[u8]) -> Result<SiteFile, ImportFault>
     ensures ok { IfOk result (λ file. site_file_in bytes.now ≡ Ok file.records) }
     ensures err { IfErr result (λ fault. fault ≢ ImportFault.OutOfMemory
         → site_file_in bytes.now ≡ Err fault) }
-    ensures ids { IfOk result (λ file. All (λ post. (1 ≤ post.id) × (post.id ≤ 2147483647))
+    ensures ids { IfOk result (λ file. All (λ post. (1 ≤ post.id) × (post.id ≤ max_id))
         file.records.posts) }
 {
     let value = read_tree(alloc, bytes)?;

@@ -6,10 +6,10 @@ use Rattle.std.proofs.lemmas.List.{nil_from_length}
 use Rattle.std.proofs.lemmas.List.Elements.{All-append, All-push}
 use Rattle.std.proofs.KnownBytes.{Appends-trans, Consumes-trans, Consumes-kept}
 use Rattle.std.specs.Io.KnownBytes.{Appends, Consumes, Keeps, IsAtEnd}
-use Rattle.site_replies.specs.Reply.{Answer, bytes_of}
-use Rattle.site_program.specs.Step.{Answers}
+use Rattle.site_replies.specs.Reply.{ReplyData, bytes_of}
+use Rattle.site_program.specs.Step.{IsReply}
 use Rattle.site_program.specs.Lines.{lines_of, IsLine, max_line, max_lines, ended}
-use Rattle.site_program.specs.Serving.{is_read, IsReplies, AnswersAll, FailsAt, GoesPast, Stops, ServesAll}
+use Rattle.site_program.specs.Serving.{is_read, IsReplies, RepliesToAll, FailsAt, GoesPast, Stops, ServesAll}
 use Rattle.site_program.specs.Stream.{Takes, Faults, IsTooLong}
 use Rattle.site_replies.specs.declared.fault.ServeFault.{ServeFault}
 use Rattle.site_replies.specs.declared.fault.ServeFault.TheVariants as fault_of
@@ -23,7 +23,7 @@ Consumes-none a b c s buf n p q e =
     let none : s ++ take n buf ≡ s = rw e (append-nil s) in
     subst (Consumes a c) none (Consumes-trans a b c s (take n buf) p q)
 
-module _ (steps : Rows → List ℕ → Rows × Answer) where
+module _ (steps : Rows → List ℕ → Rows × ReplyData) where
   -- ---- one stretch after another
 
   pub IsReplies-append : (old mid new : Rows) (lines later : List (List ℕ)) (out more : List ℕ) → IsReplies steps old lines out mid
@@ -87,9 +87,9 @@ module _ (steps : Rows → List ℕ → Rows × Answer) where
 
   -- ---- the ends
 
-  pub AnswersAll-from : (old new : Rows) (left : ℕ) (stretch rest : List ℕ) (before after : Option (List ℕ))
-      (t : Takes steps old max_lines stretch before after new left rest) → AnswersAll steps old t.lines before after new
-  AnswersAll-from old new left stretch rest before after t = record {
+  pub RepliesToAll-from : (old new : Rows) (left : ℕ) (stretch rest : List ℕ) (before after : Option (List ℕ))
+      (t : Takes steps old max_lines stretch before after new left rest) → RepliesToAll steps old t.lines before after new
+  RepliesToAll-from old new left stretch rest before after t = record {
     out = t.out;
     replied = t.replied;
     written = t.written;
@@ -120,11 +120,11 @@ module _ (steps : Rows → List ℕ → Rows × Answer) where
             subst (λ l. GoesPast done (lines_of l)) cut (GoesPast-long done long.front (long.back ++ more) long.one long.long)
       ]
 
-  -- the lines taken are answered, also if the site and the sink stayed since
-  answered_up_to : (old mid new : Rows) (left : ℕ) (stretch rest : List ℕ) (before between after : Option (List ℕ))
+  -- the lines taken are replied to, also if the site and the sink stayed since
+  replied_up_to : (old mid new : Rows) (left : ℕ) (stretch rest : List ℕ) (before between after : Option (List ℕ))
       (t : Takes steps old max_lines stretch before between mid left rest) → new ≡ mid → Appends between after []
-      → AnswersAll steps old t.lines before after new
-  answered_up_to old mid new left stretch rest before between after t same kept = record {
+      → RepliesToAll steps old t.lines before after new
+  replied_up_to old mid new left stretch rest before between after t same kept = record {
     out = t.out;
     replied = subst (IsReplies steps old t.lines t.out) (sym same) t.replied;
     written = subst (Appends before after) (append-nil t.out) (Appends-trans _ _ _ _ _ t.written kept);
@@ -140,7 +140,7 @@ module _ (steps : Rows → List ℕ → Rows × Answer) where
       let t = f.taken in
       let same = f.faults.0 in (
         t.lines,
-        answered_up_to old f.mid new f.left stretch f.rest before f.between after t same f.faults.1,
+        replied_up_to old f.mid new f.left stretch f.rest before f.between after t same f.faults.1,
         at_given (λ input. (further : List (List ℕ)) × (lines_of input ≡ t.lines ++ further) × GoesPast t.lines further) given left stretch read
             (λ more. (lines_of (f.rest ++ more), lines_of-taken _ _ _ _ _ _ more _ _ t, past_limits t.lines f.left f.rest more t.count f.faults.2 f.faults.3)),
       )
@@ -148,7 +148,7 @@ module _ (steps : Rows → List ℕ → Rows × Answer) where
       let t = f.taken in
       let same = f.faults.0 in (
         t.lines,
-        answered_up_to old f.mid new f.left stretch f.rest before f.between after t same f.faults.1,
+        replied_up_to old f.mid new f.left stretch f.rest before f.between after t same f.faults.1,
         at_given (λ input. (further : List (List ℕ)) × (lines_of input ≡ t.lines ++ further) × (0 < length further)) given left stretch read
             (λ more. (
               lines_of (f.rest ++ more),
@@ -164,7 +164,7 @@ module _ (steps : Rows → List ℕ → Rows × Answer) where
         w.0,
         f.mid,
         f.between,
-        AnswersAll-from _ _ _ _ _ _ _ t,
+        RepliesToAll-from _ _ _ _ _ _ _ t,
         w.4,
         w.3,
         (let c = t.count in let room = w.5 in omega arith),
@@ -184,7 +184,7 @@ module _ (steps : Rows → List ℕ → Rows × Answer) where
   Stops-from_read old new left stretch held given mid last before after read kept t line room = (
     t.lines,
     held,
-    AnswersAll-from _ _ _ _ _ _ _ t,
+    RepliesToAll-from _ _ _ _ _ _ _ t,
     line,
     (λ some. let c = t.count in let more = room some in omega arith),
     Consumes-kept given mid last _
@@ -215,7 +215,7 @@ module _ (steps : Rows → List ℕ → Rows × Answer) where
       → IsAtEnd left → Takes steps old max_lines stretch before after new room held → length held ≡ 0 → ServesAll steps old given left before after new
   ServesAll-from old new room stretch held given left before after read end t none = record {
     lines = t.lines;
-    answered = AnswersAll-from _ _ _ _ _ _ _ t;
+    replied = RepliesToAll-from _ _ _ _ _ _ _ t;
     whole = at_end (λ input. lines_of input ≡ t.lines) given left stretch read end
         (ap lines_of (sym (append-nil stretch)) ∙ lines_of-taken _ _ _ _ _ _ [] _ _ t ∙ ap (λ l. t.lines ++ lines_of (l ++ [])) (nil_from_length held none)
         ∙ ap (λ ls. t.lines ++ ls) lines_of-nil ∙ append-nil t.lines);
@@ -229,15 +229,15 @@ module _ (steps : Rows → List ℕ → Rows × Answer) where
       ap lines_of (sym (append-nil stretch)) ∙ lines_of-taken _ _ _ _ _ _ [] _ _ t ∙ ap (λ l. t.lines ++ lines_of l) (append-nil held)
       ∙ ap (λ ls. t.lines ++ ls) (lines_of-last held line.one some)
 
-  pub ServesAll-from_last : (old mid new : Rows) (room : ℕ) (stretch held : List ℕ) (reply : Answer) (given left before between after : Option (List ℕ))
+  pub ServesAll-from_last : (old mid new : Rows) (room : ℕ) (stretch held : List ℕ) (reply : ReplyData) (given left before between after : Option (List ℕ))
       → Consumes given left stretch → IsAtEnd left → Takes steps old max_lines stretch before between mid room held
-      → IsLine held → 0 < length held → 0 < room → Answers steps mid held reply new → Appends between after (bytes_of reply)
+      → IsLine held → 0 < length held → 0 < room → IsReply steps mid held reply new → Appends between after (bytes_of reply)
       → ServesAll steps old given left before after new
-  ServesAll-from_last old mid new room stretch held reply given left before between after read end t line some more answered written = record {
+  ServesAll-from_last old mid new room stretch held reply given left before between after read end t line some more replied written = record {
     lines = t.lines ++ held ∷ [];
-    answered = record {
+    replied = record {
       out = t.out ++ bytes_of reply;
-      replied = IsReplies-push steps old mid new t.lines held reply t.out t.replied answered;
+      replied = IsReplies-push steps old mid new t.lines held reply t.out t.replied replied;
       written = Appends-trans _ _ _ _ _ t.written written;
       count = let c = t.count in simp length-append (omega arith);
       each = All-push IsLine t.lines held t.each line;
@@ -254,7 +254,7 @@ module _ (steps : Rows → List ℕ → Rows × Answer) where
     held,
     mid,
     between,
-    AnswersAll-from _ _ _ _ _ _ _ t,
+    RepliesToAll-from _ _ _ _ _ _ _ t,
     fails,
     line,
     (let c = t.count in omega arith),
@@ -263,10 +263,10 @@ module _ (steps : Rows → List ℕ → Rows × Answer) where
   )
 
   -- between two ends that tell their bytes
-  pub answers_told : (old new : Rows) (given left before after : Option (List ℕ)) → ServesAll steps old given left before after new
+  pub replies_told : (old new : Rows) (given left before after : Option (List ℕ)) → ServesAll steps old given left before after new
       → IfSome given (λ input. IfSome before (λ written. (out : List ℕ) × IsReplies steps old (lines_of input) out new × (after ≡ Some (written ++ out))))
-  answers_told old new None left before after s = tt
-  answers_told old new (Some input) left None after s = tt
-  answers_told old new (Some input) left (Some written) after s =
-      let a = s.answered in
-      (a.out, subst (λ ls. IsReplies steps old ls a.out new) (sym s.whole) a.replied, told_after written after a.out a.written)
+  replies_told old new None left before after s = tt
+  replies_told old new (Some input) left None after s = tt
+  replies_told old new (Some input) left (Some written) after s =
+      let r = s.replied in
+      (r.out, subst (λ ls. IsReplies steps old ls r.out new) (sym s.whole) r.replied, told_after written after r.out r.written)

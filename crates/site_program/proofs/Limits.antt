@@ -6,7 +6,7 @@ use Rattle.post_tables.specs.Rows.{Rows}
 use Rattle.site_commands.specs.Tree.{tree_of}
 use Rattle.site_commands.specs.Asked.{Asked, command_of}
 use Rattle.site_commands.specs.Asked as asked
-use Rattle.site_replies.specs.Reply.{Answer}
+use Rattle.site_replies.specs.Reply.{ReplyData}
 use Rattle.site_edits.proofs.Limits.{KeepsLimit, either, put-limit, edit-limit, delete-limit, option-limit, active-limit, template-limit, import-limit}
 use Rattle.site_program.specs.Step.{step, got, carried_out, max_path}
 
@@ -27,7 +27,7 @@ carried_out-limit engine calls rows (Some (asked.import site)) = import-limit en
 carried_out-limit engine calls rows (Some (asked.get path)) = got-limit engine calls rows path
 
 -- the rows after a line have the limit that the rows before it had
-pub step-limit : (engine : Engine) (calls : ℕ) (rows new : Rows) (line : List ℕ) (reply : Answer) → (new, reply) ≡ step engine calls rows line
+pub step-limit : (engine : Engine) (calls : ℕ) (rows new : Rows) (line : List ℕ) (reply : ReplyData) → (new, reply) ≡ step engine calls rows line
     → new.step_limit ≡ rows.step_limit
 unfolding step
 step-limit engine calls rows new line reply done =

@@ -1,4 +1,4 @@
--- Lemmas on what a request is answered.
+-- Lemmas on the reply to a request.
 use Rattle.std.proofs.Common.{◌≡◌, ◌≢◌, ◌≤◌, inl, inr, ℕ, Bool, true, List, ◌∙◌, Ok, Err, refl, sym, ap, length}
 use Rattle.std.proofs.lemmas.Bool.{le-leb}
 use Rattle.std.specs.Prelude.{Result, IfErr, false, ◌||◌}
@@ -12,7 +12,7 @@ use Rattle.post_tables.specs.Rows.{Rows}
 use Rattle.template_parts.specs.Pages as template
 use Rattle.template_parts.specs.Pages.{Work, IsPage, IsRefusedBy}
 use Rattle.template_parts.specs.declared.settings.Settings.{Settings}
-use Rattle.site_replies.specs.Reply.{Answer, page}
+use Rattle.site_replies.specs.Reply.{ReplyData, page}
 use Rattle.site_edits.specs.Faults.{IsReadFault}
 use Rattle.site_edits.specs.Late.{rests_on_rows, may_be_late}
 use Rattle.site_edits.specs.declared.fault.StoreFault.{StoreFault}
@@ -42,7 +42,7 @@ module _ (engine : Engine) (calls : ℕ) (found : Found) (options templates : Te
       → refusal_of why ≡ page_of engine calls found options templates active
   page_refused why refused other = ap (shown found.status) (sym (refused other))
 
--- ---- the answer to a path
+-- ---- the reply to a path
 
 -- however a page ended, its reply rests on the rows
 shown-rests : (status : ℕ) (end : Outcome (Unit {0})) → rests_on_rows (shown status end) ≡ true
@@ -57,17 +57,17 @@ or_true false = refl
 
 module _ (engine : Engine) (calls : ℕ) (rows : Rows) (path : Text) where
   -- by what was read of the rows
-  pub request-is : (answer : Answer) (found : Found) (options templates : Texts) (active : List Text) → found ≡ found_by rows path → options ≡ options_of rows
+  pub request-is : (reply : ReplyData) (found : Found) (options templates : Texts) (active : List Text) → found ≡ found_by rows path → options ≡ options_of rows
       → templates ≡ templates_of rows → active ≡ active_of rows
-      → answer ≡ page_of engine calls found options templates active → answer ≡ request engine calls rows path
+      → reply ≡ page_of engine calls found options templates active → reply ≡ request engine calls rows path
   unfolding request
-  request-is answer found options templates active f o t a is = rw (is, f, o, t, a) refl
+  request-is reply found options templates active f o t a is = rw (is, f, o, t, a) refl
 
   -- a path that isn't too long
-  pub got-short : (new : Rows) (answer : Answer) → length path ≤ max_path → new ≡ rows → answer ≡ request engine calls rows path
-      → (new, answer) ≡ got engine calls rows path
+  pub got-short : (new : Rows) (reply : ReplyData) → length path ≤ max_path → new ≡ rows → reply ≡ request engine calls rows path
+      → (new, reply) ≡ got engine calls rows path
   unfolding got
-  got-short new answer short same is = rw (le-leb _ _ short, same, is) refl
+  got-short new reply short same is = rw (le-leb _ _ short, same, is) refl
 
   rests : rests_on_rows (request engine calls rows path) ≡ true
   unfolding request

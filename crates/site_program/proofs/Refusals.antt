@@ -7,7 +7,7 @@ use Rattle.site_commands.specs.Tree.{tree_of}
 use Rattle.site_commands.specs.Asked.{Asked, command_of}
 use Rattle.site_commands.specs.Asked as asked
 use Rattle.site_replies.specs.declared.reply.Refusal.{Refusal}
-use Rattle.site_replies.specs.Reply.{Answer, refused}
+use Rattle.site_replies.specs.Reply.{ReplyData, refused}
 use Rattle.site_edits.proofs.Refusals.{Keeps, either, same, put-keeps, edit-keeps, delete-keeps, option-keeps, active-keeps, template-keeps, import-keeps}
 use Rattle.site_program.specs.Step.{step, got, carried_out, max_path}
 
@@ -29,8 +29,8 @@ carried_out-keeps engine calls rows (Some (asked.import site)) = import-keeps en
 carried_out-keeps engine calls rows (Some (asked.get path)) = got-keeps engine calls rows path
 
 -- a line whose step is a refusal keeps the rows
-pub step-refused : (engine : Engine) (calls : ℕ) (rows new : Rows) (line : List ℕ) (reply : Answer) (r : Refusal) → (new, reply) ≡ step engine calls rows line
-    → reply ≡ refused r → new ≡ rows
+pub step-refused : (engine : Engine) (calls : ℕ) (rows new : Rows) (line : List ℕ) (reply : ReplyData) (r : Refusal)
+    → (new, reply) ≡ step engine calls rows line → reply ≡ refused r → new ≡ rows
 unfolding step
 step-refused engine calls rows new line reply r done is =
     ap (λ p. p.0) done ∙ carried_out-keeps engine calls rows (option_and_then command_of (tree_of line)) r (sym (ap (λ p. p.1) done) ∙ is)

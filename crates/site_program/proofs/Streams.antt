@@ -8,8 +8,8 @@ use Rattle.std.proofs.lemmas.Bool.{eqb-true}
 use Rattle.std.proofs.KnownBytes.{Appends-trans, Appends-nil}
 use Rattle.std.specs.Io.KnownBytes.{Appends}
 use Rattle.memchr.specs.Find.{IsFirstByte, is_byte}
-use Rattle.site_replies.specs.Reply.{Answer, bytes_of}
-use Rattle.site_program.specs.Step.{Answers}
+use Rattle.site_replies.specs.Reply.{ReplyData, bytes_of}
+use Rattle.site_program.specs.Step.{IsReply}
 use Rattle.site_program.specs.Lines.{IsLine, HasNoNewline, max_line, ended}
 use Rattle.site_program.specs.Serving.{is_write, IsReplies, FailsAt}
 use Rattle.site_replies.specs.declared.fault.ServeFault.{ServeFault}
@@ -118,22 +118,22 @@ whole_line stretch rest later part all end part_is later_is found e =
     ∙ ap (λ l. stretch ++ l) (append_assoc (take end rest) (10 ∷ []) (drop (end + 1) rest)) in
     rw (part_is, later_is) (joined ∙ ap (λ l. stretch ++ l) (sym cut) ∙ e)
 
-module _ (steps : Rows → List ℕ → Rows × Answer) where
+module _ (steps : Rows → List ℕ → Rows × ReplyData) where
   -- ---- replies
 
-  pub IsReplies-push : (old mid new : Rows) (lines : List (List ℕ)) (line : List ℕ) (reply : Answer) (out : List ℕ) → IsReplies steps old lines out mid
-      → Answers steps mid line reply new → IsReplies steps old (lines ++ line ∷ []) (out ++ bytes_of reply) new
-  IsReplies-push old mid new [] line reply out done answered =
+  pub IsReplies-push : (old mid new : Rows) (lines : List (List ℕ)) (line : List ℕ) (reply : ReplyData) (out : List ℕ) → IsReplies steps old lines out mid
+      → IsReply steps mid line reply new → IsReplies steps old (lines ++ line ∷ []) (out ++ bytes_of reply) new
+  IsReplies-push old mid new [] line reply out done replied =
       let same : mid ≡ old = done.1 in
-      (reply, new, [], subst (λ s. Answers steps s line reply new) same answered, rw done.0 (sym (append-nil (bytes_of reply))), (refl, refl))
-  IsReplies-push old mid new (first ∷ lines) line reply out done answered = (
+      (reply, new, [], subst (λ s. IsReply steps s line reply new) same replied, rw done.0 (sym (append-nil (bytes_of reply))), (refl, refl))
+  IsReplies-push old mid new (first ∷ lines) line reply out done replied = (
     done.0,
     done.1,
     done.2 ++ bytes_of reply,
     done.3,
     ap (λ o. o ++ bytes_of reply) done.4
         ∙ append_assoc (bytes_of done.0) done.2 (bytes_of reply),
-    IsReplies-push done.1 mid new lines line reply done.2 done.5 answered,
+    IsReplies-push done.1 mid new lines line reply done.2 done.5 replied,
   )
 
   -- ---- stretches
@@ -170,11 +170,11 @@ module _ (steps : Rows → List ℕ → Rows × Answer) where
       (Takes-more old mid limit left stretch kept more before after t)
 
   -- the next line ends
-  pub Takes-line : (old mid new : Rows) (limit left : ℕ) (stretch kept part : List ℕ) (before between after : Option (List ℕ)) (reply : Answer)
+  pub Takes-line : (old mid new : Rows) (limit left : ℕ) (stretch kept part : List ℕ) (before between after : Option (List ℕ)) (reply : ReplyData)
       → Takes steps old limit stretch before between mid left kept → IsLine (kept ++ part) → 0 < left
-      → Answers steps mid (kept ++ part) reply new → Appends between after (bytes_of reply)
+      → IsReply steps mid (kept ++ part) reply new → Appends between after (bytes_of reply)
       → Takes steps old limit (stretch ++ (part ++ 10 ∷ [])) before after new (left - 1) []
-  Takes-line old mid new limit left stretch kept part before between after reply t line room answered written = record {
+  Takes-line old mid new limit left stretch kept part before between after reply t line room replied written = record {
     lines = t.lines ++ (kept ++ part) ∷ [];
     out = t.out ++ bytes_of reply;
     whole =
@@ -183,7 +183,7 @@ module _ (steps : Rows → List ℕ → Rows × Answer) where
         rw (t.whole, pushed) (simp (append_assoc, append-nil));
     each = All-push IsLine t.lines (kept ++ part) t.each line;
     count = let c = t.count in simp length-append (omega arith);
-    replied = IsReplies-push old mid new t.lines (kept ++ part) reply t.out t.replied answered;
+    replied = IsReplies-push old mid new t.lines (kept ++ part) reply t.out t.replied replied;
     written = Appends-trans _ _ _ _ _ t.written written;
   }
 

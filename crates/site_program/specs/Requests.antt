@@ -1,13 +1,13 @@
--- What a request of a path is answered.
-use Rattle.std.specs.Prelude.{ℕ, List, [], map, find, codes, Option, option_map, option_and_then, unwrap_or}
+-- The reply to a request of a path.
+use Rattle.std.specs.Prelude.{ℕ, List, [], map, codes, Option, option_and_then, unwrap_or}
 use Rattle.std.specs.FinMap.{entries, keys}
-use Rattle.std.specs.Str.{bytes_eq}
 use Rattle.hook_machine.specs.World.{Text, fresh, loaded}
 use Rattle.hook_machine.specs.Trace.{Outcome, Ended, Fault, outcome_of}
 use Rattle.hook_machine.specs.Meaning.{Engine}
 use Rattle.hook_machine.specs.declared.fault.RunFault.{RunFault}
 use Rattle.hook_machine.specs.declared.fault.RunFault.TheVariants as fault
 use Rattle.post_tables.specs.Rows.{Rows}
+use Rattle.site_records.specs.Texts.{text_named}
 use Rattle.site_records.specs.declared.found.Found.{Found}
 use Rattle.site_records.specs.declared.found.FoundKind.{FoundKind}
 use Rattle.permalink_query.specs.Paths.{query_of}
@@ -19,15 +19,15 @@ use Rattle.template_parts.specs.Pages as template
 use Rattle.template_parts.specs.Pages.{Work}
 use Rattle.template_parts.specs.declared.settings.Settings.{Settings}
 use Rattle.site_replies.specs.declared.reply.Refusal.TheVariants.{TooManyCalls, TooDeep, OutOfMemory}
-use Rattle.site_replies.specs.Reply.{Answer, refused, page}
+use Rattle.site_replies.specs.Reply.{ReplyData, refused, page}
 
-abbrev pub refusal_of : RunFault → Answer
+abbrev pub refusal_of : RunFault → ReplyData
 refusal_of fault.TooManyCalls = refused TooManyCalls
 refusal_of fault.TooDeep = refused TooDeep
 refusal_of fault.OutOfMemory = refused OutOfMemory
 
 -- a page as it ended: all that was printed, or why it was refused
-abbrev pub shown : ℕ → Outcome (Unit {0}) → Answer
+abbrev pub shown : ℕ → Outcome (Unit {0}) → ReplyData
 shown status (Ended world nothing) = page status world.output
 shown status (Fault why) = refusal_of why
 
@@ -48,10 +48,6 @@ active_of rows = keys rows.active
 -- what a path finds in a site
 abbrev pub found_by : Rows → Text → Found
 found_by rows path = found rows.posts (options_of rows) (query_of path)
-
--- the first text of that name
-abbrev pub text_named : Text → Texts → Option Text
-text_named name texts = option_map (λ t. t.1) (find (λ t. bytes_eq t.0 name) texts)
 
 -- the template of that name, if one is stored
 abbrev pub template_named : Text → Texts → Option Template
@@ -79,12 +75,12 @@ page_pass engine calls found options templates active =
     template.page_pass engine (settings_for found.kind options templates) found.posts
     (loaded engine.plugins (fresh calls options active))
 
--- the answer to a request that found this
-abbrev pub page_of : Engine → ℕ → Found → (options templates : Texts) → List Text → Answer
+-- the reply to a request that found this
+abbrev pub page_of : Engine → ℕ → Found → (options templates : Texts) → List Text → ReplyData
 page_of engine calls found options templates active =
     shown found.status (outcome_of (page_pass engine calls found options templates active))
 
--- the answer to a request of a path
-unfoldable pub request : Engine → ℕ → Rows → Text → Answer
+-- the reply to a request of a path
+unfoldable pub request : Engine → ℕ → Rows → Text → ReplyData
 request engine calls rows path =
     page_of engine calls (found_by rows path) (options_of rows) (templates_of rows) (active_of rows)

@@ -2,8 +2,8 @@
 use Rattle.std.specs.Prelude.{◌≡◌, ◌⊎◌, ℕ, ◌<◌, ◌≤◌, List, [], ◌∷◌, ◌++◌, length, Option, Result, Ok, Err, Bool, true, false, IfSome, All, flat_map}
 use Rattle.std.specs.Io.KnownBytes.{Appends, Consumes, IsAtEnd}
 use Rattle.ends.specs.Known.{AppendsFront}
-use Rattle.site_replies.specs.Reply.{Answer, bytes_of}
-use Rattle.site_program.specs.Step.{Answers}
+use Rattle.site_replies.specs.Reply.{ReplyData, bytes_of}
+use Rattle.site_program.specs.Step.{IsReply}
 use Rattle.site_program.specs.Lines.{lines_of, max_lines, max_line, IsLine, ended}
 use Rattle.post_tables.specs.Rows.{Rows}
 use Rattle.site_replies.specs.declared.fault.ServeFault.{ServeFault}
@@ -26,16 +26,16 @@ GoesPast done [] = ⊥
 GoesPast done (line ∷ lines) = (length done ≡ max_lines) ⊎ (max_line < length line)
 
 -- Everything below is told for any meaning of a line: `steps` gives the rows after it, and the reply.
-module _ (steps : Rows → List ℕ → Rows × Answer) where
+module _ (steps : Rows → List ℕ → Rows × ReplyData) where
   -- each line in order gives the bytes of its reply and the next rows
   abbrev pub IsReplies : Rows → List (List ℕ) → List ℕ → Rows → Type 0
   IsReplies old [] out new = (out ≡ []) × (new ≡ old)
   IsReplies old (line ∷ lines) out new =
-      (reply : Answer) × (mid : Rows) × (later : List ℕ)
-      × Answers steps old line reply mid × (out ≡ bytes_of reply ++ later) × IsReplies mid lines later new
+      (reply : ReplyData) × (mid : Rows) × (later : List ℕ)
+      × IsReply steps old line reply mid × (out ≡ bytes_of reply ++ later) × IsReplies mid lines later new
 
-  -- these lines, as many as there may be, were carried out and answered
-  pub record AnswersAll (old : Rows) (lines : List (List ℕ)) (before after : Option (List ℕ)) (new : Rows) : Type 0 where
+  -- these lines, as many as there may be, were carried out and replied to
+  pub record RepliesToAll (old : Rows) (lines : List (List ℕ)) (before after : Option (List ℕ)) (new : Rows) : Type 0 where
     pub out : List ℕ
     pub replied : IsReplies old lines out new
     pub written : Appends before after out
@@ -44,33 +44,33 @@ module _ (steps : Rows → List ℕ → Rows × Answer) where
 
   -- the line was carried out, and its reply written in part
   pub record FailsAt (old : Rows) (line : List ℕ) (before after : Option (List ℕ)) (new : Rows) : Type 0 where
-    pub reply : Answer
-    pub answered : Answers steps old line reply new
+    pub reply : ReplyData
+    pub replied : IsReply steps old line reply new
     pub part : AppendsFront before after (bytes_of reply)
 
   -- Serving stopped by the fault; `given` is what the source had, and `left` what it then has.
   abbrev pub Stops : Rows → (given left before after : Option (List ℕ)) → Rows → ServeFault → Type 0
-  -- the lines that end in what was read were answered, and what follows them is the front of one more line
+  -- the lines that end in what was read were replied to, and what follows them is the front of one more line
   Stops old given left before after new fault.Read =
-      (lines : List (List ℕ)) × (part : List ℕ) × AnswersAll old lines before after new × IsLine part × (0 < length part → length lines < max_lines)
+      (lines : List (List ℕ)) × (part : List ℕ) × RepliesToAll old lines before after new × IsLine part × (0 < length part → length lines < max_lines)
       × Consumes given left (flat_map ended lines ++ part)
-  -- the lines before the one that goes past the limits were answered
+  -- the lines before the one that goes past the limits were replied to
   Stops old given left before after new fault.TooMuchInput =
-      (lines : List (List ℕ)) × AnswersAll old lines before after new
+      (lines : List (List ℕ)) × RepliesToAll old lines before after new
       × IfSome given (λ input. (further : List (List ℕ)) × (lines_of input ≡ lines ++ further) × GoesPast lines further)
-  -- the lines before one that found no memory were answered
+  -- the lines before one that found no memory were replied to
   Stops old given left before after new fault.OutOfMemory =
-      (lines : List (List ℕ)) × AnswersAll old lines before after new
+      (lines : List (List ℕ)) × RepliesToAll old lines before after new
       × IfSome given (λ input. (further : List (List ℕ)) × (lines_of input ≡ lines ++ further) × (0 < length further))
-  -- the lines before were answered, and of the reply to one more, within the limits, a part was written
+  -- the lines before were replied to, and of the reply to one more, within the limits, a part was written
   Stops old given left before after new fault.Write =
       (lines : List (List ℕ)) × (line : List ℕ) × (mid : Rows) × (between : Option (List ℕ))
-      × AnswersAll old lines before between mid × FailsAt mid line between after new × IsLine line × (length lines < max_lines)
+      × RepliesToAll old lines before between mid × FailsAt mid line between after new × IsLine line × (length lines < max_lines)
       × IfSome given (λ input. (further : List (List ℕ)) × (lines_of input ≡ lines ++ line ∷ further))
 
   -- All the input was read, each of its lines within the limits, and what was written is the replies to them.
   pub record ServesAll (old : Rows) (given left before after : Option (List ℕ)) (new : Rows) : Type 0 where
     pub lines : List (List ℕ)
-    pub answered : AnswersAll old lines before after new
+    pub replied : RepliesToAll old lines before after new
     pub whole : IfSome given (λ input. lines_of input ≡ lines)
     pub end : IsAtEnd left

@@ -1,7 +1,7 @@
 -- What carrying out the lines in a stretch of the input does: the words of private clauses.
 use Rattle.std.specs.Prelude.{◌≡◌, ◌⊎◌, ℕ, ◌+◌, ◌<◌, List, [], ◌++◌, length, Option, All, flat_map}
 use Rattle.std.specs.Io.KnownBytes.{Appends}
-use Rattle.site_replies.specs.Reply.{Answer}
+use Rattle.site_replies.specs.Reply.{ReplyData}
 use Rattle.site_program.specs.Lines.{IsLine, HasNoNewline, max_line, ended}
 use Rattle.site_program.specs.Serving.{IsReplies, FailsAt}
 use Rattle.post_tables.specs.Rows.{Rows}
@@ -16,8 +16,8 @@ pub record IsTooLong (rest : List ℕ) : Type 0 where
   pub one : HasNoNewline front
   pub long : max_line < length front
 
-module _ (steps : Rows → List ℕ → Rows × Answer) where
-  -- Of a stretch of input some lines, within the limit of lines, were carried out and answered, and `rest` is what follows them.
+module _ (steps : Rows → List ℕ → Rows × ReplyData) where
+  -- Of a stretch of input some lines, within the limit of lines, were carried out and replied to, and `rest` is what follows them.
   pub record Takes (old : Rows) (limit : ℕ) (stretch : List ℕ) (before after : Option (List ℕ)) (new : Rows) (left : ℕ) (rest : List ℕ) : Type 0 where
     pub lines : List (List ℕ)
     pub out : List ℕ
@@ -35,7 +35,7 @@ module _ (steps : Rows → List ℕ → Rows × Answer) where
   FaultsAt old left rest before after new fault.Write =
       (line : List ℕ) × (back : List ℕ) × (rest ≡ ended line ++ back) × IsLine line × FailsAt steps old line before after new × (0 < left)
 
-  -- lines of the stretch were answered, and then the fault came
+  -- lines of the stretch were replied to, and then the fault came
   pub record Faults (old : Rows) (limit : ℕ) (stretch : List ℕ) (before after : Option (List ℕ)) (new : Rows) (fault : ServeFault) : Type 0 where
     pub mid : Rows
     pub between : Option (List ℕ)

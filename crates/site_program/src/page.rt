@@ -5,7 +5,7 @@ ghost use Rattle.hook_machine.specs.World.{fresh, loaded};
 ghost use Rattle.hook_machine.specs.Outcomes.{engine_with};
 ghost use Rattle.hook_machine.specs.Runs.{world_of, IsReady};
 ghost use Rattle.hook_machine.specs.Runs as runs;
-ghost use Rattle.site_replies.specs.Reply.{answer_of};
+ghost use Rattle.site_replies.specs.Reply.{reply_data};
 ghost use Rattle.permalink_query.specs.Paths.{query_of};
 ghost use Rattle.permalink_query.specs.Found.{found};
 ghost use Rattle.template_parts.specs.Pages.{IsPage, IsRefusedBy};
@@ -41,7 +41,7 @@ impl<'p, S: Stated> Setup<'p, S> {
         path: &str,
         cache: &mut PieceCache,
     ) -> Result<SiteReply, StoreFault>
-        ensures ok { IfOk result (λ reply. (tables.new, answer_of reply)
+        ensures ok { IfOk result (λ reply. (tables.new, reply_data reply)
             ≡ got (engine_of S.says S.number self.now) (calls_of self.now) tables.old path.now) }
         ensures err { OnErr result (tables.new ≡ tables.old) }
         ensures late { IfErr result (λ fault. fault ≡ StoreFault.Store → may_be_late tables.old.step_limit
@@ -61,7 +61,7 @@ impl<'p, S: Stated> Setup<'p, S> {
         path: &str,
         cache: &mut PieceCache,
     ) -> Result<SiteReply, StoreFault>
-        ensures ok { IfOk result (λ reply. answer_of reply ≡ request
+        ensures ok { IfOk result (λ reply. reply_data reply ≡ request
             (engine_of S.says S.number self.now) (calls_of self.now) tables.old path.now) }
         ensures same { tables.new ≡ tables.old }
         ensures stopped { IfErr result (IsReadFault tables.old.step_limit) }
@@ -70,7 +70,7 @@ impl<'p, S: Stated> Setup<'p, S> {
         let found = found_by(self.alloc, tables, path, options.as_slice())?;
         let templates = tables.templates()?;
         let active = tables.active()?;
-        self.answer_to(
+        self.page_reply(
             found,
             options.as_slice(),
             templates.as_slice(),
@@ -79,8 +79,8 @@ impl<'p, S: Stated> Setup<'p, S> {
         )
     }
 
-    /// The answer to a request that found this.
-    fn answer_to(
+    /// The reply to a request that found this.
+    fn page_reply(
         &self,
         found: Found,
         options: &[(Text, Text)],
@@ -88,7 +88,7 @@ impl<'p, S: Stated> Setup<'p, S> {
         active: &[Text],
         cache: &mut PieceCache,
     ) -> Result<SiteReply, StoreFault>
-        ensures ok { IfOk result (λ reply. answer_of reply ≡ page_of (engine_of S.says S.number self.now)
+        ensures ok { IfOk result (λ reply. reply_data reply ≡ page_of (engine_of S.says S.number self.now)
             (calls_of self.now) found options.now templates.now active.now) }
         ensures memory { IfErr result (λ fault. fault ≡ StoreFault.OutOfMemory) }
     {

@@ -29,8 +29,8 @@ impl<'p, S: Stated> Site<'p, S> {
     /// Carries out each line of the input, and writes its reply before the next line is carried out.
     ///
     /// A last line without a newline counts if it has a byte. At most 1,000,000 lines of at most 1,048,576 bytes are
-    /// served. At `Read`, `TooMuchInput` and `OutOfMemory` the lines before the fault are carried out and answered; at
-    /// `Write` the line whose reply could not be written is carried out too.
+    /// served. At `Read`, `TooMuchInput` and `OutOfMemory` the lines before the fault are carried out and replied to;
+    /// at `Write` the line whose reply could not be written is carried out too.
     pub fn serve<R: Source, W: Sink>(
         &mut self,
         reader: &mut R,
@@ -39,8 +39,8 @@ impl<'p, S: Stated> Site<'p, S> {
         requires reader { R.has_failed reader.old ≡ false }
         requires writer { W.has_failed writer.old ≡ false }
 
-        // What is read to its end is answered line by line, and nothing else is written.
-        ensures answered { OnOk result (IfSome (R.remaining reader.old) (λ input.
+        // An input that is read to its end is replied to line by line, and nothing else is written.
+        ensures replied { OnOk result (IfSome (R.remaining reader.old) (λ input.
             IfSome (W.contents writer.old) (λ before. (out : List ℕ)
             × IsReplies (steps_of S.says S.number (setup_of self.old))
             (rows_of self.old) (lines_of input) out (rows_of self.new)
@@ -81,7 +81,7 @@ impl<'p, S: Stated> Site<'p, S> {
             setup.take_chunk(tables, &mut held, &mut left, &chunk[..count], writer, cache)?;
         }
         if !held.is_empty() {
-            setup.answer(tables, &held, writer, cache)?;
+            setup.reply_to(tables, &held, writer, cache)?;
         }
         Ok(())
     }
@@ -90,8 +90,8 @@ impl<'p, S: Stated> Site<'p, S> {
 impl<'p, S: Stated> Setup<'p, S> {
     ghost use Rattle.std.specs.Prelude.{◌⊎◌, ◌<◌, ◌≤◌, [], false, length, is_err, OnErr, IsErrOf};
     ghost use Rattle.std.specs.Io.KnownBytes.{Appends};
-    ghost use Rattle.site_replies.specs.Reply.{Answer, bytes_of};
-    ghost use Rattle.site_program.specs.Step.{Answers, steps_of};
+    ghost use Rattle.site_replies.specs.Reply.{ReplyData, bytes_of};
+    ghost use Rattle.site_program.specs.Step.{IsReply, steps_of};
     ghost use Rattle.site_program.specs.Lines.{IsLine};
     ghost use Rattle.site_program.specs.Serving.{is_write, FailsAt};
     ghost use Rattle.site_program.specs.Stream.{Takes, Faults};
@@ -150,8 +150,8 @@ impl<'p, S: Stated> Setup<'p, S> {
     ) -> Result<(), ServeFault>
         requires whole { W.has_failed writer.old ≡ false }
         requires short { length (held.old.items ++ part.now) ≤ 1048576 }
-        ensures ok { OnOk result ((reply : Answer)
-            × Answers (steps_of S.says S.number self.now)
+        ensures ok { OnOk result ((reply : ReplyData)
+            × IsReply (steps_of S.says S.number self.now)
             tables.old (held.old.items ++ part.now) reply tables.new
             × Appends (W.contents writer.old) (W.contents writer.new) (bytes_of reply)) }
         ensures empty { OnOk result (held.new.items ≡ []) }
@@ -165,16 +165,16 @@ impl<'p, S: Stated> Setup<'p, S> {
         ensures limit { tables.new.step_limit ≡ tables.old.step_limit }
     {
         if held.is_empty() {
-            return self.answer(tables, part, writer, cache);
+            return self.reply_to(tables, part, writer, cache);
         }
         hold(held, part)?;
-        self.answer(tables, held, writer, cache)?;
+        self.reply_to(tables, held, writer, cache)?;
         held.clear();
         Ok(())
     }
 
     // Carries out one line, and writes its reply.
-    fn answer<W: Sink>(
+    fn reply_to<W: Sink>(
         &self,
         tables: &mut Tables,
         line: &[u8],
@@ -182,8 +182,8 @@ impl<'p, S: Stated> Setup<'p, S> {
         cache: &mut PieceCache,
     ) -> Result<(), ServeFault>
         requires { W.has_failed writer.old ≡ false }
-        ensures ok { OnOk result ((reply : Answer)
-            × Answers (steps_of S.says S.number self.now) tables.old line.now reply tables.new
+        ensures ok { OnOk result ((reply : ReplyData)
+            × IsReply (steps_of S.says S.number self.now) tables.old line.now reply tables.new
             × Appends (W.contents writer.old) (W.contents writer.new) (bytes_of reply)) }
         ensures err { OnErr result (FailsAt (steps_of S.says S.number self.now)
             tables.old line.now (W.contents writer.old) (W.contents writer.new) tables.new) }

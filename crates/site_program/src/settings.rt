@@ -1,10 +1,11 @@
 //! What a site says of its pages.
-ghost use Rattle.std.specs.Prelude.{◌≡◌, [], codes, IfOk, map, option_map, unwrap_or};
+ghost use Rattle.std.specs.Prelude.{◌≡◌, [], codes, IfOk, map, unwrap_or};
+ghost use Rattle.site_records.specs.Texts.{text_named};
 ghost use Rattle.template_parts.specs.Choice.{template_choice};
-ghost use Rattle.site_program.specs.Requests.{text_named, template_named, template_for, settings_for};
+ghost use Rattle.site_program.specs.Requests.{template_named, template_for, settings_for};
 
 use hook_changes::{Listed, Text};
-use site_records::FoundKind;
+use site_records::{FoundKind, text_named};
 use std::alloc::{AllocError, Global};
 use template_parts::{Settings, Template, choose};
 use template_trees::{default_index, read_stored};
@@ -31,7 +32,7 @@ pub(crate) fn settings_for(
 fn site_name(alloc: Global, options: &[(Text, Text)]) -> Result<Text, AllocError>
     ensures { IfOk result (λ name. name ≡ unwrap_or (text_named (codes "blogname") options.now) []) }
 {
-    match text_named("blogname", options) {
+    match text_named(options, "blogname") {
         Some(name) => Text::copied(alloc, name),
         None => Ok(Text::empty(alloc)),
     }
@@ -70,16 +71,8 @@ fn template_named(
 ) -> Result<Option<Template>, AllocError>
     ensures { IfOk result (λ template. template ≡ template_named name.now templates.now) }
 {
-    match text_named(name, templates) {
+    match text_named(templates, name) {
         Some(text) => read_stored(alloc, name, text),
         None => Ok(None),
     }
-}
-
-/// The first text of that name.
-fn text_named<'t>(name: &str, texts: &'t [(Text, Text)]) -> Option<&'t str>
-    ensures { option_map (λ text. text.now) result ≡ text_named name.now texts.now }
-{
-    let (_, text) = texts.iter().find(|(other, _)| other.as_str() == name)?;
-    Some(text.as_str())
 }

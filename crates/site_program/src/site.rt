@@ -2,7 +2,7 @@
 ghost use Rattle.std.specs.Prelude.{◌≡◌, ◌≤◌, IfOk, IfErr, OnErr, true};
 ghost use Rattle.post_tables.specs.Rows.{no_rows};
 ghost use Rattle.site_commands.specs.Asked.{asked_by};
-ghost use Rattle.site_replies.specs.Reply.{answer_of};
+ghost use Rattle.site_replies.specs.Reply.{reply_data};
 
 use crate::setup::Setup;
 use callback_store::{Plugins, Stated};
@@ -30,7 +30,7 @@ impl<'p, S: Stated> Site<'p, S> {
     ghost use Rattle.site_replies.specs.declared.reply.Refusal.{Refusal};
     ghost use Rattle.site_replies.specs.Reply.{refused};
     ghost use Rattle.site_program.specs.Site.{engine_of, calls_of, setup_of, rows_of};
-    ghost use Rattle.site_program.specs.Step.{Answers, steps_of};
+    ghost use Rattle.site_program.specs.Step.{IsReply, steps_of};
 
     /// An empty site: nothing is stored and no plugin is active. Each page may make up to `calls` calls of its
     /// callbacks, and the pieces of up to `cache` texts are kept for later pages.
@@ -74,9 +74,9 @@ impl<'p, S: Stated> Site<'p, S> {
     /// command leaves the rows as they were. On allocation failure any command may be refused, and by the database any
     /// that would change rows; if the steps of a statement are limited, any that needs one.
     pub fn command(&mut self, line: &[u8]) -> SiteReply
-        ensures answers { Answers (steps_of S.says S.number (setup_of self.old))
-            (rows_of self.old) line.now (answer_of result) (rows_of self.new) }
-        ensures refused { (r : Refusal) → answer_of result ≡ refused r
+        ensures replies { IsReply (steps_of S.says S.number (setup_of self.old))
+            (rows_of self.old) line.now (reply_data result) (rows_of self.new) }
+        ensures refused { (r : Refusal) → reply_data result ≡ refused r
             → rows_of self.new ≡ rows_of self.old }
         ensures limit { (rows_of self.new).step_limit ≡ (rows_of self.old).step_limit }
         ensures setup { setup_of self.new ≡ setup_of self.old }
@@ -91,7 +91,7 @@ impl<'p, S: Stated> Setup<'p, S> {
     ghost use Rattle.site_replies.specs.Reply.{refused};
     ghost use Rattle.site_program.specs.Site.{engine_of, calls_of};
     ghost use Rattle.site_edits.specs.Late.{may_be_late};
-    ghost use Rattle.site_program.specs.Step.{Answers, steps_of, carried_out};
+    ghost use Rattle.site_program.specs.Step.{IsReply, steps_of, carried_out};
 
     /// Carries out one line over the tables.
     pub(crate) fn command(
@@ -100,9 +100,9 @@ impl<'p, S: Stated> Setup<'p, S> {
         line: &[u8],
         cache: &mut PieceCache,
     ) -> SiteReply
-        ensures answers { Answers (steps_of S.says S.number self.now)
-            tables.old line.now (answer_of result) tables.new }
-        ensures refused { (r : Refusal) → answer_of result ≡ refused r → tables.new ≡ tables.old }
+        ensures replies { IsReply (steps_of S.says S.number self.now)
+            tables.old line.now (reply_data result) tables.new }
+        ensures refused { (r : Refusal) → reply_data result ≡ refused r → tables.new ≡ tables.old }
         ensures limit { tables.new.step_limit ≡ tables.old.step_limit }
     {
         match self.try_command(tables, line, cache) {
@@ -120,7 +120,7 @@ impl<'p, S: Stated> Setup<'p, S> {
         cache: &mut PieceCache,
     ) -> Result<SiteReply, StoreFault>
         ensures ok { IfOk result (λ reply.
-            (tables.new, answer_of reply) ≡ steps_of S.says S.number self.now tables.old line.now) }
+            (tables.new, reply_data reply) ≡ steps_of S.says S.number self.now tables.old line.now) }
         ensures err { OnErr result (tables.new ≡ tables.old) }
         ensures late { IfErr result (λ fault. fault ≡ StoreFault.Store
             → may_be_late tables.old.step_limit
@@ -142,7 +142,7 @@ impl<'p, S: Stated> Setup<'p, S> {
         command: Command<'_>,
         cache: &mut PieceCache,
     ) -> Result<SiteReply, StoreFault>
-        ensures ok { IfOk result (λ reply. (tables.new, answer_of reply) ≡ carried_out
+        ensures ok { IfOk result (λ reply. (tables.new, reply_data reply) ≡ carried_out
             (engine_of S.says S.number self.now) (calls_of self.now) tables.old
             (Some (asked_by command.entry))) }
         ensures err { OnErr result (tables.new ≡ tables.old) }

@@ -1,19 +1,7 @@
 -- Which texts are dates of posts.
-use Rattle.std.specs.Prelude.{ℕ, pos, ◌+◌, ◌-◌, ◌*◌, ◌==◌, nat_le, nat_lt, ◌&&◌, Bool, false, if◌then◌else◌, List, [], ◌∷◌, length, slice_index, slice_range, Option, Some, None}
+use Rattle.std.specs.Prelude.{ℕ, pos, ◌==◌, nat_le, nat_lt, ◌&&◌, Bool, false, List, length, slice_index, slice_range, Option, Some}
 use Rattle.jiff.specs.Words.{days_in_month}
-
--- an ASCII digit
-abbrev pub is_digit : ℕ → Bool
-is_digit b = nat_le 48 b && nat_le b 57
-
--- the number that the digits spell, after those of n
-abbrev pub number_from : ℕ → List ℕ → Option ℕ
-number_from n [] = Some n
-number_from n (b ∷ bs) = if is_digit b then number_from (10 * n + (b - 48)) bs else None
-
--- the number that digits alone spell in decimal
-abbrev pub number : List ℕ → Option ℕ
-number = number_from 0
+use Rattle.site_records.specs.Digits.{number}
 
 -- a day of the Gregorian calendar, from year 1 on
 abbrev pub is_day : (year month day : ℕ) → Bool

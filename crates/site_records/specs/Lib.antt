@@ -1,1 +1,4 @@
+pub mod Ids
+pub mod Texts
+pub mod Digits
 pub mod Dates

@@ -1,31 +1,17 @@
 //! Dates of posts.
 
-ghost use Rattle.std.specs.Prelude.{◌≡◌, ◌<◌, ◌≤◌, ◌^◌, true, is_some, length, slice_range, IfSome, IsTrue, Ok};
-ghost use Rattle.site_records.specs.Dates.{number, is_day, is_clock, has_marks, is_moment, is_post_date};
+ghost use Rattle.std.specs.Prelude.{◌≡◌, ◌<◌, ◌^◌, true, is_some, length, slice_range, IfSome, IsTrue, Ok};
+ghost use Rattle.site_records.specs.Digits.{number};
+ghost use Rattle.site_records.specs.Dates.{is_day, is_clock, has_marks, is_moment, is_post_date};
 
+use crate::digits::number;
 use jiff::civil::Date;
 use std::alloc::AllocError;
 use std::marker::Model;
 use std::str;
 
-/// The number that some digits spell, and nothing if another byte stands among them.
-fn number(digits: &[u8]) -> Option<u16>
-    requires { length digits.now ≤ 4 }
-    ensures value { result ≡ number digits.now }
-    ensures within { IfSome result (λ n. n < 10 ^ length digits.now) }
-{
-    let mut n = 0u16;
-    for b in digits {
-        if *b < b'0' || *b > b'9' {
-            return None;
-        }
-        n = 10 * n + (*b - b'0') as u16;
-    }
-    Some(n)
-}
-
 /// Whether the calendar has this day, counted from year 1 on.
-fn is_real(year: u16, month: u16, day: u16) -> bool
+fn is_real(year: u64, month: u64, day: u64) -> bool
     requires year { year < 10 ^ 4 }
     requires month { month < 10 ^ 2 }
     requires day { day < 10 ^ 2 }
@@ -35,7 +21,7 @@ fn is_real(year: u16, month: u16, day: u16) -> bool
 }
 
 /// Whether a clock shows this time. Leap seconds are no times here.
-fn is_clock(hour: u16, minute: u16, second: u16) -> bool
+fn is_clock(hour: u64, minute: u64, second: u64) -> bool
     ensures { result ≡ is_clock hour minute second }
 {
     hour < 24 && minute < 60 && second < 60

@@ -2,6 +2,9 @@
 use crate::date::PostDate;
 use hook_changes::{Listed, Text};
 
+/// The largest ID that a post can have: clients with signed 32-bit numbers can name no larger one.
+pub const MAX_ID: u32 = 2_147_483_647;
+
 /// The kind of an entry (Theme Handbook, Post Types): posts are listed by date, a page stands on its own.
 #[derive(Clone, Copy, PartialEq, Eq)]
 pub enum PostKind {
@@ -21,7 +24,7 @@ pub enum PostStatus {
 /// A stored post or page.
 #[derive(Drop)]
 pub struct Post {
-    /// From 1 to 2,147,483,647, and never given twice.
+    /// From 1 to [`MAX_ID`], and never given twice.
     pub id: u32,
     pub kind: PostKind,
     pub status: PostStatus,

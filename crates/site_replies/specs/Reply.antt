@@ -6,18 +6,18 @@ use Rattle.site_replies.specs.declared.reply.SiteReply.{SiteReply}
 use Rattle.site_replies.specs.declared.reply.SiteReply.TheVariants as reply
 
 -- a reply, with its page as bytes
-pub data Answer : Type 0 where
-  done : Answer
-  done_id : ℕ → Answer
-  refused : Refusal → Answer
-  page : ℕ → List ℕ → Answer
+pub data ReplyData : Type 0 where
+  done : ReplyData
+  done_id : ℕ → ReplyData
+  refused : Refusal → ReplyData
+  page : ℕ → List ℕ → ReplyData
 
 -- what a reply says, wherever its page lies in memory
-abbrev pub answer_of : SiteReply → Answer
-answer_of reply.Ok = done
-answer_of (reply.OkId id) = done_id id
-answer_of (reply.Refused refusal) = refused refusal
-answer_of (reply.Page status body) = page status body.items
+abbrev pub reply_data : SiteReply → ReplyData
+reply_data reply.Ok = done
+reply_data (reply.OkId id) = done_id id
+reply_data (reply.Refused refusal) = refused refusal
+reply_data (reply.Page status body) = page status body.items
 
 abbrev pub number_of : Refusal → ℕ
 number_of BadCommand = 1
@@ -57,7 +57,7 @@ abbrev pub newline : List ℕ
 newline = 10 ∷ []
 
 -- the bytes that are written for a reply: one line, and for a page its bytes and a newline after it
-unfoldable pub bytes_of : Answer → List ℕ
+unfoldable pub bytes_of : ReplyData → List ℕ
 bytes_of done = codes "ok" ++ newline
 bytes_of (done_id id) = codes "ok " ++ (decimal id ++ newline)
 bytes_of (refused refusal) = codes "refused " ++ (decimal (number_of refusal) ++ (codes " " ++ (name_of refusal ++ newline)))

@@ -108,7 +108,7 @@ pub enum SiteReply {
 
 impl SiteReply {
     ghost use Rattle.std.specs.Prelude.{IfErr};
-    ghost use Rattle.site_replies.specs.Reply.{answer_of};
+    ghost use Rattle.site_replies.specs.Reply.{reply_data};
 
     /// Writes the reply's bytes: `ok`, `ok N` or `refused N Name` and a newline, or `page STATUS LENGTH`, a newline,
     /// the page and a newline. It does not allocate, and writes a short reply in one piece, a long page in three. At an
@@ -116,9 +116,9 @@ impl SiteReply {
     pub fn write_to<W: Sink>(&self, writer: &mut W) -> Result<(), ServeFault>
         requires { W.has_failed writer.old ≡ false }
         ensures ok { OnOk result
-            (Appends (W.contents writer.old) (W.contents writer.new) (bytes_of (answer_of self.now))) }
+            (Appends (W.contents writer.old) (W.contents writer.new) (bytes_of (reply_data self.now))) }
         ensures part { OnErr result
-            (AppendsFront (W.contents writer.old) (W.contents writer.new) (bytes_of (answer_of self.now))) }
+            (AppendsFront (W.contents writer.old) (W.contents writer.new) (bytes_of (reply_data self.now))) }
         ensures fault { IfErr result (λ e. e ≡ ServeFault.Write) }
         ensures failed { W.has_failed writer.new ≡ is_err result }
     {
@@ -132,9 +132,9 @@ impl SiteReply {
     fn write_parts<W: Sink>(&self, writer: &mut W) -> Result<(), EndFault>
         requires { W.has_failed writer.old ≡ false }
         ensures ok { OnOk result
-            (Appends (W.contents writer.old) (W.contents writer.new) (bytes_of (answer_of self.now))) }
+            (Appends (W.contents writer.old) (W.contents writer.new) (bytes_of (reply_data self.now))) }
         ensures part { OnErr result
-            (AppendsFront (W.contents writer.old) (W.contents writer.new) (bytes_of (answer_of self.now))) }
+            (AppendsFront (W.contents writer.old) (W.contents writer.new) (bytes_of (reply_data self.now))) }
         ensures failed { W.has_failed writer.new ≡ is_err result }
     {
         match self {

@@ -3,6 +3,7 @@ use Rattle.std.specs.Prelude.{ℕ, List, Option, None, Some, codes, length, nat_
 use Rattle.std.specs.Str.{bytes_eq}
 use Rattle.serde_json.specs.Data.{Data}
 use Rattle.serde_json.specs.Find as find
+use Rattle.site_records.specs.Ids.{max_id}
 use Rattle.site_records.specs.declared.post.PostKind.{PostKind}
 use Rattle.site_records.specs.declared.post.PostKind.TheVariants.{Post, Page}
 use Rattle.site_records.specs.declared.post.PostStatus.{PostStatus}
@@ -25,9 +26,9 @@ status_of tree = option_and_then status_named (find.as_str tree)
 abbrev pub status_given : Data → Option (Option PostStatus)
 status_given tree = if_there status_of (find.get (codes "status") tree)
 
--- the ID at a key: a whole number from 1 to 2,147,483,647
+-- the ID at a key: a whole number from 1 to the largest ID
 abbrev pub id_at : List ℕ → Data → Option ℕ
-id_at key tree = whole_at key 1 2147483647 tree
+id_at key tree = whole_at key 1 max_id tree
 
 -- the name of an option: 1 to 64 bytes
 abbrev pub option_named : List ℕ → Option (List ℕ)

@@ -11,10 +11,7 @@ ghost use Rattle.site_values.specs.Named.{
 };
 
 use serde_json::Value;
-use site_records::{PostKind, PostStatus};
-
-/// The largest ID that a post can have.
-const MAX_ID: u64 = 2_147_483_647;
+use site_records::{MAX_ID, PostKind, PostStatus};
 
 /// The text at a key, if there is one.
 pub fn text_at<'v>(value: &'v Value, key: &str) -> Option<&'v str>
@@ -76,12 +73,12 @@ pub fn status_given(value: &Value) -> Option<Option<PostStatus>>
     }
 }
 
-/// The ID at a key: a whole number from 1 to 2,147,483,647, without fraction and exponent.
+/// The ID at a key: a whole number from 1 to [`MAX_ID`], without fraction and exponent.
 pub fn id_at(value: &Value, key: &str) -> Option<u32>
     ensures { result ≡ id_at key.now (view value.now) }
 {
     let id = value.get(key)?.as_u64()?;
-    if (1..=MAX_ID).contains(&id) {
+    if (1..=u64::from(MAX_ID)).contains(&id) {
         Some(id as u32)
     } else {
         None

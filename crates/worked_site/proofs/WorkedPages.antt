@@ -21,7 +21,7 @@ use Rattle.serde_json.proofs.OnLiterals.{serde_json_on_literals}
 use Rattle.site_commands.specs.Tree.{tree_of}
 use Rattle.site_commands.specs.Asked.{command_of, get_of}
 use Rattle.site_program.specs.Step.{step, got}
-use Rattle.site_replies.specs.Reply.{Answer, refused, page, bytes_of}
+use Rattle.site_replies.specs.Reply.{ReplyData, refused, page, bytes_of}
 use Rattle.worked_site.specs.Worked.{bundled, IsMarked, one_post}
 
 -- what computes in the pages below
@@ -31,8 +31,8 @@ unfolding loaded deeper group_pass priorities_pass pass filter_pass action_pass 
     shown_pass says template.action_pass post_tag_pass tag_pass item_pass template.page_pass page_pass bytes_of digits
 computes = 0
 
--- the posts that the front of the worked site shows, and the answer that they give
-abbrev front : ℕ → Answer
+-- the posts that the front of the worked site shows, and the reply that they give
+abbrev front : ℕ → ReplyData
 front calls = page_of bundled calls (showing Front one_post) [] [] (codes "marks" ∷ [])
 
 front_found : (rows : Rows) → IsMarked rows → found_by rows (codes "/") ≡ showing Front one_post
@@ -57,7 +57,7 @@ page_bytes = refl
 pub first_page_bytes : (rows : Rows) → IsMarked rows → bytes_of (request bundled 10000 rows (codes "/")) ≡ codes "page 200 13\n<h2>TX1Y</h2>\n"
 first_page_bytes rows marked = ap bytes_of (first_page rows marked) ∙ page_bytes
 
-abbrev nothing_found : Answer
+abbrev nothing_found : ReplyData
 nothing_found = page_of bundled 10000 nothing [] [] (codes "marks" ∷ [])
 
 nothing_is : (rows : Rows) → IsMarked rows → request bundled 10000 rows (codes "/x") ≡ nothing_found
@@ -91,4 +91,4 @@ unfolding computes step tree_of command_of get_of got serde_json_on_literals is_
 line_is rows = refl
 
 pub first_line : (rows : Rows) → IsMarked rows → step bundled 10000 rows (codes "{\"cmd\":\"get\",\"path\":\"/\"}") ≡ (rows, page 200 (codes "<h2>TX1Y</h2>"))
-first_line rows marked = line_is rows ∙ ap (λ (a : Answer). (rows, a)) (first_page rows marked)
+first_line rows marked = line_is rows ∙ ap (λ (reply : ReplyData). (rows, reply)) (first_page rows marked)

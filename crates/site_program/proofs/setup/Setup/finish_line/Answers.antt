@@ -13,14 +13,14 @@ returns-then-is_empty-clause-ok g c =
     let counted = eqb-true _ _ (sym c.is_empty.ensures ∙ c.if-is_empty.true) in
     let same = c.args.held.now.ok.0 in
     let none : c.args.held.now.items ≡ [] = nil_from_length _ (omega (arith, same, counted)) in
-    rw none c.answer.ensures.ok
+    rw none c.reply_to.ensures.ok
 
 pub returns-then-is_empty-clause-empty : goal.returns-then-is_empty-clause-empty
 returns-then-is_empty-clause-empty g c =
     let counted = eqb-true _ _ (sym c.is_empty.ensures ∙ c.if-is_empty.true) in
     let same = c.args.held.now.ok.0 in
     let none : c.args.held.now.items ≡ [] = nil_from_length _ (omega (arith, same, counted)) in
-    on_every_ok c.answer.result none
+    on_every_ok c.reply_to.result none
 
 pub returns-then-is_empty-clause-write : goal.returns-then-is_empty-clause-write
 returns-then-is_empty-clause-write g c =
@@ -28,14 +28,14 @@ returns-then-is_empty-clause-write g c =
     let same = c.args.held.now.ok.0 in
     let none : c.args.held.now.items ≡ [] = nil_from_length _ (omega (arith, same, counted)) in
     λ is. let fails = subst (λ r. OnErr r (FailsAt (steps_of g.S.Stated.says g.S.Stated.number c.args.self.now) c.args.tables.now c.args.part.now
-    (g.W.Sink.contents c.args.writer.now) (g.W.Sink.contents c.answer.new.writer) c.answer.new.tables)) is c.answer.ensures.err in
+    (g.W.Sink.contents c.args.writer.now) (g.W.Sink.contents c.reply_to.new.writer) c.reply_to.new.tables)) is c.reply_to.ensures.err in
     rw none fails
 
 pub returns-then-is_empty-clause-memory : goal.returns-then-is_empty-clause-memory
-returns-then-is_empty-clause-memory g c = λ is. write_is_no_memory c.answer.result c.answer.ensures.fault is
+returns-then-is_empty-clause-memory g c = λ is. write_is_no_memory c.reply_to.result c.reply_to.ensures.fault is
 
 pub returns-then-is_empty-clause-only : goal.returns-then-is_empty-clause-only
-returns-then-is_empty-clause-only g c = write_alone c.answer.result c.answer.ensures.fault
+returns-then-is_empty-clause-only g c = write_alone c.reply_to.result c.reply_to.ensures.fault
 
 pub returns-then-is_empty-clause-failed : goal.returns-then-is_empty-clause-failed
-returns-then-is_empty-clause-failed g c = failed_by_write c.answer.result _ c.answer.ensures.failed c.answer.ensures.fault
+returns-then-is_empty-clause-failed g c = failed_by_write c.reply_to.result _ c.reply_to.ensures.failed c.reply_to.ensures.fault

@@ -1,6 +1,6 @@
 use Rattle.std.proofs.Common.{rules, ◌≡◌}
 use Rattle.std.proofs.lemmas.Result.{IfOk-weaker}
-use Rattle.site_replies.specs.Reply.{answer_of}
+use Rattle.site_replies.specs.Reply.{reply_data}
 use Rattle.site_program.specs.Requests.{page_of, request, options_of, templates_of, active_of, found_by}
 use Rattle.site_program.specs.Site.{engine_of, calls_of}
 use Rattle.site_program.proofs.Pages.{request-is}
@@ -15,9 +15,9 @@ returns-clause-ok g c =
     let t : c.as_slice-3.result.now ≡ templates_of rows = search rules in
     let a : c.as_slice-4.result.now ≡ active_of rows = search rules in
     let f : c.in_ok-found.found ≡ found_by rows c.args.path.now = search rules in
-    IfOk-weaker c.answer_to.result (λ reply. answer_of reply ≡ page_of engine calls c.in_ok-found.found c.as_slice-2.result.now c.as_slice-3.result.now
+    IfOk-weaker c.page_reply.result (λ reply. reply_data reply ≡ page_of engine calls c.in_ok-found.found c.as_slice-2.result.now c.as_slice-3.result.now
     c.as_slice-4.result.now)
-    (λ reply. answer_of reply ≡ request engine calls rows c.args.path.now)
-    (λ reply is. request-is engine calls rows c.args.path.now (answer_of reply) c.in_ok-found.found c.as_slice-2.result.now c.as_slice-3.result.now
+    (λ reply. reply_data reply ≡ request engine calls rows c.args.path.now)
+    (λ reply is. request-is engine calls rows c.args.path.now (reply_data reply) c.in_ok-found.found c.as_slice-2.result.now c.as_slice-3.result.now
     c.as_slice-4.result.now f o t a is)
-    c.answer_to.ensures.ok
+    c.page_reply.ensures.ok

@@ -4,7 +4,7 @@ use Rattle.site_program.specs.Step.{steps_of}
 use Rattle.site_program.specs.Stream.{Takes}
 use Rattle.site_program.proofs.setup.Setup.take_chunk.Given as goal
 
--- of the stretch up to what is left the lines are answered, and what follows them is held
+-- of the stretch up to what is left the lines are replied to, and what follows them is held
 abbrev pub invariant-loop-end : goal.invariant-loop-end
 invariant-loop-end g l =
     let contents = g.W.Sink.contents in

@@ -1,14 +1,14 @@
 use Rattle.std.proofs.Common.{rules, arith, ◌≡◌, ◌<◌, ◌∙◌, sym, subst, length}
 use Rattle.site_program.specs.Serving.{FailsAt}
-use Rattle.site_program.specs.Step.{Answers, steps_of}
+use Rattle.site_program.specs.Step.{IsReply, steps_of}
 use Rattle.std.proofs.KnownBytes.{Consumes-trans}
 use Rattle.std.proofs.lemmas.Grind.{common_steps}
 use Rattle.std.proofs.lemmas.Bool.{eqb-true}
 use Rattle.std.proofs.lemmas.Result.{err_from_is_err_and}
 use Rattle.site_program.proofs.Streams.{some_of}
-use Rattle.site_program.proofs.Endings.{falls, faults_but_read, Stops-from_read, Stops-from_faults, Faults-after, Takes-trans, Consumes-none, ServesAll-from, ServesAll-from_last, Stops-from_last, answers_told}
+use Rattle.site_program.proofs.Endings.{falls, faults_but_read, Stops-from_read, Stops-from_faults, Faults-after, Takes-trans, Consumes-none, ServesAll-from, ServesAll-from_last, Stops-from_last, replies_told}
 use Rattle.site_program.proofs.site.Site.serve.Goals as goal
-use Rattle.site_program.proofs.site.Site.serve.Goals.{then-not-is_empty+in_ok-answer, else-not-is_empty}
+use Rattle.site_program.proofs.site.Site.serve.Goals.{then-not-is_empty+in_ok-reply_to, else-not-is_empty}
 
 pub chunks-preserved : goal.chunks-preserved
 chunks-preserved g c =
@@ -48,18 +48,18 @@ returns-in_err-take_chunk-clause-stopped g c =
     let read = Consumes-trans _ _ _ _ _ i.read c.in-Ok.ensures.bytes.0 in
     rw (p.1, p.2) (Stops-from_faults _ _ _ _ _ _ _ _ _ read (Faults-after _ _ _ _ _ _ _ _ _ _ _ _ _ i.taken err))
 
-pub returns-in_err-answer-clause-stopped : goal.returns-in_err-answer-clause-stopped
-returns-in_err-answer-clause-stopped g c =
+pub returns-in_err-reply_to-clause-stopped : goal.returns-in_err-reply_to-clause-stopped
+returns-in_err-reply_to-clause-stopped g c =
     let i = c.chunks.invariant in
-    let p = err_from_is_err_and c.from_residual-in_err-answer.result c.from_residual-in_err-answer.ensures.1 in
+    let p = err_from_is_err_and c.from_residual-in_err-reply_to.result c.from_residual-in_err-reply_to.ensures.1 in
     let read = Consumes-none _ _ _ _ _ _ i.read c.in-Ok.ensures.bytes.0 c.if-count-eq0.true in
     let end = c.in-Ok.ensures.bytes.1 c.if-count-eq0.true (omega arith) in
     let same = c.chunks.held.ok.0 in
     let counted = some_of _ (sym c.is_empty.ensures ∙ c.if-not-is_empty.true) in
     let some : 0 < length c.chunks.held.items = omega (arith, same, counted) in
     let fails = subst (λ line. FailsAt (steps_of g.S.Stated.says g.S.Stated.number c.args.self.now.setup) c.chunks.tables line
-    (g.W.Sink.contents c.chunks.writer) (g.W.Sink.contents c.answer.new.writer) c.answer.new.tables) c.deref.ensures.value c.in_err-answer.ensures.err in
-    rw (p.1, p.2, c.in_err-answer.ensures.fault) (Stops-from_last _ _ _ _ _ _ _ _ _ _ _ _ read end i.taken i.line some (i.room some) fails)
+    (g.W.Sink.contents c.chunks.writer) (g.W.Sink.contents c.reply_to.new.writer) c.reply_to.new.tables) c.deref.ensures.value c.in_err-reply_to.ensures.err in
+    rw (p.1, p.2, c.in_err-reply_to.ensures.fault) (Stops-from_last _ _ _ _ _ _ _ _ _ _ _ _ read end i.taken i.line some (i.room some) fails)
 
 pub returns-clause-ok : goal.returns-clause-ok
 returns-clause-ok g c =
@@ -68,18 +68,18 @@ returns-clause-ok g c =
     let end = c.in-Ok.ensures.bytes.1 c.if-count-eq0.true (omega arith) in
     let same = c.chunks.held.ok.0 in
     elim c.if-not-is_empty.branch [
-      | then-not-is_empty+in_ok-answer w ↦
+      | then-not-is_empty+in_ok-reply_to w ↦
           let counted = some_of _ (sym c.is_empty.ensures ∙ w.if-not-is_empty.true) in
           let some : 0 < length c.chunks.held.items = omega (arith, same, counted) in
-          let ok = w.in_ok-answer.ensures.ok in
-          let answered = subst (λ line. Answers (steps_of g.S.Stated.says g.S.Stated.number c.args.self.now.setup) c.chunks.tables line ok.0
-          w.answer.new.tables) w.deref.ensures.value ok.1 in
-          rw (w.writer-is, w.self-is) (ServesAll-from_last _ _ _ _ _ _ _ ok.0 _ _ _ _ _ read end i.taken i.line some (i.room some) answered ok.2)
+          let ok = w.in_ok-reply_to.ensures.ok in
+          let replied = subst (λ line. IsReply (steps_of g.S.Stated.says g.S.Stated.number c.args.self.now.setup) c.chunks.tables line ok.0
+          w.reply_to.new.tables) w.deref.ensures.value ok.1 in
+          rw (w.writer-is, w.self-is) (ServesAll-from_last _ _ _ _ _ _ _ ok.0 _ _ _ _ _ read end i.taken i.line some (i.room some) replied ok.2)
       | else-not-is_empty w ↦
           let counted = eqb-true _ _ (sym c.is_empty.ensures ∙ w.if-not-is_empty.false) in
           let none : length c.chunks.held.items ≡ 0 = omega (arith, same, counted) in
           rw (w.writer-is, w.self-is) (ServesAll-from _ _ _ _ _ _ _ _ _ _ read end i.taken none)
     ]
 
-pub returns-clause-answered : goal.returns-clause-answered
-returns-clause-answered g c = answers_told _ _ _ _ _ _ _ (returns-clause-ok g c)
+pub returns-clause-replied : goal.returns-clause-replied
+returns-clause-replied g c = replies_told _ _ _ _ _ _ _ (returns-clause-ok g c)

@@ -5,7 +5,7 @@ use Rattle.site_program.specs.Step.{steps_of}
 use Rattle.site_program.specs.Stream.{Takes}
 use Rattle.site_program.proofs.site.Site.serve.Given as goal
 
--- of what was read so far the lines are answered, and what follows them is held
+-- of what was read so far the lines are replied to, and what follows them is held
 abbrev pub invariant-chunks : goal.invariant-chunks
 invariant-chunks g l =
     let contents = g.W.Sink.contents in

@@ -1,6 +1,6 @@
 use Rattle.std.proofs.Common.{◌≡◌, ◌<◌, ◌^◌, drop}
-use Rattle.site_records.specs.Dates.{number, number_from}
-use Rattle.permalink_query.proofs.number.number.Given as goal
+use Rattle.site_records.specs.Digits.{number, number_from}
+use Rattle.site_records.proofs.digits.number.Given as goal
 
 abbrev pub invariant-loop-b : goal.invariant-loop-b
 invariant-loop-b l = record {

@@ -1,0 +1,13 @@
+//! Texts under names.
+ghost use Rattle.std.specs.Prelude.{◌≡◌, option_map};
+ghost use Rattle.site_records.specs.Texts.{text_named};
+
+use hook_changes::Text;
+
+/// The first text of that name, as of an option or a template (get_option).
+pub fn text_named<'t>(texts: &'t [(Text, Text)], name: &str) -> Option<&'t str>
+    ensures { option_map (λ text. text.now) result ≡ text_named name.now texts.now }
+{
+    let (_, text) = texts.iter().find(|(other, _)| other.as_str() == name)?;
+    Some(text.as_str())
+}
