@@ -17,15 +17,15 @@ use template_trees::default_index;
 /// The active plugin, or two with a space between them, the title and content of the one post if there is one, how many
 /// calls a page has, how many turns stop after a callback, and what the next turn gives: a page, or a fault that each
 /// later turn gives too.
-struct Case(
+pub struct Case(
     &'static str,
     Option<(&'static str, &'static str)>,
     u32,
-    u32,
-    Answer,
+    pub u32,
+    pub Answer,
 );
 
-static CASES: [Case; 16] = [
+pub static CASES: [Case; 16] = [
     // Nothing is invoked.
     Case("", None, 10_000, 0, Ok("<p>Nothing found.</p>")),
     // Two callbacks of the title, and core's of the content.
@@ -94,7 +94,7 @@ static CASES: [Case; 16] = [
 const TOO_MANY: Answer = Err(RunFault::TooManyCalls);
 
 /// The bundle's plugins, and some that are made for tests.
-fn all_plugins(alloc: Global) -> Result<Plugins<Tested>, PluginFault> {
+pub fn all_plugins(alloc: Global) -> Result<Plugins<Tested>, PluginFault> {
     let given = [
         Given("climb", &[104], &[Load::On(Hook::Title, 10, 104, 1)]),
         Given("climb-on", &[107], &[Load::On(Hook::Title, 10, 107, 1)]),
@@ -141,7 +141,7 @@ fn settings(alloc: Global) -> Result<Settings, AllocError> {
     })
 }
 
-fn begun<'p>(
+pub fn begun<'p>(
     alloc: Global,
     plugins: &'p Plugins<Tested>,
     case: &Case,
@@ -156,7 +156,7 @@ fn begun<'p>(
 }
 
 /// Whether a turn gave that page, or that fault.
-fn is_end(turned: Result<PageTurn, RunFault>, wanted: Answer) -> bool {
+pub fn is_end(turned: Result<PageTurn, RunFault>, wanted: Answer) -> bool {
     match turned {
         Ok(PageTurn::Done(status, bytes)) => is_page(status, bytes.as_slice(), wanted),
         Ok(PageTurn::More) => false,
