@@ -105,6 +105,16 @@ module _ (engine : Engine) where
       (λ later x. handed engine later (frame.Pass (record p { value = kept; position = q })) x) (λ later x. kept_alike later p q kept x (l x)))
       f r s gs m
 
+  -- the same, by the pass and the invocation as they are then
+  pub pass_invokes : (w : World) (p moved : HookPass) (e : Entry) (kept : Text) (i : Invoked) (fs fs' : List Frame)
+      → Some e ≡ (next_entry w.table p.position).0 → moved ≡ record p { position = (next_entry w.table p.position).1 } → i.callback ≡ e.callback
+      → i.call ≡ hook_call moved.position.hook (take e.accepted (arguments moved.kind moved.value moved.args))
+      → ((x : Text) → value_after moved.kind kept x ≡ value_after moved.kind moved.value x) → fs' ≡ frame.Pass (record moved { value = kept }) ∷ fs
+      → (r : Result Move RunFault) (s : World) (gs : List Frame) → Moves engine (then_rest engine (invoke engine w i.callback i.call) fs') r s gs
+      → Moves engine (then_rest engine (pass_left engine w p) fs) r s gs
+  pass_invokes w p moved e kept i fs fs' h q k c l f r s gs m =
+      pass_moves w p e (next_entry w.table p.position).1 kept i.call fs fs' h refl (rw q at c) (rw q at l) (rw q at f) r s gs (rw k at m)
+
   pub leave_moves : (w left : World) (p : HookPass) (fs : List Frame) → None ≡ (next_entry w.table p.position).0 → left ≡ left_hook w
       → Moves engine (then_rest engine (pass_left engine w p) fs) (Ok (Handed p.value)) left fs
   leave_moves w left p fs h e = handed_moves (pass_left engine w p) left p.value fs (pass_ends engine w p h ∙ ap (λ (v : World). Done v p.value) (sym e))
@@ -317,6 +327,17 @@ module _ (engine : Engine) where
       (λ later x. and_then (answer_shown (invoke engine) z later h.matched x)
       (λ last shown. pieces_pass (invoke engine) z last (so_far ++ shown) cut.pieces))) (sym t))
       f r s gs m
+
+  -- the same, by the pass and the invocation as they are then
+  pub text_invokes : (w : World) (p now : PassOverText) (found : Option Handling) (h : Handling) (i : Invoked) (fs fs' : List Frame)
+      → ((inv : Invocation) → pieces_pass inv p.cut.text w p.so_far p.cut.pieces ≡ handling_pass inv p.cut.text w found now.so_far now.cut.pieces)
+      → found ≡ Some h → now.cut.text ≡ p.cut.text → now.hand ≡ Some h.matched → fs' ≡ frame.Shortcodes now ∷ fs → i.callback ≡ h.handler
+      → i.call ≡ h.call
+      → (r : Result Move RunFault) (s : World) (gs : List Frame) → Moves engine (then_rest engine (invoke engine w i.callback i.call) fs') r s gs
+      → Moves engine (then_rest engine (text_left engine w p) fs) r s gs
+  text_invokes w p now found h i fs fs' e q t m f k l r s gs g =
+      text_moves w p found h now.cut now.so_far fs fs' e q t
+      (f ∙ ap (λ (o : Option Matched). frame.Shortcodes (record { cut = now.cut; so_far = now.so_far; hand = o }) ∷ fs) m) r s gs (rw (k, l) at g)
 
   pub text_begin : (w : World) (text shown so_far : Text) (ps : List Piece) (cut : CutText) (fs : List Frame) → shown ≡ text
       → ps ≡ pieces_of (live (map (λ p. p.0) w.tags) shown) shown → cut ≡ record { text = text; pieces = ps } → so_far ≡ []

@@ -11,52 +11,47 @@ ghost use Rattle.hook_machine.specs.Moves.{Does, Shrinks, Invokes};
 
 use crate::fault::RunFault;
 use crate::frame::{Frame, Invoked, Move, Pending, Stack};
-use crate::machine::{add_answer, take_first_argument};
 use crate::replacing::begin_text;
 use crate::state::State;
 use crate::turning::{begin_action, begin_filter, invoke_turn};
 use callback_store::{Plugins, Stated};
 use content_cache::PieceCache;
-use hook_changes::{Answer, Ask, Call, CallbackId, Listed, Text, Then};
+use hook_changes::{Answer, Ask, Listed, Text, Then};
 
 /// Invokes a callback again, with one more answer.
 fn invoke_again<S: Stated>(
     plugins: &Plugins<S>,
     state: &mut State,
     stack: &mut Stack,
-    callback: CallbackId,
-    call: Call,
+    invoked: Invoked,
     answer: Answer,
 ) -> Result<Move, RunFault>
     ensures moves { Does (engine_over S.says S.number plugins.now)
-        (λ engine. invoke engine state.old callback (with_answer call answer)) stack.old result state.new stack.new }
+        (λ engine. invoke engine state.old invoked.callback (with_answer invoked.call answer))
+        stack.old result state.new stack.new }
     ensures invokes { Invokes result }
 {
-    let mut call = call;
-    add_answer(&mut call, answer)?;
-    invoke_turn(plugins, state, stack, callback, call)
+    let mut invoked = invoked;
+    invoked.add_answer(answer)?;
+    invoke_turn(plugins, state, stack, invoked)
 }
 
 /// Goes one level deeper, and puts the invocation that waits for what is done there on the stack.
 fn wait(
     state: &mut State,
     stack: &mut Stack,
-    callback: CallbackId,
-    call: Call,
+    invoked: Invoked,
     pending: Pending,
 ) -> Result<(), RunFault>
     ensures within { OnOk result (state.old.depth < 32) }
     ensures deeper { OnOk result (state.new ≡ record state.old { depth = state.old.depth + 1 }) }
-    ensures waits { OnOk result (stack.new ≡ Frame.Invocation
-        (record { callback = callback; call = call; pending = pending }) ∷ stack.old) }
+    ensures waits { OnOk result (stack.new ≡ Frame.Invocation (record invoked { pending = pending }) ∷ stack.old) }
     ensures err { IfErr result (λ fault. (fault ≡ OutOfMemory) ⊎ ((fault ≡ TooDeep) × (32 ≤ state.old.depth))) }
 {
+    let mut invoked = invoked;
     state.deepen()?;
-    stack.put_first(Frame::Invocation(Invoked {
-        callback,
-        call,
-        pending,
-    }))?;
+    invoked.set_pending(pending);
+    stack.put_first(Frame::Invocation(invoked))?;
     Ok(())
 }
 
@@ -65,18 +60,17 @@ fn ask_apply<S: Stated>(
     plugins: &Plugins<S>,
     state: &mut State,
     stack: &mut Stack,
-    callback: CallbackId,
-    call: Call,
+    invoked: Invoked,
     hook: Text,
     value: Text,
     args: Listed<Text>,
 ) -> Result<Move, RunFault>
     ensures moves { Does (engine_over S.says S.number plugins.now)
-        (λ engine. pending_left engine state.old callback call (Next (next.Ask (Apply hook value args))))
+        (λ engine. pending_left engine state.old invoked.callback invoked.call (Next (next.Ask (Apply hook value args))))
         stack.old result state.new stack.new }
     ensures grows { Shrinks 1 result stack.old stack.new }
 {
-    wait(state, stack, callback, call, Pending::ForText)?;
+    wait(state, stack, invoked, Pending::ForText)?;
     begin_filter(plugins, state, stack, hook.as_str(), value, args)
 }
 
@@ -85,17 +79,16 @@ fn ask_act<S: Stated>(
     plugins: &Plugins<S>,
     state: &mut State,
     stack: &mut Stack,
-    callback: CallbackId,
-    call: Call,
+    invoked: Invoked,
     hook: Text,
     args: Listed<Text>,
 ) -> Result<Move, RunFault>
     ensures moves { Does (engine_over S.says S.number plugins.now)
-        (λ engine. pending_left engine state.old callback call (Next (next.Ask (Act hook args))))
+        (λ engine. pending_left engine state.old invoked.callback invoked.call (Next (next.Ask (Act hook args))))
         stack.old result state.new stack.new }
     ensures grows { Shrinks 1 result stack.old stack.new }
 {
-    wait(state, stack, callback, call, Pending::ForNothing)?;
+    wait(state, stack, invoked, Pending::ForNothing)?;
     begin_action(plugins, state, stack, hook.as_str(), args)
 }
 
@@ -104,17 +97,16 @@ fn ask_shortcodes<S: Stated>(
     plugins: &Plugins<S>,
     state: &mut State,
     stack: &mut Stack,
-    callback: CallbackId,
-    call: Call,
+    invoked: Invoked,
     text: Text,
     cache: &mut PieceCache,
 ) -> Result<Move, RunFault>
     ensures moves { Does (engine_over S.says S.number plugins.now)
-        (λ engine. pending_left engine state.old callback call (Next (next.Ask (Shortcodes text))))
+        (λ engine. pending_left engine state.old invoked.callback invoked.call (Next (next.Ask (Shortcodes text))))
         stack.old result state.new stack.new }
     ensures grows { Shrinks 1 result stack.old stack.new }
 {
-    wait(state, stack, callback, call, Pending::ForText)?;
+    wait(state, stack, invoked, Pending::ForText)?;
     begin_text(plugins, state, stack, text, cache)
 }
 
@@ -123,17 +115,16 @@ fn core_turn<S: Stated>(
     plugins: &Plugins<S>,
     state: &mut State,
     stack: &mut Stack,
-    callback: CallbackId,
-    call: Call,
+    invoked: Invoked,
     cache: &mut PieceCache,
 ) -> Result<Move, RunFault>
     ensures moves { Does (engine_over S.says S.number plugins.now)
-        (λ engine. pending_left engine state.old callback call Core) stack.old result state.new stack.new }
+        (λ engine. pending_left engine state.old invoked.callback invoked.call Core) stack.old result state.new stack.new }
     ensures grows { Shrinks 1 result stack.old stack.new }
 {
-    let mut call = call;
-    let text = take_first_argument(state.alloc(), &mut call);
-    wait(state, stack, callback, call, Pending::ForCore)?;
+    let mut invoked = invoked;
+    let text = invoked.take_first_argument(state.alloc());
+    wait(state, stack, invoked, Pending::ForCore)?;
     begin_text(plugins, state, stack, text, cache)
 }
 
@@ -142,50 +133,49 @@ fn ask_turn<S: Stated>(
     plugins: &Plugins<S>,
     state: &mut State,
     stack: &mut Stack,
-    callback: CallbackId,
-    call: Call,
+    invoked: Invoked,
     ask: Ask,
     cache: &mut PieceCache,
 ) -> Result<Move, RunFault>
     ensures moves { Does (engine_over S.says S.number plugins.now)
-        (λ engine. pending_left engine state.old callback call (Next (next.Ask ask)))
+        (λ engine. pending_left engine state.old invoked.callback invoked.call (Next (next.Ask ask)))
         stack.old result state.new stack.new }
     ensures grows { Shrinks 1 result stack.old stack.new }
 {
     match ask {
         Ask::Apply { hook, value, args } => {
-            ask_apply(plugins, state, stack, callback, call, hook, value, args)
+            ask_apply(plugins, state, stack, invoked, hook, value, args)
         }
-        Ask::Act { hook, args } => ask_act(plugins, state, stack, callback, call, hook, args),
+        Ask::Act { hook, args } => ask_act(plugins, state, stack, invoked, hook, args),
         Ask::Shortcodes { text } => {
-            ask_shortcodes(plugins, state, stack, callback, call, text, cache)
+            ask_shortcodes(plugins, state, stack, invoked, text, cache)
         }
         Ask::Did { hook } => {
             let answer = state.did(hook.as_str());
-            invoke_again(plugins, state, stack, callback, call, answer)
+            invoke_again(plugins, state, stack, invoked, answer)
         }
         Ask::Current => {
             let answer = state.current()?;
-            invoke_again(plugins, state, stack, callback, call, answer)
+            invoke_again(plugins, state, stack, invoked, answer)
         }
         Ask::Doing { hook } => {
             let answer = Answer::Flag(state.doing(hook.as_str()));
-            invoke_again(plugins, state, stack, callback, call, answer)
+            invoke_again(plugins, state, stack, invoked, answer)
         }
         Ask::Has {
             hook,
             callback: other,
         } => {
             let answer = state.has(hook.as_str(), other);
-            invoke_again(plugins, state, stack, callback, call, answer)
+            invoke_again(plugins, state, stack, invoked, answer)
         }
         Ask::TagExists { tag } => {
             let answer = Answer::Flag(state.tag_exists(tag.as_str()));
-            invoke_again(plugins, state, stack, callback, call, answer)
+            invoke_again(plugins, state, stack, invoked, answer)
         }
         Ask::GetOption { name } => {
             let answer = state.option(name.as_str())?;
-            invoke_again(plugins, state, stack, callback, call, answer)
+            invoke_again(plugins, state, stack, invoked, answer)
         }
     }
 }
@@ -195,21 +185,20 @@ fn follow_turn<S: Stated>(
     plugins: &Plugins<S>,
     state: &mut State,
     stack: &mut Stack,
-    callback: CallbackId,
-    call: Call,
+    invoked: Invoked,
     next: Then,
     cache: &mut PieceCache,
 ) -> Result<Move, RunFault>
     ensures moves { Does (engine_over S.says S.number plugins.now)
-        (λ engine. pending_left engine state.old callback call (Next next)) stack.old result state.new stack.new }
+        (λ engine. pending_left engine state.old invoked.callback invoked.call (Next next)) stack.old result state.new stack.new }
     ensures grows { Shrinks 1 result stack.old stack.new }
 {
     match next {
         Then::Answer(text) => {
-            state.keep_call(call);
+            state.keep_spare(invoked);
             Ok(Move::Handed(text))
         }
-        Then::Ask(ask) => ask_turn(plugins, state, stack, callback, call, ask, cache),
+        Then::Ask(ask) => ask_turn(plugins, state, stack, invoked, ask, cache),
     }
 }
 
@@ -226,14 +215,10 @@ pub fn invocation_turn<S: Stated>(
         stack.old result state.new stack.new }
     ensures grows { Shrinks 1 result stack.old stack.new }
 {
-    let Invoked {
-        callback,
-        call,
-        pending,
-    } = invoked;
-    match pending {
-        Pending::Next(next) => follow_turn(plugins, state, stack, callback, call, next, cache),
-        Pending::Core => core_turn(plugins, state, stack, callback, call, cache),
+    let mut invoked = invoked;
+    match invoked.take_pending() {
+        Pending::Next(next) => follow_turn(plugins, state, stack, invoked, next, cache),
+        Pending::Core => core_turn(plugins, state, stack, invoked, cache),
         _ => Ok(Move::Handed(Text::empty(state.alloc()))),
     }
 }
@@ -251,23 +236,19 @@ pub fn waiting_turn<S: Stated>(
         stack.old result state.new stack.new }
     ensures shrinks { Shrinks 0 result stack.old stack.new }
 {
-    let Invoked {
-        callback,
-        call,
-        pending,
-    } = invoked;
-    match pending {
+    let mut invoked = invoked;
+    match invoked.take_pending() {
         Pending::ForText => {
             state.rise();
-            invoke_again(plugins, state, stack, callback, call, Answer::Text(text))
+            invoke_again(plugins, state, stack, invoked, Answer::Text(text))
         }
         Pending::ForNothing => {
             state.rise();
-            invoke_again(plugins, state, stack, callback, call, Answer::Nothing)
+            invoke_again(plugins, state, stack, invoked, Answer::Nothing)
         }
         Pending::ForCore => {
             state.rise();
-            state.keep_call(call);
+            state.keep_spare(invoked);
             Ok(Move::Handed(text))
         }
         _ => Ok(Move::Handed(text)),

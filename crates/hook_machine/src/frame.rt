@@ -1,18 +1,103 @@
-//! The frames of a stopped run.
-use crate::left::Left;
-use crate::pass::PassKind;
-use crate::replacing::TextPass;
-use call_plans::Position;
-use hook_changes::{Call, CallbackId, Listed, Text, Then};
+//! The frames of a stopped run. What a pass and an invocation have is on the heap, so that moving one moves a pointer.
+ghost use Rattle.std.specs.Prelude.{◌≡◌, ◌++◌, ◌∷◌, [], IfOk, OnOk, take};
+ghost use Rattle.std.specs.Prelude.{List, ℕ};
+ghost use Rattle.call_plans.specs.Position.{next_entry};
+ghost use Rattle.hook_machine.specs.Meaning.{value_after, hook_call, arguments, first_or_empty};
+ghost use Rattle.hook_machine.specs.declared.frame.Pending.TheVariants.{Core, ForNothing};
 
-/// A pass over a hook.
+use crate::left::Left;
+use crate::machine::{add_answer, take_first_argument};
+use crate::pass::{PassKind, fill, kept};
+use crate::replacing::TextPass;
+use crate::state::State;
+use call_plans::Position;
+use hook_changes::{Answer, Call, CallbackId, Listed, Text, Then};
+use hook_registry::Entry;
+use std::alloc::{AllocError, Global};
+use std::marker::Model;
+use std::mem;
+
+/// What a pass over a hook has.
 #[derive(Drop)]
-pub struct HookPass {
+pub struct PassParts {
     pub kind: PassKind,
     pub args: Listed<Text>,
     /// In a filter the value after the callbacks so far.
     pub value: Text,
     pub position: Position,
+}
+
+/// A pass over a hook. Contracts see its parts.
+#[derive(Drop)]
+pub struct HookPass {
+    parts: Box<PassParts>,
+}
+
+impl Model for HookPass {
+    ghost use Rattle.hook_machine.specs.declared.frame.PassParts.{PassParts};
+
+    ghost Value = { PassParts };
+
+    ghost view = { λ p. p.parts.value };
+}
+
+impl HookPass {
+    pub fn new(alloc: Global, parts: PassParts) -> Result<Self, AllocError>
+        ensures { IfOk result (λ pass. pass ≡ parts) }
+    {
+        let parts = Box::new(alloc, parts)?;
+        Ok(HookPass { parts })
+    }
+
+    pub fn kind(&self) -> PassKind
+        ensures { result ≡ self.now.kind }
+    {
+        self.parts.kind
+    }
+
+    pub fn hook(&self) -> &str
+        ensures { result.now ≡ self.now.position.hook }
+    {
+        self.parts.position.hook.as_str()
+    }
+
+    pub fn args(&self) -> &[Text]
+        ensures { result.now ≡ self.now.args }
+    {
+        self.parts.args.as_slice()
+    }
+
+    /// Its next entry, if there is one (class WP_Hook).
+    pub fn next(&mut self, state: &State) -> Result<Option<Entry>, AllocError>
+        ensures entry { IfOk result (λ found. found ≡ (next_entry state.now.table self.old.position).0) }
+        ensures moved { OnOk result (self.new ≡ record self.old {
+          position = (next_entry state.now.table self.old.position).1; }) }
+    {
+        state.next(&mut self.parts.position)
+    }
+
+    /// Takes the value, which leaves empty text. Does not allocate.
+    pub fn take_value(&mut self, alloc: Global) -> Text
+        ensures value { result ≡ self.old.value }
+        ensures rest { self.new ≡ record self.old { value = [] } }
+    {
+        mem::replace(&mut self.parts.value, Text::empty(alloc))
+    }
+
+    pub fn set_value(&mut self, value: Text)
+        ensures { self.new ≡ record self.old { value = value } }
+    {
+        self.parts.value = value;
+    }
+
+    /// Hands it a callback's answer.
+    pub fn hand(&mut self, alloc: Global, answer: Text)
+        ensures { self.new ≡ record self.old { value = value_after self.old.kind self.old.value answer } }
+    {
+        let value = self.take_value(alloc);
+        let value = kept(self.kind(), value, answer);
+        self.set_value(value);
+    }
 }
 
 /// What an invocation is to do next.
@@ -30,12 +115,114 @@ pub enum Pending {
     ForCore,
 }
 
-/// An invocation whose call is taken.
+/// What an invocation has.
 #[derive(Drop)]
-pub struct Invoked {
+pub struct InvocationParts {
     pub callback: CallbackId,
     pub call: Call,
     pub pending: Pending,
+}
+
+/// An invocation. Contracts see its parts.
+#[derive(Drop)]
+pub struct Invoked {
+    parts: Box<InvocationParts>,
+}
+
+impl Model for Invoked {
+    ghost use Rattle.hook_machine.specs.declared.frame.InvocationParts.{InvocationParts};
+
+    ghost Value = { InvocationParts };
+
+    ghost view = { λ i. i.parts.value };
+}
+
+impl Invoked {
+    pub fn new(alloc: Global, callback: CallbackId, call: Call) -> Result<Self, AllocError>
+        ensures { IfOk result (λ invoked. invoked ≡ record { callback = callback; call = call; pending = Core }) }
+    {
+        let parts = Box::new(
+            alloc,
+            InvocationParts {
+                callback,
+                call,
+                pending: Pending::Core,
+            },
+        )?;
+        Ok(Invoked { parts })
+    }
+
+    pub fn callback(&self) -> CallbackId
+        ensures { result ≡ self.now.callback }
+    {
+        self.parts.callback
+    }
+
+    pub fn call(&self) -> &Call
+        ensures { result.now ≡ self.now.call }
+    {
+        &self.parts.call
+    }
+
+    /// Makes it the invocation of another callback, with a call of its own.
+    pub fn set_call(&mut self, callback: CallbackId, call: Call)
+        ensures { self.new ≡ record self.old { callback = callback; call = call } }
+    {
+        self.parts.callback = callback;
+        self.parts.call = call;
+    }
+
+    pub fn set_pending(&mut self, pending: Pending)
+        ensures { self.new ≡ record self.old { pending = pending } }
+    {
+        self.parts.pending = pending;
+    }
+
+    /// Takes what it is to do next.
+    pub fn take_pending(&mut self) -> Pending
+        ensures pending { result ≡ self.old.pending }
+        ensures rest { self.new ≡ record self.old { pending = ForNothing } }
+    {
+        mem::replace(&mut self.parts.pending, Pending::ForNothing)
+    }
+
+    /// Hands its call one more answer.
+    pub fn add_answer(&mut self, answer: Answer) -> Result<(), AllocError>
+        ensures { OnOk result (self.new ≡ record self.old {
+          call = record self.old.call { answers = self.old.call.answers ++ answer ∷ [] } }) }
+    {
+        add_answer(&mut self.parts.call, answer)
+    }
+
+    /// Takes the first argument out of its call, or empty text if there is none.
+    pub fn take_first_argument(&mut self, alloc: Global) -> Text
+        ensures text { result ≡ first_or_empty self.old.call.args }
+        ensures callback { self.new.callback ≡ self.old.callback }
+    {
+        take_first_argument(alloc, &mut self.parts.call)
+    }
+
+    /// Makes it the invocation of a hook's callback, whose call takes over the texts of the call before. A filter keeps
+    /// nothing of its value until the callback has answered, so the value itself goes into the call; an action keeps
+    /// it.
+    pub fn set_hook_call(
+        &mut self,
+        alloc: Global,
+        kind: PassKind,
+        hook: &str,
+        value: Text,
+        args: &[Text],
+        entry: Entry,
+    ) -> Result<Text, AllocError>
+        ensures callback { OnOk result (self.new.callback ≡ entry.callback) }
+        ensures call { OnOk result (self.new.call
+            ≡ hook_call hook.now (take entry.accepted (arguments kind value args.now))) }
+        ensures kept { IfOk result (λ kept. (answer : List ℕ)
+            → value_after kind kept answer ≡ value_after kind value answer) }
+    {
+        self.parts.callback = entry.callback;
+        fill(alloc, &mut self.parts.call, kind, hook, value, args, entry.accepted)
+    }
 }
 
 /// A part of what a stopped run has still to do.

@@ -25,17 +25,24 @@ use hook_changes::{Call, CallbackId, Listed, Text};
 use shortcode_scan::{Piece, Span, text_at};
 use std::alloc::{AllocError, Global};
 use std::marker::Model;
+use std::mem;
 
 /// The filter on what stands in place of a shortcode (Code Reference, do_shortcode_tag).
 const SHORTCODE_FILTER: &str = "do_shortcode_tag";
 
-/// A shortcode pass: the pieces left of its text, and what stands in place of the others.
+/// What a shortcode pass has: the pieces left of its text, and what stands in place of the others.
 #[derive(Drop)]
-pub struct TextPass {
+struct TextParts {
     cut: Cut,
     so_far: Text,
     /// The match whose handler was invoked. Once that has answered there is none, also while its answer is filtered.
     hand: Option<Matched>,
+}
+
+/// A shortcode pass. Its parts are on the heap, as those of each frame.
+#[derive(Drop)]
+pub struct TextPass {
+    parts: Box<TextParts>,
 }
 
 impl Model for TextPass {
@@ -45,9 +52,85 @@ impl Model for TextPass {
 
     ghost Value = { PassOverText };
 
-    ghost view = { λ p. record { cut = p.cut; so_far = p.so_far; hand = p.hand } };
+    ghost view = { λ p. record {
+      cut = p.parts.value.cut;
+      so_far = p.parts.value.so_far;
+      hand = p.parts.value.hand;
+    } };
 
-    ghost invariant = { λ p. IfSome p.hand (λ matched. IsSpanOf p.cut.text matched.name) };
+    ghost invariant = { λ p. IfSome p.parts.value.hand (λ matched. IsSpanOf p.parts.value.cut.text matched.name) };
+}
+
+impl TextPass {
+    ghost use Rattle.std.specs.Prelude.{◌≡◌, ◌++◌, [], None, Some, IsTrue, IsFalse, IfOk, IfSome, OnOk, MatchOption};
+    ghost use Rattle.shortcode_scan.specs.Spans.{IsSpanOf};
+    ghost use Rattle.hook_machine.specs.Meaning.{Invocation, pieces_pass};
+    ghost use Rattle.hook_machine.specs.Handling.{handling_pass};
+    ghost use Rattle.hook_machine.specs.Rest.{in_place};
+
+    /// A pass over a text whose pieces are all left.
+    fn new(alloc: Global, cut: Cut) -> Result<Self, AllocError>
+        ensures { IfOk result (λ pass. pass ≡ record { cut = cut; so_far = []; hand = None }) }
+    {
+        let parts = TextParts {
+            cut,
+            so_far: Text::empty(alloc),
+            hand: None,
+        };
+        let parts = Box::new(alloc, parts)?;
+        Ok(TextPass { parts })
+    }
+
+    fn text(&self) -> &str
+        ensures { result.now ≡ self.now.cut.text }
+    {
+        self.parts.cut.text()
+    }
+
+    fn hand(&self) -> Option<Matched>
+        ensures hand { result ≡ self.now.hand }
+        ensures span { IfSome result (λ matched. IsSpanOf self.now.cut.text matched.name) }
+    {
+        self.parts.hand
+    }
+
+    /// Puts the match that was in hand away, once its handler has answered.
+    fn put_away(&mut self)
+        ensures { self.new ≡ record self.old { hand = None } }
+    {
+        self.parts.hand = None;
+    }
+
+    /// Takes what stands in place of the pieces so far, which leaves empty text. Does not allocate.
+    fn take_text(&mut self, alloc: Global) -> Text
+        ensures { result ≡ self.old.so_far }
+    {
+        mem::replace(&mut self.parts.so_far, Text::empty(alloc))
+    }
+
+    /// Appends what stands in place of the match in hand, or a text as it is if there is none.
+    fn append(&mut self, text: &str) -> Result<(), AllocError>
+        ensures { OnOk result (self.new ≡ record self.old { so_far = self.old.so_far ++ in_place self.old.hand text.now }) }
+    {
+        let hand = self.parts.hand;
+        append(&mut self.parts.so_far, hand, text)
+    }
+
+    /// Takes pieces up to the first one that has a handler, whose match is then in hand, and appends those before it.
+    fn next_handling(&mut self, state: &State) -> Result<Option<Handling>, AllocError>
+        ensures same { self.new.cut.text ≡ self.old.cut.text }
+        ensures found { IfOk result (λ found. (invocation : Invocation) →
+            pieces_pass invocation self.old.cut.text state.now self.old.so_far self.old.cut.pieces ≡ handling_pass invocation
+            self.old.cut.text state.now found self.new.so_far self.new.cut.pieces) }
+        ensures hand { IfOk result (λ found. IfSome found (λ h. self.new.hand ≡ Some h.matched)) }
+    {
+        self.parts.hand = None;
+        let found = next_handling(state, &mut self.parts)?;
+        if let Some(handling) = &found {
+            self.parts.hand = Some(handling.matched);
+        }
+        Ok(found)
+    }
 }
 
 /// A handler that is to be invoked, and its match.
@@ -59,22 +142,19 @@ pub struct Handling {
 }
 
 /// Takes pieces up to the first one that has a handler, and appends those before it. If no piece has one, none is left.
-fn next_handling(
-    state: &State,
-    cut: &mut Cut,
-    so_far: &mut Text,
-) -> Result<Option<Handling>, AllocError>
-    ensures same { cut.new.text ≡ cut.old.text }
+fn next_handling(state: &State, parts: &mut TextParts) -> Result<Option<Handling>, AllocError>
+    ensures same { parts.new.cut.text ≡ parts.old.cut.text }
+    ensures hand { parts.new.hand ≡ parts.old.hand }
     ensures found { IfOk result (λ found. (invocation : Invocation) →
-        pieces_pass invocation cut.old.text state.now so_far.old cut.old.pieces ≡ handling_pass invocation
-        cut.old.text state.now found so_far.new cut.new.pieces) }
-    ensures span { IfOk result (λ found. IfSome found (λ h. IsSpanOf cut.old.text h.matched.name)) }
+        pieces_pass invocation parts.old.cut.text state.now parts.old.so_far parts.old.cut.pieces ≡ handling_pass
+        invocation parts.old.cut.text state.now found parts.new.so_far parts.new.cut.pieces) }
+    ensures span { IfOk result (λ found. IfSome found (λ h. IsSpanOf parts.old.cut.text h.matched.name)) }
 {
-    while let Some(piece) = cut.take_first() {
-        let whole = cut.text();
+    while let Some(piece) = parts.cut.take_first() {
+        let whole = parts.cut.text();
         let work = work_of_piece(state, whole, &piece)?;
         match work {
-            Work::Shown(span) => so_far.push_str(text_at(whole, span))?,
+            Work::Shown(span) => parts.so_far.push_str(text_at(whole, span))?,
             Work::Handled {
                 handler,
                 call,
@@ -102,25 +182,13 @@ pub fn text_turn<S: Stated>(
         (λ engine. text_left engine state.old pass) stack.old result state.new stack.new }
     ensures shrinks { Shrinks 0 result stack.old stack.new }
 {
-    let TextPass {
-        mut cut,
-        mut so_far,
-        hand: _,
-    } = pass;
-    match next_handling(state, &mut cut, &mut so_far)? {
-        None => Ok(Move::Handed(so_far)),
+    let mut pass = pass;
+    match pass.next_handling(state)? {
+        None => Ok(Move::Handed(pass.take_text(state.alloc()))),
         Some(handling) => {
-            let Handling {
-                handler,
-                call,
-                matched,
-            } = handling;
-            stack.put_first(Frame::Shortcodes(TextPass {
-                cut,
-                so_far,
-                hand: Some(matched),
-            }))?;
-            invoke_turn(plugins, state, stack, handler, call)
+            stack.put_first(Frame::Shortcodes(pass))?;
+            let invoked = state.invocation(handling.handler, handling.call)?;
+            invoke_turn(plugins, state, stack, invoked)
         }
     }
 }
@@ -140,15 +208,6 @@ fn append(so_far: &mut Text, hand: Option<Matched>, text: &str) -> Result<(), Al
         so_far.push_str("]")?;
     }
     Ok(())
-}
-
-/// A shortcode pass that is handed what stands in place of its match.
-fn with_text(pass: TextPass, text: &Text) -> Result<TextPass, AllocError>
-    ensures { IfOk result (λ grown. grown ≡ record pass { so_far = pass.so_far ++ in_place pass.hand text.now }) }
-{
-    let mut pass = pass;
-    append(&mut pass.so_far, pass.hand, text.as_str())?;
-    Ok(pass)
 }
 
 /// A handler's answer between its match's extra brackets. Without any it is moved and not copied.
@@ -176,10 +235,10 @@ fn tag_argument(alloc: Global, text: &str, name: Span) -> Result<Listed<Text>, A
 /// The match in hand, if anything is registered on the filter that its handler's answer goes through.
 fn to_filter(state: &State, pass: &TextPass) -> Option<Matched>
     ensures { MatchOption result (IsSome pass.now.hand → IsFalse (has state.now.table shortcode_filter))
-        (λ matched. pass.now.hand ≡ Some matched) }
+        (λ matched. (pass.now.hand ≡ Some matched) × IsSpanOf pass.now.cut.text matched.name) }
 {
     if state.is_hooked(SHORTCODE_FILTER) {
-        pass.hand
+        pass.hand()
     } else {
         None
     }
@@ -194,15 +253,15 @@ fn filter_turn<S: Stated>(
     matched: Matched,
     answer: Text,
 ) -> Result<Move, RunFault>
-    requires { pass.hand ≡ Some matched }
+    requires { IsSpanOf pass.cut.text matched.name }
     ensures moves { Does (engine_over S.says S.number plugins.now)
         (λ engine. text_handed engine state.old pass (Some matched) answer) stack.old result state.new stack.new }
     ensures grows { Shrinks 1 result stack.old stack.new }
 {
-    let args = tag_argument(state.alloc(), pass.cut.text(), matched.name)?;
+    let args = tag_argument(state.alloc(), pass.text(), matched.name)?;
     let text = between_brackets(state.alloc(), matched, answer)?;
     let mut pass = pass;
-    pass.hand = None;
+    pass.put_away();
     stack.put_first(Frame::Shortcodes(pass))?;
     begin_filter(plugins, state, stack, SHORTCODE_FILTER, text, args)
 }
@@ -223,7 +282,8 @@ pub fn shown_turn<S: Stated>(
     match to_filter(state, &pass) {
         Some(matched) => filter_turn(plugins, state, stack, pass, matched, text),
         None => {
-            let pass = with_text(pass, &text)?;
+            let mut pass = pass;
+            pass.append(text.as_str())?;
             text_turn(plugins, state, stack, pass)
         }
     }
@@ -259,10 +319,6 @@ pub fn begin_text<S: Stated>(
     if is_one_stretch(text.as_str(), pieces.as_slice()) {
         return Ok(Move::Handed(text));
     }
-    let pass = TextPass {
-        cut: Cut::new(text, pieces),
-        so_far: Text::empty(state.alloc()),
-        hand: None,
-    };
+    let pass = TextPass::new(state.alloc(), Cut::new(text, pieces))?;
     text_turn(plugins, state, stack, pass)
 }

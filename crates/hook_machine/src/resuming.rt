@@ -1,6 +1,5 @@
 //! Going on with a stopped run, frame by frame, until a callback was invoked or nothing is left.
 ghost use Rattle.std.specs.Prelude.{◌≡◌, ◌∷◌, [], OnOk};
-ghost use Rattle.hook_machine.specs.Meaning.{value_after};
 ghost use Rattle.hook_machine.specs.Outcomes.{RunsAs, engine_over};
 ghost use Rattle.hook_machine.specs.Rest.{rest, rest_with};
 ghost use Rattle.hook_machine.specs.Jobs.{job_left, left_from};
@@ -8,8 +7,7 @@ ghost use Rattle.hook_machine.specs.Moves.{Does, Moves, Shrinks, room_of, still_
 
 use crate::asking::{invocation_turn, waiting_turn};
 use crate::fault::RunFault;
-use crate::frame::{Frame, HookPass, Move, Stack};
-use crate::pass::kept;
+use crate::frame::{Frame, Move, Stack};
 use crate::replacing::{begin_text, shown_turn, text_turn};
 use crate::state::State;
 use crate::turning::{begin_action, begin_filter, pass_turn};
@@ -46,24 +44,6 @@ pub enum Job {
     },
 }
 
-/// A pass that is handed a callback's answer.
-fn with_result(pass: HookPass, text: Text) -> HookPass
-    ensures { result ≡ record pass { value = value_after pass.kind pass.value text } }
-{
-    let HookPass {
-        kind,
-        args,
-        value,
-        position,
-    } = pass;
-    HookPass {
-        kind,
-        args,
-        value: kept(kind, value, text),
-        position,
-    }
-}
-
 /// Goes on with a frame.
 fn frame_turn<S: Stated>(
     plugins: &Plugins<S>,
@@ -98,7 +78,8 @@ fn result_turn<S: Stated>(
 {
     match frame {
         Frame::Pass(pass) => {
-            let pass = with_result(pass, text);
+            let mut pass = pass;
+            pass.hand(state.alloc(), text);
             pass_turn(plugins, state, stack, pass)
         }
         Frame::Invocation(invoked) => waiting_turn(plugins, state, stack, invoked, text),

@@ -7,31 +7,31 @@ ghost use Rattle.hook_machine.specs.Rest.{begun, pass_left};
 ghost use Rattle.hook_machine.specs.Moves.{Does, Shrinks, Invokes};
 
 use crate::fault::RunFault;
-use crate::frame::{Frame, HookPass, Invoked, Move, Pending, Stack};
+use crate::frame::{Frame, HookPass, Invoked, Move, PassParts, Pending, Stack};
 use crate::machine::reply_of;
-use crate::pass::{PassKind, call_of_hook};
+use crate::pass::PassKind;
 use crate::state::State;
 use call_plans::Position;
 use callback_store::{Plugins, Stated};
-use hook_changes::{Call, CallbackId, HookName, Listed, NameFault, Text};
+use hook_changes::{HookName, Listed, NameFault, Text};
+use hook_registry::Entry;
 use std::alloc::AllocError;
-use std::mem;
 
 /// What an invocation is to do next, once its callback has replied and the reply's echo and changes are carried out.
 fn begun<S: Stated>(
     plugins: &Plugins<S>,
     state: &mut State,
-    callback: CallbackId,
-    call: &Call,
+    invoked: &Invoked,
 ) -> Result<Pending, RunFault>
     ensures ok { IfOk result (λ pending. (state.new, pending)
-        ≡ begun (engine_over S.says S.number plugins.now) state.old callback call.now) }
+        ≡ begun (engine_over S.says S.number plugins.now) state.old invoked.now.callback invoked.now.call) }
     ensures err { IfErr result (λ fault. fault ≡ RunFault.OutOfMemory) }
 {
+    let callback = invoked.callback();
     if callback.number() == 0 {
         return Ok(Pending::Core);
     }
-    let reply = reply_of(plugins, state.alloc(), callback, call)?;
+    let reply = reply_of(plugins, state.alloc(), callback, invoked.call())?;
     state.carry_out(plugins, &reply)?;
     Ok(Pending::Next(reply.next))
 }
@@ -41,47 +41,40 @@ pub fn invoke_turn<S: Stated>(
     plugins: &Plugins<S>,
     state: &mut State,
     stack: &mut Stack,
-    callback: CallbackId,
-    call: Call,
+    invoked: Invoked,
 ) -> Result<Move, RunFault>
     ensures moves { Does (engine_over S.says S.number plugins.now)
-        (λ engine. invoke engine state.old callback call) stack.old result state.new stack.new }
+        (λ engine. invoke engine state.old invoked.callback invoked.call) stack.old result state.new stack.new }
     ensures invokes { Invokes result }
 {
+    let mut invoked = invoked;
     state.take_call()?;
-    let pending = begun(plugins, state, callback, &call)?;
-    stack.put_first(Frame::Invocation(Invoked {
-        callback,
-        call,
-        pending,
-    }))?;
+    let pending = begun(plugins, state, &invoked)?;
+    invoked.set_pending(pending);
+    stack.put_first(Frame::Invocation(invoked))?;
     Ok(Move::Turned)
 }
 
-/// The call of a pass's next callback, into which a filter's value moves.
-fn next_call(state: &mut State, pass: &mut HookPass, accepted: u8) -> Result<Call, AllocError>
-    ensures call { IfOk result (λ call. call ≡ hook_call pass.old.position.hook
-        (take accepted (arguments pass.old.kind pass.old.value pass.old.args))) }
-    ensures pass { pass.new ≡ record pass.old { value = pass.new.value } }
+/// The invocation of a pass's next callback, into whose call a filter's value moves.
+fn next_invocation(
+    state: &mut State,
+    pass: &mut HookPass,
+    entry: Entry,
+) -> Result<Invoked, AllocError>
+    ensures callback { IfOk result (λ invoked. invoked.callback ≡ entry.callback) }
+    ensures call { IfOk result (λ invoked. invoked.call ≡ hook_call pass.old.position.hook
+        (take entry.accepted (arguments pass.old.kind pass.old.value pass.old.args))) }
+    ensures pass { OnOk result (pass.new ≡ record pass.old { value = pass.new.value }) }
     ensures kept { OnOk result ((answer : List ℕ)
         → value_after pass.old.kind pass.new.value answer ≡ value_after pass.old.kind pass.old.value answer) }
     ensures state { state.new ≡ state.old }
 {
     let alloc = state.alloc();
-    let value = mem::replace(&mut pass.value, Text::empty(alloc));
-    let spare = state.spare_call();
-    let made = call_of_hook(
-        alloc,
-        pass.kind,
-        pass.position.hook.as_str(),
-        value,
-        pass.args.as_slice(),
-        accepted,
-        spare,
-    )?;
-    let (call, kept) = made;
-    pass.value = kept;
-    Ok(call)
+    let mut invoked = state.spare()?;
+    let value = pass.take_value(alloc);
+    let kept = invoked.set_hook_call(alloc, pass.kind(), pass.hook(), value, pass.args(), entry)?;
+    pass.set_value(kept);
+    Ok(invoked)
 }
 
 /// Goes on with a pass: its next entry is invoked, or it leaves its hook.
@@ -96,15 +89,15 @@ pub fn pass_turn<S: Stated>(
     ensures shrinks { Shrinks 0 result stack.old stack.new }
 {
     let mut pass = pass;
-    match state.next(&mut pass.position)? {
+    match pass.next(state)? {
         None => {
             state.leave();
-            Ok(Move::Handed(pass.value))
+            Ok(Move::Handed(pass.take_value(state.alloc())))
         }
         Some(entry) => {
-            let call = next_call(state, &mut pass, entry.accepted)?;
+            let invoked = next_invocation(state, &mut pass, entry)?;
             stack.put_first(Frame::Pass(pass))?;
-            invoke_turn(plugins, state, stack, entry.callback, call)
+            invoke_turn(plugins, state, stack, invoked)
         }
     }
 }
@@ -124,18 +117,14 @@ pub fn begin_pass<S: Stated>(
     ensures shrinks { Shrinks 0 result stack.old stack.new }
 {
     state.enter(&hook)?;
-    let position = Position::start(hook);
-    pass_turn(
-        plugins,
-        state,
-        stack,
-        HookPass {
-            kind,
-            args,
-            value,
-            position,
-        },
-    )
+    let parts = PassParts {
+        kind,
+        args,
+        value,
+        position: Position::start(hook),
+    };
+    let pass = HookPass::new(state.alloc(), parts)?;
+    pass_turn(plugins, state, stack, pass)
 }
 
 /// Begins a filter pass.

@@ -6,5 +6,5 @@ pub returns-in_default-clause-moves : goal.returns-in_default-clause-moves
 returns-in_default-clause-moves g c =
     let engine = engine_over g.S.Stated.says g.S.Stated.number c.args.plugins.now in
     waits_moves engine c.args.state.now c.args.invoked.callback c.args.invoked.call c.empty.result c.args.stack.now c.args.invoked.pending
-    (others_wait engine c.args.state.now c.args.invoked.callback c.args.invoked.call c.args.invoked.pending c.in_default.not-Next c.in_default.not-Core)
-    c.empty.ensures
+    (rw c.take_pending.ensures.pending at (others_wait engine c.args.state.now c.args.invoked.callback c.args.invoked.call c.take_pending.result
+    c.in_default.not-Next c.in_default.not-Core)) c.empty.ensures

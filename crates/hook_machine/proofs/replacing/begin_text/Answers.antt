@@ -1,3 +1,4 @@
+use Rattle.std.proofs.Common.{[], refl}
 use Rattle.hook_machine.specs.Outcomes.{engine_over}
 use Rattle.hook_machine.specs.Meaning.{invoke}
 use Rattle.hook_machine.proofs.Moving.{text_back, text_begin}
@@ -12,6 +13,6 @@ returns-then-is_one_stretch-clause-moves g c =
 
 pub returns-clause-moves : goal.returns-clause-moves
 returns-clause-moves g c =
-    text_begin (engine_over g.S.Stated.says g.S.Stated.number c.args.plugins.now) c.args.state.now c.args.text c.as_str.result.now c.empty.result
-    c.in_ok-pieces.pieces c.new.result c.args.stack.now c.as_str.ensures c.in_ok-pieces.ensures.pieces c.new.ensures c.empty.ensures _ _ _
-    c.text_turn.ensures.moves
+    text_begin (engine_over g.S.Stated.says g.S.Stated.number c.args.plugins.now) c.args.state.now c.args.text c.as_str.result.now []
+    c.in_ok-pieces.pieces c.new.result c.args.stack.now c.as_str.ensures c.in_ok-pieces.ensures.pieces c.new.ensures refl _ _ _
+    (rw c.in_ok-pass.ensures at c.text_turn.ensures.moves)

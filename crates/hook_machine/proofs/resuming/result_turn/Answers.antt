@@ -4,8 +4,8 @@ use Rattle.hook_machine.proofs.resuming.result_turn.Goals as goal
 
 pub returns-in-Pass-clause-moves : goal.returns-in-Pass-clause-moves
 returns-in-Pass-clause-moves g c =
-    rw c.in-Pass.is (pass_next (engine_over g.S.Stated.says g.S.Stated.number c.args.plugins.now) c.args.state.now c.in-Pass.pass c.with_result-pass.result
-    c.args.text c.args.stack.now c.with_result-pass.ensures _ _ _ c.pass_turn.ensures.moves)
+    rw c.in-Pass.is (pass_next (engine_over g.S.Stated.says g.S.Stated.number c.args.plugins.now) c.args.state.now c.in-Pass.pass c.hand.new.self
+    c.args.text c.args.stack.now c.hand.ensures _ _ _ c.pass_turn.ensures.moves)
 
 pub returns-in-Invocation-clause-moves : goal.returns-in-Invocation-clause-moves
 returns-in-Invocation-clause-moves g c =

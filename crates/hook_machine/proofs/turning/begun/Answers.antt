@@ -3,8 +3,9 @@ use Rattle.std.proofs.lemmas.Bool.{ne_eqb}
 use Rattle.hook_machine.proofs.turning.begun.Goals as goal
 
 pub returns-then-number-eq0-clause-ok : goal.returns-then-number-eq0-clause-ok
-returns-then-number-eq0-clause-ok g c = rw (eq-eqb c.args.callback 0 (omega arith)) refl
+returns-then-number-eq0-clause-ok g c = rw (eq-eqb c.args.invoked.now.callback 0 (omega arith)) refl
 
 pub returns-clause-ok : goal.returns-clause-ok
 returns-clause-ok g c =
-    rw (ne_eqb c.args.callback 0 (λ e. c.if-number-eq0.false (c.number.ensures ∙ e)), c.in_ok-carry_out.ensures.ok, c.in_ok-reply.ensures) refl
+    rw (ne_eqb c.args.invoked.now.callback 0 (λ e. c.if-number-eq0.false (c.number.ensures ∙ c.callback-callback.ensures ∙ e)), c.in_ok-carry_out.ensures.ok, c.in_ok-reply.ensures,
+    c.callback-callback.ensures, c.call.ensures) refl
