@@ -1,9 +1,9 @@
 """Measures what programs take of a processor: the one way of all scripts of this folder.
 
-A figure is the least time, the program's own and the system's for it, that the same run takes out of several. Runs that
-are compared take turns, so that a busy moment of the machine slows them alike. What a single request takes is the
+A figure is the smallest time, the program's own and the system's for it, that the same run takes out of several. Runs
+that are compared take turns, so that a busy moment of the machine slows them alike. What a single request takes is the
 difference between a run with many of them and one with none, divided by their number. Each output is compared with what
-it must be, so a program that answers wrongly isn't timed.
+it must be, so a program that replies wrongly isn't timed.
 """
 
 import argparse
@@ -77,7 +77,7 @@ def spent(run):
             sys.exit(f"{run.words[0]} ended with status {child.returncode}")
         written.seek(0)
         if written.read() != run.expected:
-            sys.exit(f"{run.words[0]} answered wrongly")
+            sys.exit(f"{run.words[0]} replied wrongly")
     return figures
 
 
@@ -115,7 +115,7 @@ class Bench:
         return Case(run(times), run(0), times)
 
     def best(self, runs):
-        """The least time and the largest peak of each of some runs, which take turns."""
+        """The smallest time and the largest peak of each of some runs, which take turns."""
         runs = list(runs)
         turns = [[spent(run) for run in runs] for _ in range(1 if self.smoke else TURNS)]
         return [Spent(min(it.seconds for it in of), max(it.kilobytes for it in of)) for of in zip(*turns)]

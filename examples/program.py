@@ -1,4 +1,4 @@
-"""The program as a child process that answers one line at a time, for the scripts of this folder."""
+"""The program as a child process that replies to one line at a time, for the scripts of this folder."""
 
 import os
 import subprocess
@@ -10,7 +10,7 @@ BUILT_PROGRAM = Path(__file__).resolve().parent.parent / "crates" / "site" / "ou
 
 
 class Ended(Exception):
-    """The program ended before it had answered."""
+    """The program ended before it had replied."""
 
 
 class Reply(NamedTuple):
@@ -30,7 +30,7 @@ class Reply(NamedTuple):
 
 
 def read_reply(stream):
-    """Reads a reply: one line, and if it is `page STATUS LENGTH`, so many bytes and a newline after it."""
+    """Reads a reply: one line, and if it is `page STATUS LENGTH`, LENGTH bytes and a newline after it."""
     head = stream.readline()
     if not head.endswith(b"\n"):
         raise Ended

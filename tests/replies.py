@@ -68,3 +68,11 @@ def read_replies(output):
         replies.append(reply)
         at += len(reply)
     return replies, output[at:]
+
+
+def whole_replies(output):
+    """The replies of an output that ends with a whole one."""
+    replies, rest = read_replies(output)
+    if rest:
+        raise Wrong(f"this is no whole reply: {shown(rest)}")
+    return replies

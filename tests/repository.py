@@ -1,4 +1,4 @@
-"""What the scripts of this folder know of the repository: its crates, what each stands on, and what it is made from."""
+"""What the scripts of this folder know of the repository: its crates, what each depends on and what it is made from."""
 
 import hashlib
 from pathlib import Path
@@ -20,7 +20,7 @@ def read_crates():
 
 
 def below(crates, name):
-    """All crates that a crate stands on."""
+    """All crates that a crate depends on."""
     found = set()
     for it in crates[name]:
         found |= {it} | below(crates, it)

@@ -74,7 +74,10 @@ $plugins = [
         ['the_title', 10, 'nest_first', 1], ['the_title', 11, 'nest_within', 1],
         ['the_title', 11, 'nest_after', 1], ['the_title', 12, 'nest_last', 1],
     ],
-    'once' => [['the_title', 10, 'once_first', 1], ['the_title', 11, 'once_again', 1], ['the_title', 12, 'once_last', 1]],
+    'once' => [
+        ['the_title', 10, 'once_first', 1], ['the_title', 11, 'once_again', 1],
+        ['the_title', 12, 'once_last', 1],
+    ],
 ];
 
 // ---------------------------------------------------------------------------------------------------------- the site
@@ -89,13 +92,19 @@ function load_plugins() {
     ksort($active, SORT_STRING);
     foreach (array_keys($active) as $name) {
         foreach ($plugins[$name] as $one) {
-            if (2 === count($one)) { add_shortcode($one[0], $one[1]); } else { add_filter($one[0], $one[2], $one[1], $one[3]); }
+            if (2 === count($one)) {
+                add_shortcode($one[0], $one[1]);
+            } else {
+                add_filter($one[0], $one[2], $one[1], $one[3]);
+            }
         }
     }
 }
 function found($path) {
     global $posts, $options;
-    if (preg_match('~\A/\?p=([0-9]+)\z~', $path, $match)) { return isset($posts[(int) $match[1]]) ? [(int) $match[1]] : []; }
+    if (preg_match('~\A/\?p=([0-9]+)\z~', $path, $match)) {
+        return isset($posts[(int) $match[1]]) ? [(int) $match[1]] : [];
+    }
     $ids = array_keys($posts);
     usort($ids, fn($a, $b) => strcmp($posts[$b][2], $posts[$a][2]) ?: $b - $a);
     return array_slice($ids, 0, (int) ($options['posts_per_page'] ?? 10));
@@ -105,7 +114,9 @@ function page($path) {
     $ids = found($path);
     ob_start();
     load_plugins();
-    foreach (['plugins_loaded', 'init', 'wp_loaded', 'wp', 'template_redirect', 'wp_head'] as $hook) { do_action($hook); }
+    foreach (['plugins_loaded', 'init', 'wp_loaded', 'wp', 'template_redirect', 'wp_head'] as $hook) {
+        do_action($hook);
+    }
     foreach ($ids as $id) {
         echo '<h2>', apply_filters('the_title', $posts[$id][0], (string) $id), '</h2>';
         echo str_replace(']]>', ']]&gt;', apply_filters('the_content', $posts[$id][1]));
@@ -114,7 +125,7 @@ function page($path) {
     return ob_get_clean();
 }
 
-// Nanoseconds of a pass over so many callbacks that give the value back, the best of many.
+// Nanoseconds of a pass over `$count` callbacks that give the value back, the best of many.
 function pass_over($count, $spread) {
     for ($i = 0; $i < $count; $i++) { add_filter('timed', function ($value) { return $value; }, $spread ? $i : 10, 1); }
     $times = max(1, intdiv(2000, $count));

@@ -22,7 +22,7 @@ extern int *__errno_location(void);
 extern int creat(const char *name, unsigned int mode);
 extern int dprintf(int file, const char *format, ...);
 
-/* The next definition behind this one, as the loader finds it. */
+/* The next definition after this one, as the loader finds it. */
 #define NEXT ((void *)-1L)
 #define INPUT_OUTPUT_ERROR 5
 
@@ -57,7 +57,7 @@ __attribute__((destructor)) static void end(void)
         dprintf(creat(name, 0600), "%lu\n", writes);
 }
 
-static size_t least(size_t one, size_t other)
+static size_t smaller(size_t one, size_t other)
 {
     return one < other ? one : other;
 }
@@ -76,7 +76,7 @@ ssize_t read(int file, void *bytes, size_t count)
         return next(file, bytes, count);
     if (good == 0)
         return failed();
-    ssize_t given = next(file, bytes, least(count, least(piece, good)));
+    ssize_t given = next(file, bytes, smaller(count, smaller(piece, good)));
     if (given > 0)
         good -= (size_t)given;
     return given;
@@ -93,7 +93,7 @@ ssize_t write(int file, const void *bytes, size_t count)
         ssize_t fault = failed();
         return is_silent ? 0 : fault;
     }
-    ssize_t taken = next(file, bytes, least(count, least(takes, room)));
+    ssize_t taken = next(file, bytes, smaller(count, smaller(takes, room)));
     if (taken > 0)
         room -= (size_t)taken;
     return taken;

@@ -13,8 +13,8 @@ from replies import Wrong, read_replies, refusal_of, shown
 
 SECONDS = 60
 CALLS = 1_000
-# How each command can be answered: what its reply begins with if it is done, and its refusals.
-ANSWERS = {
+# The replies that each command can have: what one begins with if it is done, and its refusals.
+REPLIES = {
     "import": (b"ok\n", {1, 2, 4, 5, 6, 7, 8}),
     "put": (b"ok ", {1, 5, 8, 13}),
     "edit": (b"ok\n", {1, 3, 5, 8}),
@@ -29,18 +29,18 @@ ANSWERS = {
 LATER = ("begin", "turns")
 
 
-def check_answer(line, reply):
-    """A line is answered as its command can be, and as no command if no reader of JSON reads it."""
+def check_form(line, reply):
+    """A line has a reply that its command can have, and that of no command if no reader of JSON reads it."""
     try:
         read(line)
     except Unreadable:
         if refusal_of(reply) != 1:
-            raise Wrong(f"{shown(line)} is no JSON, and is answered {shown(reply)}") from None
+            raise Wrong(f"{shown(line)} is no JSON, and its reply is {shown(reply)}") from None
     kind = command_of(line).get("cmd")
-    done, refusals = ANSWERS.get(kind, (None, {1})) if isinstance(kind, str) else (None, {1})
+    done, refusals = REPLIES.get(kind, (None, {1})) if isinstance(kind, str) else (None, {1})
     number = refusal_of(reply)
     if kind not in LATER and not (number in refusals if number else done and reply.startswith(done)):
-        raise Wrong(f"{shown(line)} is answered {shown(reply)}")
+        raise Wrong(f"{shown(line)} has the reply {shown(reply)}")
 
 
 class Program:
@@ -69,7 +69,7 @@ def same(lines, replies, others, what):
     """The replies to some lines are these others."""
     for line, reply, other in zip(lines, replies, others, strict=True):
         if reply != other:
-            raise Wrong(f"{shown(line)} is answered {shown(reply)}, but {what} {shown(other)}")
+            raise Wrong(f"the reply to {shown(line)} is {shown(reply)}, but {what} {shown(other)}")
 
 
 def left_out(program, lines, replies, is_left_out, what):
@@ -80,15 +80,15 @@ def left_out(program, lines, replies, is_left_out, what):
         same(rest, [reply for _, reply in kept], program.replies(rest), what)
 
 
-def answers(program, lines, replies):
+def forms(program, lines, replies):
     """Each reply is one that its command can have, IDs are those that are told, and a page's bytes are UTF-8."""
     Stored().after(lines, replies)
     for line, reply in zip(lines, replies):
-        check_answer(line, reply)
+        check_form(line, reply)
         try:
             reply.decode()
         except UnicodeDecodeError:
-            raise Wrong(f"{shown(line)} gives a page that is no UTF-8: {shown(reply)}") from None
+            raise Wrong(f"the page of {shown(line)} is no UTF-8: {shown(reply)}") from None
 
 
 def halves(program, lines, replies):
@@ -129,7 +129,7 @@ def calls(program, lines, replies):
         same(lines, kept, less, f"with --calls {fewer}")
     for line, reply, other in zip(lines, replies, program.replies(lines, calls=3 * CALLS)):
         if refusal_of(reply) != 9 and reply != other:
-            raise Wrong(f"{shown(line)} is answered {shown(reply)}, but with more calls {shown(other)}")
+            raise Wrong(f"the reply to {shown(line)} is {shown(reply)}, but with more calls {shown(other)}")
 
 
 def values(program, lines, replies):
@@ -174,4 +174,4 @@ def posts(program, lines, replies):
     same(gets, got[len(begun) :], [bare_page(stored.posts.get(it)) for it in ids], "the replies before tell")
 
 
-CHECKS = (answers, halves, refused, pages, caches, calls, values, toggles, posts)
+CHECKS = (forms, halves, refused, pages, caches, calls, values, toggles, posts)

@@ -68,7 +68,7 @@ class Lines:
         return self.random.choice((f'{name}="{value}"', f"{name} = '{value}'", f"{name}={value}", f'"{value}"', value))
 
     def shortcode(self, most):
-        """A shortcode, perhaps escaped or left open, with texts of at most so many parts in it."""
+        """A shortcode, perhaps escaped or left open, with texts of at most `most` parts in it."""
         tag = self.random.choice(TAGS)
         opened = f"[{tag}{''.join(f' {it}' for it in self.many(most, lambda: self.attribute(most // 2)))}"
         enclosing = f"]{self.text(most)}[/{tag}]"
@@ -76,7 +76,7 @@ class Lines:
         return f"[{opened}{closed}]" if self.chance(6) else opened + closed
 
     def text(self, most):
-        """Marks and shortcodes, at most so many; now and then one of them very often."""
+        """At most `most` marks and shortcodes; now and then one of them very often."""
         parts = self.many(most, lambda: self.shortcode(most // 3) if self.chance(2) else self.random.choice(MARKS))
         if most > 4 and self.chance(40):
             unit = self.random.choice((*MARKS, "[b]", "[b", "[b]x[/b]", "[show a=1]"))

@@ -38,7 +38,7 @@ def turned_round(before):
 
 # By the name of each check, whether a reply is wrong: from the lines and replies before it, its line, and the options.
 BREAKS = {
-    "answers": lambda before, line, replies, how: command_of(line).get("cmd") == "put",
+    "forms": lambda before, line, replies, how: command_of(line).get("cmd") == "put",
     "halves": lambda before, line, replies, how: is_get(line) and len(before) > 40,
     "refused": lambda before, line, replies, how: is_get(line) and any(it.startswith(b"refused") for it in replies),
     "pages": lambda before, line, replies, how: is_get(line) and sum(map(is_get, before)) > 3,

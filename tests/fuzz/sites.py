@@ -28,21 +28,21 @@ class Stored:
             command = command_of(line)
             if command.get("cmd") in ("edit", "delete") and reply in (b"ok\n", b"refused 3 NoSuchPost\n"):
                 if (command["id"] in self.posts) != (reply == b"ok\n"):
-                    raise Wrong(f"{shown(line)} is answered {shown(reply)}, and the replies before tell otherwise")
+                    raise Wrong(f"the reply to {shown(line)} is {shown(reply)}, and the replies before tell otherwise")
             try:
                 if reply.startswith(b"ok"):
                     self.carry_out(command, reply)
             except (IndexError, KeyError, TypeError):
-                raise Wrong(f"{shown(line)} is answered {shown(reply)}, which can't be") from None
+                raise Wrong(f"the reply to {shown(line)} is {shown(reply)}, which can't be") from None
         return self
 
     def carry_out(self, command, reply):
-        """A command that was answered `ok`, or `ok` and a number."""
+        """Carries out a command whose reply was `ok`, or `ok` and a number."""
         match command["cmd"]:
             case "put":
                 every = {"kind": "post", "status": "publish", "title": "", "content": ""}
                 if int(reply.split()[1]) != self.largest + 1:
-                    raise Wrong(f"a put is answered {shown(reply)}, and {self.largest} was the largest ID")
+                    raise Wrong(f"the reply to a put is {shown(reply)}, and {self.largest} was the largest ID")
                 self.add({**every, **command, "id": self.largest + 1})
             case "edit":
                 given = {key: it for key, it in command.items() if key in ("status", "title", "content", "date")}
@@ -81,7 +81,7 @@ class Stored:
         self.active.update(site.get("active", []))
 
     def lines(self):
-        """Lines that make an empty site this one, each of which is answered `ok`."""
+        """Lines that make an empty site this one; the reply to each is `ok`."""
         gone = [] if self.largest in self.posts or not self.largest else [self.largest]
         holder = {"kind": "post", "status": "draft", "title": "", "content": "", "date": DATE}
         sites = [{"posts": [post]} for post in [*self.posts.values(), *({"id": it, **holder} for it in gone)]]

@@ -63,7 +63,7 @@ def plain(value):
 
 
 def command_of(line):
-    """The object that a line is, in Python's own types, or an empty one if it is none."""
+    """The object that a line is, in Python's own types, or an empty one if the line isn't one."""
     try:
         value = read(line)
     except Unreadable:

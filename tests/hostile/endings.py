@@ -58,9 +58,9 @@ def check_output(output, wanted):
 
 
 def check_part(output, whole):
-    """What was written is the front of all replies."""
+    """What was written is a prefix of all replies."""
     if not whole.startswith(output):
-        raise Wrong(f"it wrote {shown(output)}, wanted the front of {shown(whole)}")
+        raise Wrong(f"it wrote {shown(output)}, wanted a prefix of {shown(whole)}")
 
 
 def redirected(program, words, given, output, end):
@@ -182,7 +182,7 @@ def heed_signals():
 
 
 def signalled(program, number, given, waits):
-    """A signal while the input stands open: the replies so far are whole, and nothing is said."""
+    """A signal while the input is still open: the replies so far are whole, and nothing is said."""
     child = started(program, preexec_fn=heed_signals)
     child.stdin.write(LINE)
     child.stdin.flush()
@@ -199,7 +199,7 @@ def signalled(program, number, given, waits):
 
 
 def import_line():
-    """An import of so many posts that it takes a while."""
+    """An import of many posts, which takes a while."""
     post = {"kind": "post", "status": "publish", "title": "", "content": "", "date": "2024-05-01 10:00:00"}
     posts = [{"id": it, **post} for it in range(1, POSTS + 1)]
     return json.dumps({"cmd": "import", "site": {"version": 1, "posts": posts}}, separators=(",", ":")).encode() + b"\n"

@@ -57,7 +57,7 @@ def hungry():
 
 
 def deep():
-    """Lines that nest, and pages that go, as deep as they may, and lines of the greatest length."""
+    """Lines that nest, and pages that go, as deep as they may, and lines of the maximum length."""
     arrays, objects = "[" * 126 + "]" * 126, '{"a":' * 125 + "{}" + "}" * 125
     for nested in (arrays, objects):
         yield f'{{"cmd":"get","path":"/","more":{nested}}}'
@@ -142,7 +142,7 @@ class Memory:
         return self.without[places]
 
     def judge(self, step):
-        """A run under a limit between those two: what it answers, and how it ends."""
+        """A run under a limit between those two: its replies, and how it ends."""
         if self.ends is None:
             raise Wrong("the limits couldn't be measured")
         kilobytes = self.begins + SLACK + (self.ends - self.begins) * step // STEPS
@@ -183,8 +183,8 @@ class Stack:
             end, output = run(self.program, self.lines, f"ulimit -s {kilobytes};")
             return end == DONE and output == b"".join(self.replies)
 
-        least = smallest(works, 0, STACKS[0], PAGE)
-        print(f"stack: {least} KB for a list of {len(self.lines)} lines as deep as they may be")
+        needed = smallest(works, 0, STACKS[0], PAGE)
+        print(f"stack: {needed} KB for a list of {len(self.lines)} lines as deep as they may be")
 
     def judge(self, kilobytes):
         replies = whole(self.program, self.lines, f"ulimit -s {kilobytes};")

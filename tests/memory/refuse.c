@@ -1,6 +1,6 @@
 /*
- * malloc and realloc that refuse once: the call whose number the variable REFUSE_AT says, counted from 1. As the program
- * ends, the number of calls that it made is written to the file that REFUSE_COUNT names. It is compiled by the
+ * malloc and realloc that refuse once: the call whose number the variable REFUSE_AT says, counted from 1. As the
+ * program ends, the number of calls that it made is written to the file that REFUSE_COUNT names. It is compiled by the
  * toolchain's own compiler, which brings no headers, so what it takes from the C library is declared here.
  */
 typedef unsigned long size_t;
@@ -11,7 +11,7 @@ extern unsigned long strtoul(const char *text, char **end, int base);
 extern int creat(const char *name, unsigned int mode);
 extern int dprintf(int file, const char *format, ...);
 
-/* The next definition behind this one, as the loader finds it. */
+/* The next definition after this one, as the loader finds it. */
 #define NEXT ((void *)-1L)
 
 static void *(*real_malloc)(size_t);

@@ -95,7 +95,7 @@ class Toolchain:
         return sorted(self.rtlib.crates_below(str(root)), key=lambda it: len(it.below()))
 
     def build_below(self, crate):
-        """Builds the libraries below a crate where they have changed."""
+        """Builds the libraries below a crate if they have changed."""
         for library in crate.below():
             if library.build_rlib(["--jobs", "1"], anew=False):
                 raise ToolchainFault(f"its library {library.name} isn't proved")

@@ -25,7 +25,7 @@ class Edit:
         self.in_body = True
 
     def applied(self, texts, read):
-        """The texts with this edit made in them, or None if an old text doesn't stand once in its file.
+        """The texts with this edit made in them, or None if an old text isn't exactly once in its file.
 
         texts has the files that were changed already, by their paths; read gives the text of any other."""
         changed = dict(texts)
@@ -51,7 +51,7 @@ def parsed(crate, path):
             old = line[len("old: ") :]
         elif line.startswith("new:"):
             if not file or not old:
-                raise BadEdit("a 'new:' line stands before any 'file:' or 'old:' line")
+                raise BadEdit("a 'new:' line comes before any 'file:' or 'old:' line")
             pairs.append((file, old, line[len("new:") :].removeprefix(" ")))
             old = None
     if len(turns) != 1 or not re.fullmatch(r"[\w:+]+", turns[0]):

@@ -6,7 +6,7 @@ import time
 
 # A crate is kept if an earlier run on this machine proved the same files.
 PROVED = re.compile(r"^rt: (\w+) (proved|is kept|NOT PROVED)\b", re.M)
-# What ./test writes behind the output, however the run ended.
+# What ./test writes after the output, however the run ended.
 ENDED = re.compile(r"^rt ci has ended$", re.M)
 
 

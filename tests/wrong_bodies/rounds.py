@@ -39,7 +39,7 @@ def round_of(crate, edits):
 
 
 def try_round(toolchain, made, kept):
-    """What a check of a round says of its edits, as pairs of an edit and what was said, halved where it can't be read."""
+    """What a check of a round says of its edits, as pairs of an edit and what was said, halved if it can't be read."""
     try:
         said = toolchain.check(made.crate, made.texts, [it.turns for it in made.edits], kept)
         return [(it, said) for it in made.edits]
