@@ -1,4 +1,5 @@
 pub mod Agree
+pub mod Bare
 pub mod Ending
 pub mod Folding
 pub mod Loading

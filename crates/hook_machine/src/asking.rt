@@ -147,9 +147,7 @@ fn ask_turn<S: Stated>(
             ask_apply(plugins, state, stack, invoked, hook, value, args)
         }
         Ask::Act { hook, args } => ask_act(plugins, state, stack, invoked, hook, args),
-        Ask::Shortcodes { text } => {
-            ask_shortcodes(plugins, state, stack, invoked, text, cache)
-        }
+        Ask::Shortcodes { text } => { ask_shortcodes(plugins, state, stack, invoked, text, cache) }
         Ask::Did { hook } => {
             let answer = state.did(hook.as_str());
             invoke_again(plugins, state, stack, invoked, answer)

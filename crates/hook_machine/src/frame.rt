@@ -71,7 +71,8 @@ impl HookPass {
     pub fn next(&mut self, state: &State) -> Result<Option<Entry>, AllocError>
         ensures entry { IfOk result (λ found. found ≡ (next_entry state.now.table self.old.position).0) }
         ensures moved { OnOk result (self.new ≡ record self.old {
-          position = (next_entry state.now.table self.old.position).1; }) }
+          position = (next_entry state.now.table self.old.position).1;
+        }) }
     {
         state.next(&mut self.parts.position)
     }
@@ -189,7 +190,8 @@ impl Invoked {
     /// Hands its call one more answer.
     pub fn add_answer(&mut self, answer: Answer) -> Result<(), AllocError>
         ensures { OnOk result (self.new ≡ record self.old {
-          call = record self.old.call { answers = self.old.call.answers ++ answer ∷ [] } }) }
+          call = record self.old.call { answers = self.old.call.answers ++ answer ∷ [] };
+        }) }
     {
         add_answer(&mut self.parts.call, answer)
     }
@@ -221,7 +223,15 @@ impl Invoked {
             → value_after kind kept answer ≡ value_after kind value answer) }
     {
         self.parts.callback = entry.callback;
-        fill(alloc, &mut self.parts.call, kind, hook, value, args, entry.accepted)
+        fill(
+            alloc,
+            &mut self.parts.call,
+            kind,
+            hook,
+            value,
+            args,
+            entry.accepted,
+        )
     }
 }
 

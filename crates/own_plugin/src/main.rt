@@ -11,7 +11,7 @@ use std::io;
 // How many calls of its callbacks a page may make.
 const CALLS: u32 = 10_000;
 
-// The size of the cache, which has no effect yet.
+// The pieces of how many texts are kept for later pages.
 const CACHE: u32 = 64;
 
 fn main(rt: HostRuntime) -> Result<()> {

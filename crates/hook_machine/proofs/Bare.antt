@@ -1,0 +1,21 @@
+-- Attributes of which there are none.
+use Rattle.std.proofs.Common.{◌≡◌, ℕ, true, false, ◌==◌, List, [], ◌∷◌, length, Option, None, Some, refl, sym}
+use Rattle.std.specs.Prelude.{map, is_some, option_map}
+use Rattle.std.specs.List.{slice_get}
+use Rattle.std.proofs.lemmas.Bool.{eqb-true}
+use Rattle.shortcode_atts.specs.Attributes.{Attributes, no_attributes}
+
+none_there : {A B : Type 0} (f : A → B) (first : Option A) (xs : List B) → is_some first ≡ false → option_map f first ≡ slice_get xs 0 → xs ≡ []
+none_there f (Some a) xs h e = absurd (cc)
+none_there f None [] h e = refl
+none_there f None (x ∷ xs) h e = absurd (cc)
+
+none_left : {A B : Type 0} (f : A → B) (xs : List A) (ys : List B) → map f xs ≡ ys → length xs ≡ 0 → ys ≡ []
+none_left f [] ys e h = sym e
+none_left f (x ∷ xs) ys e h = absurd (cc)
+
+-- there is no first pair, and no value without a name
+pub nothing : {A B : Type 0} (g : A → List ℕ × List ℕ) (first : Option A) (f : B → List ℕ) (xs : List B) (a : Attributes)
+    → is_some first ≡ false → option_map g first ≡ slice_get a.named 0 → map f xs ≡ a.positional → (length xs == 0) ≡ true → a ≡ no_attributes
+nothing g first f xs a n p e h =
+    λ i. record { named = none_there g first a.named n p i; positional = none_left f xs a.positional e (eqb-true _ _ h) i }
