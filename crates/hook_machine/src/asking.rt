@@ -66,8 +66,8 @@ fn ask_apply<S: Stated>(
     args: Listed<Text>,
 ) -> Result<Move, RunFault>
     ensures moves { Does (engine_over S.says S.number plugins.now)
-        (λ engine. pending_left engine state.old invoked.callback invoked.call (Next (next.Ask (Apply hook value args))))
-        stack.old result state.new stack.new }
+        (λ engine. pending_left engine state.old invoked.callback invoked.call
+        (Next (next.Ask (Apply hook value args)))) stack.old result state.new stack.new }
     ensures grows { Shrinks 1 result stack.old stack.new }
 {
     wait(state, stack, invoked, Pending::ForText)?;
@@ -84,8 +84,8 @@ fn ask_act<S: Stated>(
     args: Listed<Text>,
 ) -> Result<Move, RunFault>
     ensures moves { Does (engine_over S.says S.number plugins.now)
-        (λ engine. pending_left engine state.old invoked.callback invoked.call (Next (next.Ask (Act hook args))))
-        stack.old result state.new stack.new }
+        (λ engine. pending_left engine state.old invoked.callback invoked.call
+        (Next (next.Ask (Act hook args)))) stack.old result state.new stack.new }
     ensures grows { Shrinks 1 result stack.old stack.new }
 {
     wait(state, stack, invoked, Pending::ForNothing)?;
@@ -102,8 +102,8 @@ fn ask_shortcodes<S: Stated>(
     cache: &mut PieceCache,
 ) -> Result<Move, RunFault>
     ensures moves { Does (engine_over S.says S.number plugins.now)
-        (λ engine. pending_left engine state.old invoked.callback invoked.call (Next (next.Ask (Shortcodes text))))
-        stack.old result state.new stack.new }
+        (λ engine. pending_left engine state.old invoked.callback invoked.call
+        (Next (next.Ask (Shortcodes text)))) stack.old result state.new stack.new }
     ensures grows { Shrinks 1 result stack.old stack.new }
 {
     wait(state, stack, invoked, Pending::ForText)?;
@@ -119,7 +119,8 @@ fn core_turn<S: Stated>(
     cache: &mut PieceCache,
 ) -> Result<Move, RunFault>
     ensures moves { Does (engine_over S.says S.number plugins.now)
-        (λ engine. pending_left engine state.old invoked.callback invoked.call Core) stack.old result state.new stack.new }
+        (λ engine. pending_left engine state.old invoked.callback invoked.call Core)
+        stack.old result state.new stack.new }
     ensures grows { Shrinks 1 result stack.old stack.new }
 {
     let mut invoked = invoked;
@@ -188,7 +189,8 @@ fn follow_turn<S: Stated>(
     cache: &mut PieceCache,
 ) -> Result<Move, RunFault>
     ensures moves { Does (engine_over S.says S.number plugins.now)
-        (λ engine. pending_left engine state.old invoked.callback invoked.call (Next next)) stack.old result state.new stack.new }
+        (λ engine. pending_left engine state.old invoked.callback invoked.call (Next next))
+        stack.old result state.new stack.new }
     ensures grows { Shrinks 1 result stack.old stack.new }
 {
     match next {

@@ -110,7 +110,9 @@ impl TextPass {
 
     /// Appends what stands in place of the match in hand, or a text as it is if there is none.
     fn append(&mut self, text: &str) -> Result<(), AllocError>
-        ensures { OnOk result (self.new ≡ record self.old { so_far = self.old.so_far ++ in_place self.old.hand text.now }) }
+        ensures { OnOk result (self.new ≡ record self.old {
+          so_far = self.old.so_far ++ in_place self.old.hand text.now;
+        }) }
     {
         let hand = self.parts.hand;
         append(&mut self.parts.so_far, hand, text)
@@ -120,8 +122,8 @@ impl TextPass {
     fn next_handling(&mut self, state: &State) -> Result<Option<Handling>, AllocError>
         ensures same { self.new.cut.text ≡ self.old.cut.text }
         ensures found { IfOk result (λ found. (invocation : Invocation) →
-            pieces_pass invocation self.old.cut.text state.now self.old.so_far self.old.cut.pieces ≡ handling_pass invocation
-            self.old.cut.text state.now found self.new.so_far self.new.cut.pieces) }
+            pieces_pass invocation self.old.cut.text state.now self.old.so_far self.old.cut.pieces ≡ handling_pass
+            invocation self.old.cut.text state.now found self.new.so_far self.new.cut.pieces) }
         ensures hand { IfOk result (λ found. IfSome found (λ h. self.new.hand ≡ Some h.matched)) }
     {
         self.parts.hand = None;

@@ -11,4 +11,5 @@ returns-in-Answer-clause-moves g c =
     rw (c.in-Answer.is, c.keep_spare.ensures) (handed_moves (engine_over g.S.Stated.says g.S.Stated.number c.args.plugins.now)
     (pending_left (engine_over g.S.Stated.says g.S.Stated.number c.args.plugins.now) c.args.state.now c.args.invoked.callback c.args.invoked.call
     (Next (next.Answer c.in-Answer.text))) c.args.state.now c.in-Answer.text c.args.stack.now
-    (answer_goes (engine_over g.S.Stated.says g.S.Stated.number c.args.plugins.now) c.args.state.now c.args.invoked.callback c.args.invoked.call c.in-Answer.text))
+    (answer_goes (engine_over g.S.Stated.says g.S.Stated.number c.args.plugins.now) c.args.state.now c.args.invoked.callback c.args.invoked.call
+    c.in-Answer.text))

@@ -14,7 +14,8 @@ returns-in_err-take_call-clause-moves g c =
 
 pub returns-clause-moves : goal.returns-clause-moves
 returns-clause-moves g c =
-    turn_begun (engine_over g.S.Stated.says g.S.Stated.number c.args.plugins.now) c.args.state.now c.take_call.new.self c.args.invoked.callback c.args.invoked.call
+    turn_begun (engine_over g.S.Stated.says g.S.Stated.number c.args.plugins.now) c.args.state.now c.take_call.new.self c.args.invoked.callback
+    c.args.invoked.call
     (c.begun.new.state, c.in_ok-pending.pending) c.args.stack.now c.put_first.new.self c.in_ok-take_call.ensures.left c.in_ok-take_call.ensures.ok
     c.in_ok-pending.ensures.ok
     (c.in_ok-put_first.ensures.ok ∙ ap (λ i. frame.Invocation i ∷ c.args.stack.now) c.set_pending.ensures)
