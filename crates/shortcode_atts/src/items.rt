@@ -1,4 +1,5 @@
-//! The items of an attribute text.
+//! The items of an attribute text, found in its bytes. They are the items of its characters: each character that a form
+//! asks for is ASCII, and no other character has a byte that is.
 ghost use Rattle.std.specs.Prelude.{◌≡◌, ℕ, ◌<◌, ◌≤◌, List, length, take};
 ghost use Rattle.std.specs.Prelude.{drop, nat_lt, Option, Some, option_map, IfSome};
 ghost use Rattle.std.specs.List.{prefix_len};
@@ -8,11 +9,13 @@ ghost use Rattle.shortcode_atts.specs.NameByte.{is_name_byte};
 ghost use Rattle.shortcode_atts.specs.Items.{is_white, is_bare_char, skip_white, after_char, is_ended, run_at};
 ghost use Rattle.shortcode_atts.specs.Items.{quoted_at, spelled_at, value_at, named_at, single_at, item_at};
 
+use crate::name_byte::is_name_byte;
+
 /// How a value is written.
 #[derive(Clone, Copy)]
 pub(crate) enum Form {
-    /// Between two of this character.
-    Quoted(char),
+    /// Between two of this byte.
+    Quoted(u8),
     /// With no white space and no quote.
     Bare,
     /// With no white space.
@@ -20,74 +23,67 @@ pub(crate) enum Form {
 }
 
 // The forms of a value after a name, and of a value alone, each in the order in which they are tried.
-const NAMED_FORMS: [Form; 3] = [Form::Quoted('"'), Form::Quoted('\''), Form::Bare];
+const NAMED_FORMS: [Form; 3] = [Form::Quoted(b'"'), Form::Quoted(b'\''), Form::Bare];
 
-const SINGLE_FORMS: [Form; 3] = [Form::Quoted('"'), Form::Quoted('\''), Form::Word];
+const SINGLE_FORMS: [Form; 3] = [Form::Quoted(b'"'), Form::Quoted(b'\''), Form::Word];
 
-/// Characters of which a run is taken from the front of a text.
+/// Bytes of which a run is taken from the front of a text.
 #[derive(Clone, Copy)]
 pub(crate) enum Run {
     /// White space.
     White,
-    /// Characters of a name.
+    /// Bytes of a name.
     Name,
-    /// Characters of a value without quotes.
+    /// Bytes of a value without quotes.
     Bare,
     /// All but white space.
     Word,
     /// All but this quote.
-    Until(char),
+    Until(u8),
 }
 
 /// An item that was found at the front of a text, and what follows it.
 #[derive(Clone, Copy)]
 pub(crate) struct Found<'t> {
-    pub(crate) name: Option<&'t [char]>,
-    pub(crate) value: &'t [char],
-    pub(crate) rest: &'t [char],
+    pub(crate) name: Option<&'t [u8]>,
+    pub(crate) value: &'t [u8],
+    pub(crate) rest: &'t [u8],
 }
 
 /// White space: a tab, a line break of any kind, or a space.
-fn is_white(c: char) -> bool
-    ensures { result ≡ is_white c }
+fn is_white(byte: u8) -> bool
+    ensures { result ≡ is_white byte }
 {
-    matches!(c, '\t'..='\r' | ' ')
+    matches!(byte, b'\t'..=b'\r' | b' ')
 }
 
-/// A character of a name.
-fn is_name_char(c: char) -> bool
-    ensures { result ≡ is_name_byte c }
+/// A byte of a value without quotes.
+fn is_bare_char(byte: u8) -> bool
+    ensures { result ≡ is_bare_char byte }
 {
-    c.is_ascii_alphanumeric() || c == '_' || c == '-'
+    !(is_white(byte) || byte == b'"' || byte == b'\'')
 }
 
-/// A character of a value without quotes.
-fn is_bare_char(c: char) -> bool
-    ensures { result ≡ is_bare_char c }
-{
-    !(is_white(c) || c == '"' || c == '\'')
-}
-
-/// Whether a character belongs to a run.
-fn belongs(run: Run, c: char) -> bool
-    ensures { result ≡ belongs run c }
+/// Whether a byte belongs to a run.
+fn belongs(run: Run, byte: u8) -> bool
+    ensures { result ≡ belongs run byte }
 {
     match run {
-        Run::White => is_white(c),
-        Run::Name => is_name_char(c),
-        Run::Bare => is_bare_char(c),
-        Run::Word => !is_white(c),
-        Run::Until(quote) => c != quote,
+        Run::White => is_white(byte),
+        Run::Name => is_name_byte(byte),
+        Run::Bare => is_bare_char(byte),
+        Run::Word => !is_white(byte),
+        Run::Until(quote) => byte != quote,
     }
 }
 
-/// How many characters of a run stand at the front.
-fn run_len(run: Run, text: &[char]) -> usize
+/// How many bytes of a run stand at the front.
+fn run_len(run: Run, text: &[u8]) -> usize
     ensures value { result ≡ prefix_len (belongs run) text.now }
     ensures within { result ≤ length text.now }
 {
-    for (len, c) in text.iter().enumerate() {
-        if !belongs(run, *c) {
+    for (len, byte) in text.iter().enumerate() {
+        if !belongs(run, *byte) {
             return len;
         }
     }
@@ -95,15 +91,15 @@ fn run_len(run: Run, text: &[char]) -> usize
 }
 
 /// What follows the white space at the front.
-pub(crate) fn skip_white(text: &[char]) -> &[char]
+pub(crate) fn skip_white(text: &[u8]) -> &[u8]
     ensures value { result.now ≡ skip_white text.now }
     ensures within { length result.now ≤ length text.now }
 {
     &text[run_len(Run::White, text)..]
 }
 
-/// What follows this character at the front.
-fn after_char(c: char, text: &[char]) -> Option<&[char]>
+/// What follows this byte at the front.
+fn after_char(c: u8, text: &[u8]) -> Option<&[u8]>
     ensures value { option_map (λ x. x.now) result ≡ after_char c text.now }
     ensures shorter { IfSome result (λ rest. length rest.now < length text.now) }
 {
@@ -114,7 +110,7 @@ fn after_char(c: char, text: &[char]) -> Option<&[char]>
 }
 
 /// Whether the end or white space comes next.
-fn is_ended(text: &[char]) -> bool
+fn is_ended(text: &[u8]) -> bool
     ensures { result ≡ is_ended text.now }
 {
     match text {
@@ -124,7 +120,7 @@ fn is_ended(text: &[char]) -> bool
 }
 
 /// The front of this length and what follows, unless the length is 0.
-fn split(text: &[char], len: usize) -> Option<(&[char], &[char])>
+fn split(text: &[u8], len: usize) -> Option<(&[u8], &[u8])>
     requires { len ≤ length text.now }
     ensures value { option_map pair_now result
         ≡ only_if (nat_lt 0 len) (take len text.now, drop len text.now) }
@@ -138,7 +134,7 @@ fn split(text: &[char], len: usize) -> Option<(&[char], &[char])>
 
 /// What stands between two quotes at the front, and what follows.
 #[tactic(auto, unfolding(crate::specs::Items::quoted_at))]
-fn quoted_at(quote: char, text: &[char]) -> Option<(&[char], &[char])>
+fn quoted_at(quote: u8, text: &[u8]) -> Option<(&[u8], &[u8])>
     ensures value { option_map pair_now result ≡ quoted_at quote text.now }
     ensures shorter { IfSome result (λ x. length x.1.now < length text.now) }
 {
@@ -150,7 +146,7 @@ fn quoted_at(quote: char, text: &[char]) -> Option<(&[char], &[char])>
 
 /// A value of the form at the front, and what follows.
 #[tactic(auto, unfolding(crate::specs::Items::run_at))]
-fn spelled_at(form: Form, text: &[char]) -> Option<(&[char], &[char])>
+fn spelled_at(form: Form, text: &[u8]) -> Option<(&[u8], &[u8])>
     ensures value { option_map pair_now result ≡ spelled_at form text.now }
     ensures shorter { IfSome result (λ x. length x.1.now < length text.now) }
 {
@@ -163,7 +159,7 @@ fn spelled_at(form: Form, text: &[char]) -> Option<(&[char], &[char])>
 
 /// The same, with the end or white space after it.
 #[tactic(auto, unfolding(crate::specs::Items::value_at))]
-fn value_at(form: Form, text: &[char]) -> Option<(&[char], &[char])>
+fn value_at(form: Form, text: &[u8]) -> Option<(&[u8], &[u8])>
     ensures value { option_map pair_now result ≡ value_at form text.now }
     ensures shorter { IfSome result (λ x. length x.1.now < length text.now) }
 {
@@ -177,7 +173,7 @@ fn value_at(form: Form, text: &[char]) -> Option<(&[char], &[char])>
 
 /// A value alone at the front.
 #[tactic(auto, unfolding(crate::specs::Items::single_at))]
-fn single_at(form: Form, text: &[char]) -> Option<Found<'_>>
+fn single_at(form: Form, text: &[u8]) -> Option<Found<'_>>
     ensures value { option_map item_now result ≡ single_at form text.now }
     ensures shorter { IfSome result (λ it. length it.rest.now < length text.now) }
 {
@@ -190,7 +186,7 @@ fn single_at(form: Form, text: &[char]) -> Option<Found<'_>>
 }
 
 /// A value of this name at the front, in the first of the forms that fits.
-fn first_valued<'t>(name: &'t [char], forms: &[Form], text: &'t [char]) -> Option<Found<'t>>
+fn first_valued<'t>(name: &'t [u8], forms: &[Form], text: &'t [u8]) -> Option<Found<'t>>
     ensures value { option_map item_now result ≡ first_of (λ form. option_map
         (λ v. record { name = Some name.now; value = v.0; rest = v.1 }) (value_at form text.now)) forms.now }
     ensures shorter { IfSome result (λ it. length it.rest.now < length text.now) }
@@ -209,7 +205,7 @@ fn first_valued<'t>(name: &'t [char], forms: &[Form], text: &'t [char]) -> Optio
 
 /// A name at the front, and what follows.
 #[tactic(auto, unfolding(crate::specs::Items::run_at))]
-fn name_at(text: &[char]) -> Option<(&[char], &[char])>
+fn name_at(text: &[u8]) -> Option<(&[u8], &[u8])>
     ensures value { option_map pair_now result ≡ run_at is_name_byte text.now }
     ensures shorter { IfSome result (λ x. length x.1.now < length text.now) }
 {
@@ -217,17 +213,17 @@ fn name_at(text: &[char]) -> Option<(&[char], &[char])>
 }
 
 /// `name = value` at the front, in the first of the forms that fits. The name is read once for all forms.
-fn first_named<'t>(forms: &[Form], text: &'t [char]) -> Option<Found<'t>>
+fn first_named<'t>(forms: &[Form], text: &'t [u8]) -> Option<Found<'t>>
     ensures value { option_map item_now result ≡ first_of (λ form. named_at form text.now) forms.now }
     ensures shorter { IfSome result (λ it. length it.rest.now < length text.now) }
 {
     let (name, rest) = name_at(text)?;
-    let rest = after_char('=', skip_white(rest))?;
+    let rest = after_char(b'=', skip_white(rest))?;
     first_valued(name, forms, skip_white(rest))
 }
 
 /// A value alone at the front, in the first of the forms that fits.
-fn first_single<'t>(forms: &[Form], text: &'t [char]) -> Option<Found<'t>>
+fn first_single<'t>(forms: &[Form], text: &'t [u8]) -> Option<Found<'t>>
     ensures value { option_map item_now result ≡ first_of (λ form. single_at form text.now) forms.now }
     ensures shorter { IfSome result (λ it. length it.rest.now < length text.now) }
 {
@@ -241,7 +237,7 @@ fn first_single<'t>(forms: &[Form], text: &'t [char]) -> Option<Found<'t>>
 
 /// The item at the front of a text: the first of the six forms that fits.
 #[tactic(auto, unfolding(crate::specs::Items::item_at))]
-pub(crate) fn item_at(text: &[char]) -> Option<Found<'_>>
+pub(crate) fn item_at(text: &[u8]) -> Option<Found<'_>>
     ensures value { option_map item_now result ≡ item_at text.now }
     ensures shorter { IfSome result (λ it. length it.rest.now < length text.now) }
 {

@@ -2,12 +2,13 @@
 //! defaults of a handler (shortcode_atts).
 #![tactic(auto)]
 
-ghost use Rattle.std.specs.Prelude.{◌≡◌, ℕ, List, [], ◌∷◌, ◌++◌, map, option_map, slice_get};
+ghost use Rattle.std.specs.Prelude.{◌≡◌, ℕ, List, [], ◌∷◌, ◌++◌, map, option_map, slice_get, fold, chars};
 ghost use Rattle.std.specs.Prelude.{string_bytes, unwrap_or, Some, None, IfOk, OnOk, true, false};
 ghost use Rattle.std.specs.List.{All};
+ghost use Rattle.std.specs.Str.{IsUtf8};
 ghost use Rattle.shortcode_atts.specs.Attributes.{Attributes, attributes, add, add_under, value_of};
 ghost use Rattle.shortcode_atts.specs.Attributes.{pair_or, with_defaults, no_attributes, pair_bytes};
-ghost use Rattle.shortcode_atts.specs.Found.{item_now, pair_now};
+ghost use Rattle.shortcode_atts.specs.Found.{item_now, pair_now, spelled, IsText};
 ghost use Rattle.shortcode_atts.specs.Items.{Item, IsItems, items_of, is_blank, begins_blank, spaced};
 
 use indexmap::IndexMap;
@@ -20,7 +21,7 @@ mod values;
 
 use items::{Found, item_at, skip_white};
 pub use name_byte::is_name_byte;
-use values::{lowered, meaning, plain_chars};
+use values::{is_plain, lowered, meaning, spaced};
 
 /// The attributes of a shortcode: values under names, each name once, and values without a name, each in the order of
 /// the text (Shortcode API, Handlers). Names are in lower case.
@@ -64,8 +65,10 @@ impl Atts {
     }
 
     /// Puts a value under a name: a name that is there keeps its place and takes the value.
-    fn put(&mut self, alloc: Global, name: &[char], value: &[char]) -> Result<(), AllocError>
-        ensures { OnOk result (self.new ≡ add_under (Some name.now) value.now self.old) }
+    fn put(&mut self, alloc: Global, name: &[u8], value: &[u8]) -> Result<(), AllocError>
+        requires name { IsUtf8 name.now }
+        requires value { IsUtf8 value.now }
+        ensures { OnOk result (self.new ≡ add_under (Some (chars name.now)) (chars value.now) self.old) }
     {
         let name = lowered(alloc, name)?;
         let value = meaning(alloc, value)?;
@@ -74,8 +77,9 @@ impl Atts {
     }
 
     /// Adds a value without a name, unless nothing is written.
-    fn push(&mut self, alloc: Global, value: &[char]) -> Result<(), AllocError>
-        ensures { OnOk result (self.new ≡ add_under None value.now self.old) }
+    fn push(&mut self, alloc: Global, value: &[u8]) -> Result<(), AllocError>
+        requires { IsUtf8 value.now }
+        ensures { OnOk result (self.new ≡ add_under None (chars value.now) self.old) }
     {
         if !value.is_empty() {
             self.values.push(meaning(alloc, value)?)?;
@@ -85,7 +89,8 @@ impl Atts {
 
     /// Adds an item.
     fn add(&mut self, alloc: Global, found: &Found) -> Result<(), AllocError>
-        ensures { OnOk result (self.new ≡ add self.old (item_now found.now)) }
+        requires { IsText (item_now found.now) }
+        ensures { OnOk result (self.new ≡ add self.old (spelled (item_now found.now))) }
     {
         match found.name {
             Some(name) => self.put(alloc, name, found.value),
@@ -159,6 +164,19 @@ impl Atts {
     }
 }
 
+/// The attributes that a text without blanks spells.
+fn of_plain(alloc: Global, text: &str) -> Result<Atts, AllocError>
+    ensures { IfOk result (λ atts. atts ≡ fold add no_attributes (items_of (chars text.now))) }
+{
+    let mut rest = text.as_bytes();
+    let mut atts = Atts::new(alloc);
+    'items: while let Some(found) = item_at(skip_white(rest)) {
+        atts.add(alloc, &found)?;
+        rest = found.rest;
+    }
+    Ok(atts)
+}
+
 /// The attributes that a text spells, the part of a shortcode between its name and its end (Shortcode API,
 /// shortcode_parse_atts): `name="value"`, `name='value'`, `name=value`, `"value"`, `'value'` and `value`.
 ///
@@ -166,14 +184,12 @@ impl Atts {
 pub fn parse(alloc: Global, text: &str) -> Result<Atts, AllocError>
     ensures { IfOk result (λ atts. atts ≡ attributes text.now) }
 {
-    let characters = plain_chars(alloc, text)?;
-    let mut rest: &[char] = &characters;
-    let mut atts = Atts::new(alloc);
-    'items: while let Some(found) = item_at(skip_white(rest)) {
-        atts.add(alloc, &found)?;
-        rest = found.rest;
+    // Few texts have a blank: the others are not copied.
+    if is_plain(text) {
+        of_plain(alloc, text)
+    } else {
+        of_plain(alloc, &spaced(alloc, text)?)
     }
-    Ok(atts)
 }
 
 /// A law: a text has one list of items, and one alone (Shortcode API, get_shortcode_atts_regex).

@@ -4,8 +4,8 @@
 //! pieces are found leftmost first, in one pass, each stretch of the text searched once for each thing.
 #![tactic(auto)]
 
-ghost use Rattle.std.specs.Prelude.{◌≡◌, ℕ, List, [], slice_range, IfOk, IsTrue};
-ghost use Rattle.std.specs.List.{AllByRecursion};
+ghost use Rattle.std.specs.Prelude.{◌≡◌, ◌≢◌, ◌↔◌, ℕ, List, [], slice_range, IfOk, IsTrue};
+ghost use Rattle.std.specs.List.{All, AllByRecursion};
 ghost use Rattle.shortcode_scan.specs.Spans.{IsSpanOf, HasSpansOf};
 ghost use Rattle.shortcode_scan.specs.Pieces.{IsPieces, pieces_of, joined};
 ghost use Rattle.shortcode_scan.specs.Live.{live};
@@ -54,9 +54,10 @@ pub enum Piece {
 /// opens.
 const FEW_NAMES: usize = 8;
 
-/// Whether the text has no `[`, so that it opens no name, whichever there are.
+/// Whether the text has no `[`. Such a text opens no name, whichever there are.
 pub fn opens_nothing(text: &str) -> bool
-    ensures { IsTrue result → (names : List (List ℕ)) → live names text.now ≡ [] }
+    ensures none_live { IsTrue result → (names : List (List ℕ)) → live names text.now ≡ [] }
+    ensures no_bracket { IsTrue result ↔ All (λ byte. byte ≢ 91) text.now }
 {
     opening_from(text.as_bytes(), 0).is_none()
 }
