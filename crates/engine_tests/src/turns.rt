@@ -12,7 +12,7 @@ use hook_machine::RunFault;
 use site_records::{Found, FoundKind, Post, PostDate, PostKind, PostStatus};
 use std::alloc::{AllocError, Global};
 use template_parts::{Page, PageTurn, Settings};
-use template_trees::default_index;
+use template_trees::{SharedTemplate, default_index};
 
 /// The active plugin, or two with a space between them, the title and content of the one post if there is one, how many
 /// calls a page has, how many turns stop after a callback, and what the next turn gives: a page, or a fault that each
@@ -134,7 +134,7 @@ fn found(alloc: Global, case: &Case) -> Result<Found, AllocError> {
 fn settings(alloc: Global) -> Result<Settings, AllocError> {
     Ok(Settings {
         site_name: Text::empty(alloc),
-        template: default_index(alloc)?,
+        template: SharedTemplate::new(alloc, default_index(alloc)?)?,
         header: None,
         footer: None,
         content: None,

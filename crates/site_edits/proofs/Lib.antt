@@ -1,2 +1,3 @@
+pub mod After
 pub mod Refusals
 pub mod Limits

@@ -20,4 +20,4 @@ abbrev pub setup_of : {S : Type 0} → Site S → Setup S
 setup_of site = site.setup
 
 abbrev pub rows_of : {S : Type 0} → Site S → Rows
-rows_of site = site.tables
+rows_of site = site.stored

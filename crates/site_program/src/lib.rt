@@ -4,11 +4,15 @@
 //! definition `step`; what an input means is `IsReplies`. The plugins come from the program that owns the site.
 #![tactic(auto)]
 
+mod changes;
 mod page;
 mod serve;
 mod settings;
 mod setup;
+mod shared;
 mod site;
+mod stored;
+mod templates;
 
 pub use ends::{EndFault, Reading, Sink, Source, Writing};
 pub use site::Site;

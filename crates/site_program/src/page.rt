@@ -6,8 +6,6 @@ ghost use Rattle.hook_machine.specs.Outcomes.{engine_with};
 ghost use Rattle.hook_machine.specs.Runs.{world_of, IsReady};
 ghost use Rattle.hook_machine.specs.Runs as runs;
 ghost use Rattle.site_replies.specs.Reply.{reply_data};
-ghost use Rattle.permalink_query.specs.Paths.{query_of};
-ghost use Rattle.permalink_query.specs.Found.{found};
 ghost use Rattle.template_parts.specs.Pages.{IsPage, IsRefusedBy};
 ghost use Rattle.site_edits.specs.Faults.{IsReadFault};
 ghost use Rattle.site_edits.specs.Late.{may_be_late};
@@ -15,12 +13,13 @@ ghost use Rattle.site_program.specs.Requests.{request, page_pass, page_of};
 
 use crate::settings::settings_for;
 use crate::setup::Setup;
+use crate::stored::Stored;
+use crate::templates::Templates;
 use callback_store::{Plugins, Stated};
 use content_cache::PieceCache;
 use hook_changes::Text;
 use hook_machine::{Run, RunFault};
-use permalink_query::{FindFault, Found, find, read};
-use post_tables::Tables;
+use permalink_query::Found;
 use site_edits::StoreFault;
 use site_replies::{Refusal, SiteReply};
 use std::alloc::Global;
@@ -37,46 +36,48 @@ impl<'p, S: Stated> Setup<'p, S> {
     #[tactic(auto, unfolding(crate::specs::Step::got))]
     pub(crate) fn get(
         &self,
-        tables: &mut Tables,
+        stored: &mut Stored,
         path: &str,
         cache: &mut PieceCache,
     ) -> Result<SiteReply, StoreFault>
-        ensures ok { IfOk result (λ reply. (tables.new, reply_data reply)
-            ≡ got (engine_of S.says S.number self.now) (calls_of self.now) tables.old path.now) }
-        ensures err { OnErr result (tables.new ≡ tables.old) }
-        ensures late { IfErr result (λ fault. fault ≡ StoreFault.Store → may_be_late tables.old.step_limit
-            (got (engine_of S.says S.number self.now) (calls_of self.now) tables.old path.now).1
+        ensures ok { IfOk result (λ reply. (stored.new, reply_data reply)
+            ≡ got (engine_of S.says S.number self.now) (calls_of self.now) stored.old path.now) }
+        ensures err { OnErr result (stored.new ≡ stored.old) }
+        ensures late { IfErr result (λ fault. fault ≡ StoreFault.Store → may_be_late stored.old.step_limit
+            (got (engine_of S.says S.number self.now) (calls_of self.now) stored.old path.now).1
             ≡ true) }
     {
         if path.len() > MAX_PATH {
             return Ok(SiteReply::Refused(Refusal::TooLarge));
         }
-        self.page_at(tables, path, cache)
+        self.page_at(stored, path, cache)
     }
 
     /// The page of a path that is not too long.
     fn page_at(
         &self,
-        tables: &mut Tables,
+        stored: &mut Stored,
         path: &str,
         cache: &mut PieceCache,
     ) -> Result<SiteReply, StoreFault>
         ensures ok { IfOk result (λ reply. reply_data reply ≡ request
-            (engine_of S.says S.number self.now) (calls_of self.now) tables.old path.now) }
-        ensures same { tables.new ≡ tables.old }
-        ensures stopped { IfErr result (IsReadFault tables.old.step_limit) }
+            (engine_of S.says S.number self.now) (calls_of self.now) stored.old path.now) }
+        ensures same { stored.new ≡ stored.old }
+        ensures stopped { IfErr result (IsReadFault stored.old.step_limit) }
     {
-        let options = tables.options()?;
-        let found = found_by(self.alloc, tables, path, options.as_slice())?;
-        let templates = tables.templates()?;
-        let active = tables.active()?;
-        self.page_reply(
+        let options = stored.options()?;
+        let found = stored.found(self.alloc, path, options.as_slice())?;
+        let active = stored.active()?;
+        let mut templates = stored.take_templates(self.alloc)?;
+        let reply = self.page_reply(
             found,
             options.as_slice(),
-            templates.as_slice(),
+            &mut templates,
             active.as_slice(),
             cache,
-        )
+        );
+        stored.keep_templates(templates);
+        reply
     }
 
     /// The reply to a request that found this.
@@ -84,13 +85,14 @@ impl<'p, S: Stated> Setup<'p, S> {
         &self,
         found: Found,
         options: &[(Text, Text)],
-        templates: &[(Text, Text)],
+        templates: &mut Templates,
         active: &[Text],
         cache: &mut PieceCache,
     ) -> Result<SiteReply, StoreFault>
         ensures ok { IfOk result (λ reply. reply_data reply ≡ page_of (engine_of S.says S.number self.now)
-            (calls_of self.now) found options.now templates.now active.now) }
+            (calls_of self.now) found options.now templates.old active.now) }
         ensures memory { IfErr result (λ fault. fault ≡ StoreFault.OutOfMemory) }
+        ensures same { templates.new ≡ templates.old }
     {
         match self.page(found, options, templates, active, cache) {
             Ok((status, body)) => Ok(SiteReply::Page { status, body }),
@@ -105,15 +107,16 @@ impl<'p, S: Stated> Setup<'p, S> {
         &self,
         found: Found,
         options: &[(Text, Text)],
-        templates: &[(Text, Text)],
+        templates: &mut Templates,
         active: &[Text],
         cache: &mut PieceCache,
     ) -> Result<(u16, Vec<u8>), RunFault>
         ensures status { IfOk result (λ page. page.0 ≡ found.status) }
         ensures ok { IfOk result (λ page. IsPage (page_pass (engine_of S.says S.number self.now)
-            (calls_of self.now) found options.now templates.now active.now) page.1.items) }
+            (calls_of self.now) found options.now templates.old active.now) page.1.items) }
         ensures err { IfErr result (IsRefusedBy (page_pass (engine_of S.says S.number self.now)
-            (calls_of self.now) found options.now templates.now active.now)) }
+            (calls_of self.now) found options.now templates.old active.now)) }
+        ensures same { templates.new ≡ templates.old }
     {
         let run = loaded_run(self.alloc, self.plugins, active, options, self.calls)?;
         let Ok(settings) = settings_for(self.alloc, found.kind, options, templates) else {
@@ -146,25 +149,5 @@ fn loaded_run<'p, S: Stated>(
             run.end();
             Err(fault)
         }
-    }
-}
-
-/// What a path finds in a site with these options.
-fn found_by(
-    alloc: Global,
-    tables: &mut Tables,
-    path: &str,
-    options: &[(Text, Text)],
-) -> Result<Found, StoreFault>
-    ensures found { IfOk result (λ f.
-        f ≡ found tables.old.posts options.now (query_of path.now)) }
-    ensures same { tables.new ≡ tables.old }
-    ensures stopped { IfErr result (IsReadFault tables.old.step_limit) }
-{
-    let query = read(alloc, path)?;
-    match find(alloc, tables, &query, options) {
-        Ok(found) => Ok(found),
-        Err(FindFault::OutOfMemory) => Err(StoreFault::OutOfMemory),
-        Err(FindFault::Store) => Err(StoreFault::Store),
     }
 }

@@ -3,11 +3,11 @@ ghost use Rattle.std.specs.Prelude.{◌≡◌, ◌++◌, OnOk, IfErr};
 
 use crate::setup::Setup;
 use crate::site::Site;
+use crate::stored::Stored;
 use callback_store::Stated;
 use content_cache::PieceCache;
 use ends::{Sink, Source};
 use memchr::memchr;
-use post_tables::Tables;
 use site_replies::ServeFault;
 
 // The most lines that are served.
@@ -64,7 +64,7 @@ impl<'p, S: Stated> Site<'p, S> {
     {
         let Site {
             setup,
-            tables,
+            stored,
             cache,
         } = self;
         let mut chunk = [0u8; CHUNK];
@@ -78,10 +78,10 @@ impl<'p, S: Stated> Site<'p, S> {
             if count == 0 {
                 break;
             }
-            setup.take_chunk(tables, &mut held, &mut left, &chunk[..count], writer, cache)?;
+            setup.take_chunk(stored, &mut held, &mut left, &chunk[..count], writer, cache)?;
         }
         if !held.is_empty() {
-            setup.reply_to(tables, &held, writer, cache)?;
+            setup.reply_to(stored, &held, writer, cache)?;
         }
         Ok(())
     }
@@ -100,7 +100,7 @@ impl<'p, S: Stated> Setup<'p, S> {
     // them.
     fn take_chunk<W: Sink>(
         &self,
-        tables: &mut Tables,
+        stored: &mut Stored,
         held: &mut Vec<u8>,
         left: &mut u32,
         chunk: &[u8],
@@ -111,22 +111,22 @@ impl<'p, S: Stated> Setup<'p, S> {
         requires line { IsLine held.old.items }
         requires room { 0 < length held.old.items → 0 < left.old }
         ensures ok { OnOk result (Takes (steps_of S.says S.number self.now)
-            tables.old left.old (held.old.items ++ chunk.now)
-            (W.contents writer.old) (W.contents writer.new) tables.new left.new held.new.items) }
+            stored.old left.old (held.old.items ++ chunk.now)
+            (W.contents writer.old) (W.contents writer.new) stored.new left.new held.new.items) }
         ensures line { OnOk result (IsLine held.new.items) }
         ensures room { OnOk result (0 < length held.new.items → 0 < left.new) }
         ensures err { IfErr result (Faults (steps_of S.says S.number self.now)
-            tables.old left.old (held.old.items ++ chunk.now)
-            (W.contents writer.old) (W.contents writer.new) tables.new) }
+            stored.old left.old (held.old.items ++ chunk.now)
+            (W.contents writer.old) (W.contents writer.new) stored.new) }
         ensures failed { W.has_failed writer.new ≡ is_write result }
-        ensures limit { tables.new.step_limit ≡ tables.old.step_limit }
+        ensures limit { stored.new.step_limit ≡ stored.old.step_limit }
     {
         let mut rest = chunk;
         while let Some(end) = memchr(b'\n', rest) {
             if *left == 0 || end > MAX_LINE - held.len() {
                 return Err(ServeFault::TooMuchInput);
             }
-            self.finish_line(tables, held, &rest[..end], writer, cache)?;
+            self.finish_line(stored, held, &rest[..end], writer, cache)?;
             *left -= 1;
             rest = &rest[end + 1..];
         }
@@ -142,7 +142,7 @@ impl<'p, S: Stated> Setup<'p, S> {
     // Carries out the line that ends with this part, and holds nothing more.
     fn finish_line<W: Sink>(
         &self,
-        tables: &mut Tables,
+        stored: &mut Stored,
         held: &mut Vec<u8>,
         part: &[u8],
         writer: &mut W,
@@ -152,23 +152,23 @@ impl<'p, S: Stated> Setup<'p, S> {
         requires short { length (held.old.items ++ part.now) ≤ 1048576 }
         ensures ok { OnOk result ((reply : ReplyData)
             × IsReply (steps_of S.says S.number self.now)
-            tables.old (held.old.items ++ part.now) reply tables.new
+            stored.old (held.old.items ++ part.now) reply stored.new
             × Appends (W.contents writer.old) (W.contents writer.new) (bytes_of reply)) }
         ensures empty { OnOk result (held.new.items ≡ []) }
         ensures write { IsErrOf result ServeFault.Write → FailsAt (steps_of S.says S.number self.now)
-            tables.old (held.old.items ++ part.now)
-            (W.contents writer.old) (W.contents writer.new) tables.new }
+            stored.old (held.old.items ++ part.now)
+            (W.contents writer.old) (W.contents writer.new) stored.new }
         ensures memory { IsErrOf result ServeFault.OutOfMemory
-            → (tables.new ≡ tables.old) × (W.contents writer.new ≡ W.contents writer.old) }
+            → (stored.new ≡ stored.old) × (W.contents writer.new ≡ W.contents writer.old) }
         ensures only { IfErr result (λ e. (e ≡ ServeFault.Write) ⊎ (e ≡ ServeFault.OutOfMemory)) }
         ensures failed { W.has_failed writer.new ≡ is_write result }
-        ensures limit { tables.new.step_limit ≡ tables.old.step_limit }
+        ensures limit { stored.new.step_limit ≡ stored.old.step_limit }
     {
         if held.is_empty() {
-            return self.reply_to(tables, part, writer, cache);
+            return self.reply_to(stored, part, writer, cache);
         }
         hold(held, part)?;
-        self.reply_to(tables, held, writer, cache)?;
+        self.reply_to(stored, held, writer, cache)?;
         held.clear();
         Ok(())
     }
@@ -176,22 +176,22 @@ impl<'p, S: Stated> Setup<'p, S> {
     // Carries out one line, and writes its reply.
     fn reply_to<W: Sink>(
         &self,
-        tables: &mut Tables,
+        stored: &mut Stored,
         line: &[u8],
         writer: &mut W,
         cache: &mut PieceCache,
     ) -> Result<(), ServeFault>
         requires { W.has_failed writer.old ≡ false }
         ensures ok { OnOk result ((reply : ReplyData)
-            × IsReply (steps_of S.says S.number self.now) tables.old line.now reply tables.new
+            × IsReply (steps_of S.says S.number self.now) stored.old line.now reply stored.new
             × Appends (W.contents writer.old) (W.contents writer.new) (bytes_of reply)) }
         ensures err { OnErr result (FailsAt (steps_of S.says S.number self.now)
-            tables.old line.now (W.contents writer.old) (W.contents writer.new) tables.new) }
+            stored.old line.now (W.contents writer.old) (W.contents writer.new) stored.new) }
         ensures fault { IfErr result (λ e. e ≡ ServeFault.Write) }
         ensures failed { W.has_failed writer.new ≡ is_err result }
-        ensures limit { tables.new.step_limit ≡ tables.old.step_limit }
+        ensures limit { stored.new.step_limit ≡ stored.old.step_limit }
     {
-        let reply = self.command(tables, line, cache);
+        let reply = self.command(stored, line, cache);
         reply.write_to(writer)
     }
 }

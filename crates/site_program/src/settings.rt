@@ -2,29 +2,31 @@
 ghost use Rattle.std.specs.Prelude.{◌≡◌, [], codes, IfOk, map, unwrap_or};
 ghost use Rattle.site_records.specs.Texts.{text_named};
 ghost use Rattle.template_parts.specs.Choice.{template_choice};
-ghost use Rattle.site_program.specs.Requests.{template_named, template_for, settings_for};
+ghost use Rattle.site_program.specs.Requests.{template_for, settings_for};
 
-use hook_changes::{Listed, Text};
+use crate::templates::Templates;
+use hook_changes::Text;
 use site_records::{FoundKind, text_named};
 use std::alloc::{AllocError, Global};
-use template_parts::{Settings, Template, choose};
-use template_trees::{default_index, read_stored};
+use template_parts::{Settings, choose};
+use template_trees::{SharedTemplate, default_index};
 
 /// What a site with these options and templates says of a page of what was found.
 pub(crate) fn settings_for(
     alloc: Global,
     kind: FoundKind,
     options: &[(Text, Text)],
-    templates: &[(Text, Text)],
+    templates: &mut Templates,
 ) -> Result<Settings, AllocError>
-    ensures { IfOk result (λ settings. settings ≡ settings_for kind options.now templates.now) }
+    ensures settings { IfOk result (λ settings. settings ≡ settings_for kind options.now templates.old) }
+    ensures same { templates.new ≡ templates.old }
 {
     Ok(Settings {
         site_name: site_name(alloc, options)?,
         template: template_for(alloc, kind, templates)?,
-        header: template_named(alloc, "header", templates)?,
-        footer: template_named(alloc, "footer", templates)?,
-        content: template_named(alloc, "content", templates)?,
+        header: templates.named(alloc, "header")?,
+        footer: templates.named(alloc, "footer")?,
+        content: templates.named(alloc, "content")?,
     })
 }
 
@@ -42,37 +44,14 @@ fn site_name(alloc: Global, options: &[(Text, Text)]) -> Result<Text, AllocError
 fn template_for(
     alloc: Global,
     kind: FoundKind,
-    templates: &[(Text, Text)],
-) -> Result<Template, AllocError>
-    ensures { IfOk result (λ template. template ≡ template_for kind templates.now) }
+    templates: &mut Templates,
+) -> Result<SharedTemplate, AllocError>
+    ensures template { IfOk result (λ template. template ≡ template_for kind templates.old) }
+    ensures same { templates.new ≡ templates.old }
 {
-    let names = names_of(alloc, templates)?;
-    match template_named(alloc, choose(kind, names.as_slice()), templates)? {
+    let chosen = choose(kind, templates.names());
+    match templates.named(alloc, chosen)? {
         Some(template) => Ok(template),
-        None => default_index(alloc),
-    }
-}
-
-fn names_of(alloc: Global, templates: &[(Text, Text)]) -> Result<Listed<Text>, AllocError>
-    ensures { IfOk result (λ names. names ≡ map (λ t. t.0) templates.now) }
-{
-    let mut names = Listed::empty(alloc);
-    for (name, _) in templates {
-        names.push(name.clone()?)?;
-    }
-    Ok(names)
-}
-
-/// The template of that name, if one is stored.
-fn template_named(
-    alloc: Global,
-    name: &str,
-    templates: &[(Text, Text)],
-) -> Result<Option<Template>, AllocError>
-    ensures { IfOk result (λ template. template ≡ template_named name.now templates.now) }
-{
-    match text_named(templates, name) {
-        Some(text) => read_stored(alloc, name, text),
-        None => Ok(None),
+        None => SharedTemplate::new(alloc, default_index(alloc)?),
     }
 }

@@ -5,11 +5,12 @@ ghost use Rattle.site_commands.specs.Asked.{asked_by};
 ghost use Rattle.site_replies.specs.Reply.{reply_data};
 
 use crate::setup::Setup;
+use crate::stored::Stored;
 use callback_store::{Plugins, Stated};
 use content_cache::PieceCache;
 use post_tables::Tables;
 use site_commands::{Command, read_command, read_line};
-use site_edits::{StoreFault, delete, edit, import, put, set_active, set_option, set_template};
+use site_edits::StoreFault;
 use site_replies::{Refusal, SiteReply};
 use std::alloc::Global;
 
@@ -19,7 +20,7 @@ use std::alloc::Global;
 #[derive(Drop)]
 pub struct Site<'p, S> {
     pub(crate) setup: Setup<'p, S>,
-    pub(crate) tables: Tables,
+    pub(crate) stored: Stored,
     /// The pieces of the texts that its pages replaced last. It shows in no contract.
     pub(crate) cache: PieceCache,
 }
@@ -56,7 +57,7 @@ impl<'p, S: Stated> Site<'p, S> {
         };
         Ok(Site {
             setup,
-            tables,
+            stored: Stored::new(tables),
             cache,
         })
     }
@@ -67,7 +68,7 @@ impl<'p, S: Stated> Site<'p, S> {
         ensures rows { rows_of self.new ≡ record (rows_of self.old) { step_limit = limit } }
         ensures setup { setup_of self.new ≡ setup_of self.old }
     {
-        self.tables.limit_steps(limit);
+        self.stored.limit_steps(limit);
     }
 
     /// Carries out one line, given without its newline. A line that is no command is refused as such, and a refused
@@ -81,7 +82,7 @@ impl<'p, S: Stated> Site<'p, S> {
         ensures limit { (rows_of self.new).step_limit ≡ (rows_of self.old).step_limit }
         ensures setup { setup_of self.new ≡ setup_of self.old }
     {
-        self.setup.command(&mut self.tables, line, &mut self.cache)
+        self.setup.command(&mut self.stored, line, &mut self.cache)
     }
 }
 
@@ -93,19 +94,19 @@ impl<'p, S: Stated> Setup<'p, S> {
     ghost use Rattle.site_edits.specs.Late.{may_be_late};
     ghost use Rattle.site_program.specs.Step.{IsReply, steps_of, carried_out};
 
-    /// Carries out one line over the tables.
+    /// Carries out one line over what is stored.
     pub(crate) fn command(
         &self,
-        tables: &mut Tables,
+        stored: &mut Stored,
         line: &[u8],
         cache: &mut PieceCache,
     ) -> SiteReply
         ensures replies { IsReply (steps_of S.says S.number self.now)
-            tables.old line.now (reply_data result) tables.new }
-        ensures refused { (r : Refusal) → reply_data result ≡ refused r → tables.new ≡ tables.old }
-        ensures limit { tables.new.step_limit ≡ tables.old.step_limit }
+            stored.old line.now (reply_data result) stored.new }
+        ensures refused { (r : Refusal) → reply_data result ≡ refused r → stored.new ≡ stored.old }
+        ensures limit { stored.new.step_limit ≡ stored.old.step_limit }
     {
-        match self.try_command(tables, line, cache) {
+        match self.try_command(stored, line, cache) {
             Ok(reply) => reply,
             Err(StoreFault::OutOfMemory) => SiteReply::Refused(Refusal::OutOfMemory),
             Err(StoreFault::Store) => SiteReply::Refused(Refusal::Store),
@@ -115,22 +116,22 @@ impl<'p, S: Stated> Setup<'p, S> {
     #[tactic(auto, unfolding(crate::specs::Step::step))]
     fn try_command(
         &self,
-        tables: &mut Tables,
+        stored: &mut Stored,
         line: &[u8],
         cache: &mut PieceCache,
     ) -> Result<SiteReply, StoreFault>
         ensures ok { IfOk result (λ reply.
-            (tables.new, reply_data reply) ≡ steps_of S.says S.number self.now tables.old line.now) }
-        ensures err { OnErr result (tables.new ≡ tables.old) }
+            (stored.new, reply_data reply) ≡ steps_of S.says S.number self.now stored.old line.now) }
+        ensures err { OnErr result (stored.new ≡ stored.old) }
         ensures late { IfErr result (λ fault. fault ≡ StoreFault.Store
-            → may_be_late tables.old.step_limit
-            (steps_of S.says S.number self.now tables.old line.now).1 ≡ true) }
+            → may_be_late stored.old.step_limit
+            (steps_of S.says S.number self.now stored.old line.now).1 ≡ true) }
     {
         let Some(tree) = read_line(self.alloc, line)? else {
             return Ok(SiteReply::Refused(Refusal::BadCommand));
         };
         match read_command(&tree) {
-            Some(command) => self.carry_out(tables, command, cache),
+            Some(command) => self.carry_out(stored, command, cache),
             None => Ok(SiteReply::Refused(Refusal::BadCommand)),
         }
     }
@@ -138,17 +139,17 @@ impl<'p, S: Stated> Setup<'p, S> {
     /// Carries out a command.
     fn carry_out(
         &self,
-        tables: &mut Tables,
+        stored: &mut Stored,
         command: Command<'_>,
         cache: &mut PieceCache,
     ) -> Result<SiteReply, StoreFault>
-        ensures ok { IfOk result (λ reply. (tables.new, reply_data reply) ≡ carried_out
-            (engine_of S.says S.number self.now) (calls_of self.now) tables.old
+        ensures ok { IfOk result (λ reply. (stored.new, reply_data reply) ≡ carried_out
+            (engine_of S.says S.number self.now) (calls_of self.now) stored.old
             (Some (asked_by command.entry))) }
-        ensures err { OnErr result (tables.new ≡ tables.old) }
+        ensures err { OnErr result (stored.new ≡ stored.old) }
         ensures late { IfErr result (λ fault. fault ≡ StoreFault.Store
-            → may_be_late tables.old.step_limit (carried_out
-            (engine_of S.says S.number self.now) (calls_of self.now) tables.old
+            → may_be_late stored.old.step_limit (carried_out
+            (engine_of S.says S.number self.now) (calls_of self.now) stored.old
             (Some (asked_by command.entry))).1 ≡ true) }
     {
         match command {
@@ -158,21 +159,21 @@ impl<'p, S: Stated> Setup<'p, S> {
                 title,
                 content,
                 date,
-            } => put(tables, kind, status, title, content, date),
+            } => stored.put(kind, status, title, content, date),
             Command::Edit {
                 id,
                 status,
                 title,
                 content,
                 date,
-            } => edit(tables, id, status, title, content, date),
-            Command::Delete { id } => delete(tables, id),
-            Command::Option { name, value } => set_option(tables, name, value),
-            Command::Activate { plugin } => set_active(self.plugins, tables, plugin, true),
-            Command::Deactivate { plugin } => set_active(self.plugins, tables, plugin, false),
-            Command::Template { name, body } => set_template(self.alloc, tables, name, body),
-            Command::Import { site } => import(self.alloc, self.plugins, tables, site),
-            Command::Get { path } => self.get(tables, path, cache),
+            } => stored.edit(id, status, title, content, date),
+            Command::Delete { id } => stored.delete(id),
+            Command::Option { name, value } => stored.set_option(name, value),
+            Command::Activate { plugin } => stored.set_active(self.plugins, plugin, true),
+            Command::Deactivate { plugin } => stored.set_active(self.plugins, plugin, false),
+            Command::Template { name, body } => stored.set_template(self.alloc, name, body),
+            Command::Import { site } => stored.import(self.alloc, self.plugins, site),
+            Command::Get { path } => self.get(stored, path, cache),
         }
     }
 }

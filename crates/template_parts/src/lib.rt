@@ -18,5 +18,5 @@ pub use laws::{
 pub use page::{Page, PageTurn};
 pub use page_escapes::escape_html as escape;
 pub use settings::Settings;
-pub use template_trees::{Element, Item, Node, Part, PostTag, Tag, Template};
+pub use template_trees::{Element, Item, Node, Part, PostTag, SharedTemplate, Tag, Template};
 pub use worked::worked_choices;

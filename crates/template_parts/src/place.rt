@@ -5,7 +5,7 @@ ghost use Rattle.template_parts.specs.Places.{elements_in, template_of, stored_i
 
 use crate::settings::Settings;
 use hook_changes::Listed;
-use template_trees::{Element, Item, Node, Part, Template};
+use template_trees::{Element, Item, Node, Part, SharedTemplate};
 
 /// An action that is fired though no template names it.
 #[derive(Clone, Copy, Debug)]
@@ -96,7 +96,7 @@ fn elements_in(side: Side, node: &Node) -> Option<&Listed<Element>>
 }
 
 /// The template that a site stores for a part, if it does.
-pub(crate) fn template_of(settings: &Settings, part: Part) -> Option<&Template>
+pub(crate) fn template_of(settings: &Settings, part: Part) -> Option<&SharedTemplate>
     ensures { option_map (λ t. t.now) result ≡ template_of settings.entry.now part }
 {
     match part {
@@ -110,7 +110,7 @@ pub(crate) fn template_of(settings: &Settings, part: Part) -> Option<&Template>
 pub(crate) fn stored_item(settings: &Settings, place: Stored) -> Option<&Item>
     ensures { option_map (λ i. i.now) result ≡ stored_item settings.entry.now place }
 {
-    let nodes = settings.template.nodes.as_slice();
+    let nodes = settings.template.nodes();
     match place {
         Stored::Node(at) => node_item(nodes.get(at)?),
         Stored::Element { node, side, at } => {
@@ -119,7 +119,7 @@ pub(crate) fn stored_item(settings: &Settings, place: Stored) -> Option<&Item>
         }
         Stored::Part { part, at } => {
             let template = template_of(settings, part)?;
-            node_item(template.nodes.as_slice().get(at)?)
+            node_item(template.nodes().get(at)?)
         }
     }
 }

@@ -1,6 +1,6 @@
 //! What a site says of its pages.
 use hook_changes::Text;
-use template_trees::Template;
+use template_trees::SharedTemplate;
 
 /// What a page needs of its site, beside the posts that were found.
 #[derive(Drop)]
@@ -8,9 +8,9 @@ pub struct Settings {
     /// The option `blogname`, empty if it isn't set.
     pub site_name: Text,
     /// The template that was chosen for what was found.
-    pub template: Template,
+    pub template: SharedTemplate,
     /// The stored parts. Of a part only the items are printed.
-    pub header: Option<Template>,
-    pub footer: Option<Template>,
-    pub content: Option<Template>,
+    pub header: Option<SharedTemplate>,
+    pub footer: Option<SharedTemplate>,
+    pub content: Option<SharedTemplate>,
 }

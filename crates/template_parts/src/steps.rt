@@ -12,7 +12,7 @@ use crate::settings::Settings;
 use hook_machine::Left;
 use site_records::Post;
 use std::alloc::{AllocError, Global};
-use template_trees::{Element, Node, Part, Template};
+use template_trees::{Element, Node, Part, SharedTemplate};
 
 /// What a page does next: the item at a place, over a post.
 #[derive(Clone, Copy)]
@@ -27,13 +27,13 @@ fn push_nodes(
     places: &mut Vec<Place>,
     settings: &Settings,
     part: Part,
-    template: &Template,
+    template: &SharedTemplate,
 ) -> Result<(), AllocError>
     requires { template_of settings.now part ≡ Some template.now }
     ensures { OnOk result (items_of settings.now places.new.items ≡ items_of settings.now places.old.items
         ++ stored_part_items (Some template.now)) }
 {
-    for at in 0..template.nodes.as_slice().len() {
+    for at in 0..template.nodes().len() {
         places.push(Place::Stored(Stored::Part { part, at }))?;
     }
     Ok(())
@@ -177,7 +177,7 @@ fn push_template(
     ensures { OnOk result (items_left settings.now posts.now steps.new.items ≡ items_left settings.now posts.now
         steps.old.items ++ flat_map (node_items settings.now posts.now) settings.now.template.nodes) }
 {
-    for (at, node) in settings.template.nodes.as_slice().iter().enumerate() {
+    for (at, node) in settings.template.nodes().iter().enumerate() {
         push_node(alloc, steps, settings, posts, at, node)?;
     }
     Ok(())

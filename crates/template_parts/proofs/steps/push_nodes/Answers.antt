@@ -7,7 +7,7 @@ use Rattle.template_parts.proofs.steps.push_nodes.Goals as goal
 pub loop-at-preserved : goal.loop-at-preserved
 loop-at-preserved c =
     let settings = c.args.settings.now in
-    let inside = subst (λ nodes. c.loop-at.at < length nodes) c.as_slice-at-end.ensures c.loop-at-test.true in
+    let inside = subst (λ nodes. c.loop-at.at < length nodes) c.nodes-at-end.ensures c.loop-at-test.true in
     rw c.in_ok-push.ensures.items
     (node_more settings c.args.part c.args.template.now c.loop-at.places.items (items_of settings c.args.places.now.items) c.loop-at.at c.requires inside
     c.loop-at.invariant)

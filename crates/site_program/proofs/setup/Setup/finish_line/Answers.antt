@@ -27,8 +27,8 @@ returns-then-is_empty-clause-write g c =
     let counted = eqb-true _ _ (sym c.is_empty.ensures ∙ c.if-is_empty.true) in
     let same = c.args.held.now.ok.0 in
     let none : c.args.held.now.items ≡ [] = nil_from_length _ (omega (arith, same, counted)) in
-    λ is. let fails = subst (λ r. OnErr r (FailsAt (steps_of g.S.Stated.says g.S.Stated.number c.args.self.now) c.args.tables.now c.args.part.now
-    (g.W.Sink.contents c.args.writer.now) (g.W.Sink.contents c.reply_to.new.writer) c.reply_to.new.tables)) is c.reply_to.ensures.err in
+    λ is. let fails = subst (λ r. OnErr r (FailsAt (steps_of g.S.Stated.says g.S.Stated.number c.args.self.now) c.args.stored.now c.args.part.now
+    (g.W.Sink.contents c.args.writer.now) (g.W.Sink.contents c.reply_to.new.writer) c.reply_to.new.stored)) is c.reply_to.ensures.err in
     rw none fails
 
 pub returns-then-is_empty-clause-memory : goal.returns-then-is_empty-clause-memory

@@ -20,7 +20,7 @@ returns-clause-ok g c =
     let run = c.in_ok-run.ensures in
     let begin = c.begin.ensures in
     let work =
-    work_is engine (calls_of c.args.self.now) c.args.found c.args.options.now c.args.templates.now c.args.active.now _ _ _ _ run.engine c.in-Ok.ensures refl
+    work_is engine (calls_of c.args.self.now) c.args.found c.args.options.now c.args.templates.now c.args.active.now _ _ _ _ run.engine c.in-Ok.ensures.settings refl
     run.loaded in
     let left = ap (λ e. page_left e c.begin.result) begin.engine ∙ begin.left ∙ work in
     subst (λ w. IfOk c.finish.result (λ page. IsPage w page.1.items)) left (c.finish.ensures.bytes (begin.refusal ∙ run.ready.0))
@@ -32,7 +32,7 @@ returns-clause-err g c =
     let run = c.in_ok-run.ensures in
     let begin = c.begin.ensures in
     let work =
-    work_is engine (calls_of c.args.self.now) c.args.found c.args.options.now c.args.templates.now c.args.active.now _ _ _ _ run.engine c.in-Ok.ensures refl
+    work_is engine (calls_of c.args.self.now) c.args.found c.args.options.now c.args.templates.now c.args.active.now _ _ _ _ run.engine c.in-Ok.ensures.settings refl
     run.loaded in
     let left = ap (λ e. page_left e c.begin.result) begin.engine ∙ begin.left ∙ work in
     subst (λ w. IfErr c.finish.result (IsRefusedBy w)) left (c.finish.ensures.err (begin.refusal ∙ run.ready.0))

@@ -10,14 +10,14 @@ pub returns-clause-ok : goal.returns-clause-ok
 returns-clause-ok g c =
     let engine = engine_of g.S.Stated.says g.S.Stated.number c.args.self.now in
     let calls = calls_of c.args.self.now in
-    let rows = c.args.tables.now in
+    let rows = c.args.stored.now in
     let o : c.as_slice-2.result.now ≡ options_of rows = search rules in
-    let t : c.as_slice-3.result.now ≡ templates_of rows = search rules in
-    let a : c.as_slice-4.result.now ≡ active_of rows = search rules in
+    let t : c.in_ok-templates.templates ≡ templates_of rows = search rules in
+    let a : c.as_slice-3.result.now ≡ active_of rows = search rules in
     let f : c.in_ok-found.found ≡ found_by rows c.args.path.now = search rules in
-    IfOk-weaker c.page_reply.result (λ reply. reply_data reply ≡ page_of engine calls c.in_ok-found.found c.as_slice-2.result.now c.as_slice-3.result.now
-    c.as_slice-4.result.now)
+    IfOk-weaker c.page_reply-reply.result (λ reply. reply_data reply ≡ page_of engine calls c.in_ok-found.found c.as_slice-2.result.now c.in_ok-templates.templates
+    c.as_slice-3.result.now)
     (λ reply. reply_data reply ≡ request engine calls rows c.args.path.now)
-    (λ reply is. request-is engine calls rows c.args.path.now (reply_data reply) c.in_ok-found.found c.as_slice-2.result.now c.as_slice-3.result.now
-    c.as_slice-4.result.now f o t a is)
-    c.page_reply.ensures.ok
+    (λ reply is. request-is engine calls rows c.args.path.now (reply_data reply) c.in_ok-found.found c.as_slice-2.result.now c.in_ok-templates.templates
+    c.as_slice-3.result.now f o t a is)
+    c.page_reply-reply.ensures.ok

@@ -11,12 +11,12 @@ invariant-loop-end g l =
     record {
       stretch : List ℕ;
       whole : stretch ++ l.rest ≡ l.fn.held.items ++ l.fn.chunk;
-      taken : Takes (steps_of g.S.Stated.says g.S.Stated.number l.self) l.fn.tables l.fn.left stretch (contents l.fn.writer) (contents l.writer) l.tables
+      taken : Takes (steps_of g.S.Stated.says g.S.Stated.number l.self) l.fn.stored l.fn.left stretch (contents l.fn.writer) (contents l.writer) l.stored
           l.left l.held.items;
       line : IsLine l.held.items;
       room : 0 < length l.held.items → 0 < l.left;
       sound : g.W.Sink.has_failed l.writer ≡ false;
-      limit : l.tables.step_limit ≡ l.fn.tables.step_limit;
+      limit : l.stored.step_limit ≡ l.fn.stored.step_limit;
     }
 
 abbrev pub decreases-loop-end : goal.decreases-loop-end

@@ -57,8 +57,8 @@ returns-in_err-reply_to-clause-stopped g c =
     let same = c.chunks.held.ok.0 in
     let counted = some_of _ (sym c.is_empty.ensures ∙ c.if-not-is_empty.true) in
     let some : 0 < length c.chunks.held.items = omega (arith, same, counted) in
-    let fails = subst (λ line. FailsAt (steps_of g.S.Stated.says g.S.Stated.number c.args.self.now.setup) c.chunks.tables line
-    (g.W.Sink.contents c.chunks.writer) (g.W.Sink.contents c.reply_to.new.writer) c.reply_to.new.tables) c.deref.ensures.value c.in_err-reply_to.ensures.err in
+    let fails = subst (λ line. FailsAt (steps_of g.S.Stated.says g.S.Stated.number c.args.self.now.setup) c.chunks.stored line
+    (g.W.Sink.contents c.chunks.writer) (g.W.Sink.contents c.reply_to.new.writer) c.reply_to.new.stored) c.deref.ensures.value c.in_err-reply_to.ensures.err in
     rw (p.1, p.2, c.in_err-reply_to.ensures.fault) (Stops-from_last _ _ _ _ _ _ _ _ _ _ _ _ read end i.taken i.line some (i.room some) fails)
 
 pub returns-clause-ok : goal.returns-clause-ok
@@ -72,8 +72,8 @@ returns-clause-ok g c =
           let counted = some_of _ (sym c.is_empty.ensures ∙ w.if-not-is_empty.true) in
           let some : 0 < length c.chunks.held.items = omega (arith, same, counted) in
           let ok = w.in_ok-reply_to.ensures.ok in
-          let replied = subst (λ line. IsReply (steps_of g.S.Stated.says g.S.Stated.number c.args.self.now.setup) c.chunks.tables line ok.0
-          w.reply_to.new.tables) w.deref.ensures.value ok.1 in
+          let replied = subst (λ line. IsReply (steps_of g.S.Stated.says g.S.Stated.number c.args.self.now.setup) c.chunks.stored line ok.0
+          w.reply_to.new.stored) w.deref.ensures.value ok.1 in
           rw (w.writer-is, w.self-is) (ServesAll-from_last _ _ _ _ _ _ _ ok.0 _ _ _ _ _ read end i.taken i.line some (i.room some) replied ok.2)
       | else-not-is_empty w ↦
           let counted = eqb-true _ _ (sym c.is_empty.ensures ∙ w.if-not-is_empty.false) in

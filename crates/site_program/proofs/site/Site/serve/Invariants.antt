@@ -13,11 +13,11 @@ invariant-chunks g l =
     record {
       stretch : List ℕ;
       read : Consumes (remaining l.fn.reader) (remaining l.reader) stretch;
-      taken : Takes (steps_of g.S.Stated.says g.S.Stated.number l.fn.self.setup) l.fn.self.tables 1000000 stretch (contents l.fn.writer) (contents l.writer)
-          l.tables l.left l.held.items;
+      taken : Takes (steps_of g.S.Stated.says g.S.Stated.number l.fn.self.setup) l.fn.self.stored 1000000 stretch (contents l.fn.writer) (contents l.writer)
+          l.stored l.left l.held.items;
       line : IsLine l.held.items;
       room : 0 < length l.held.items → 0 < l.left;
-      limit : l.tables.step_limit ≡ l.fn.self.tables.step_limit;
+      limit : l.stored.step_limit ≡ l.fn.self.stored.step_limit;
       reader_sound : g.R.Source.has_failed l.reader ≡ false;
       writer_sound : g.W.Sink.has_failed l.writer ≡ false;
     }

@@ -1,6 +1,6 @@
 use Rattle.std.proofs.Common.{◌≡◌, map, take}
-use Rattle.site_program.proofs.settings.names_of.Given as goal
+use Rattle.site_program.proofs.templates.names_of.Given as goal
 
 -- the names are those of the pairs so far
 abbrev pub invariant-loop-name : goal.invariant-loop-name
-invariant-loop-name l = l.names ≡ map (λ t. t.0) (take l.name-index l.templates)
+invariant-loop-name l = l.names ≡ map (λ text. text.0) (take l.name-index l.texts)

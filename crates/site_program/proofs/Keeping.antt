@@ -1,0 +1,71 @@
+-- What is kept of the rows is still theirs after a command.
+use Rattle.std.proofs.Common.{◌≡◌, ℕ, List, Option, None, Result, Ok, Err, sym, ap, subst}
+use Rattle.std.specs.Prelude.{Bool, IfOk, OnErr}
+use Rattle.callback_store.specs.Shape.{Shape}
+use Rattle.hook_machine.specs.World.{Text}
+use Rattle.serde_json.specs.Data.{Data}
+use Rattle.site_records.specs.declared.post.Post.{Post}
+use Rattle.site_records.specs.declared.post.PostKind.{PostKind}
+use Rattle.site_records.specs.declared.post.PostStatus.{PostStatus}
+use Rattle.post_tables.specs.Rows.{Rows, Named, Names, PostEdit}
+use Rattle.site_replies.specs.declared.reply.SiteReply.{SiteReply}
+use Rattle.site_replies.specs.Reply.{ReplyData, reply_data}
+use Rattle.site_edits.specs.Edits.{put, edit, delete, set_option, set_active}
+use Rattle.site_edits.specs.Templates.{set_template}
+use Rattle.site_edits.proofs.After.{After, put-after, edit-after, delete-after, option-after, active-after, template-after}
+use Rattle.site_program.specs.Requests.{Texts}
+use Rattle.site_program.specs.Kept.{KeepsUp}
+
+-- what holds of the rows before a command, and of those that it makes, holds of the rows that it leaves
+pub left : {E : Type 0} (P : Rows → Type 0) (result : Result SiteReply E) (old new : Rows) (done : Rows × ReplyData)
+    → IfOk result (λ reply. (new, reply_data reply) ≡ done) → OnErr result (new ≡ old) → P old → P done.0 → P new
+left P (Ok reply) old new done ok err before after = subst P (sym (ap (λ p. p.0) ok)) after
+left P (Err fault) old new done ok err before after = subst P (sym err) before
+
+module _ (rows : Rows) (options templates : Option Texts) (active : Option (List Text)) (up : KeepsUp rows options templates active) where
+  -- ---- posts are not kept
+
+  with_posts : (posts : List Post) (largest : ℕ) → KeepsUp (record rows { posts = posts; largest = largest }) options templates active
+  with_posts posts largest = record { options = up.options; templates = up.templates; active = up.active }
+
+  abbrev All : Rows → Type 0
+  All r = KeepsUp r options templates active
+
+  pub put-up : (kind : PostKind) (status : PostStatus) (title content date : Text) → After All (put rows kind status title content date)
+  put-up kind status title content date = put-after All rows up with_posts kind status title content date
+
+  pub edit-up : (id : ℕ) (given : PostEdit) → After All (edit rows id given)
+  edit-up id given = edit-after All rows up with_posts id given
+
+  pub delete-up : (id : ℕ) → After All (delete rows id)
+  delete-up id = delete-after All rows up with_posts id
+
+  -- ---- what else a command may change is forgotten
+
+  pub without_options : KeepsUp rows None templates active
+  without_options = record { options = tt; templates = up.templates; active = up.active }
+
+  with_options : (others : Named) → KeepsUp (record rows { options = others }) None templates active
+  with_options others = record { options = tt; templates = up.templates; active = up.active }
+
+  pub option-up : (name value : Text) → After (λ r. KeepsUp r None templates active) (set_option rows name value)
+  option-up name value = option-after (λ r. KeepsUp r None templates active) rows without_options with_options name value
+
+  pub without_active : KeepsUp rows options templates None
+  without_active = record { options = up.options; templates = up.templates; active = tt }
+
+  with_active : (others : Names) → KeepsUp (record rows { active = others }) options templates None
+  with_active others = record { options = up.options; templates = up.templates; active = tt }
+
+  pub active-up : (plugins : List Shape) (name : Text) (is_active : Bool)
+      → After (λ r. KeepsUp r options templates None) (set_active plugins rows name is_active)
+  active-up plugins name is_active = active-after (λ r. KeepsUp r options templates None) rows without_active with_active plugins name is_active
+
+  pub without_templates : KeepsUp rows options None active
+  without_templates = record { options = up.options; templates = tt; active = up.active }
+
+  with_templates : (others : Named) → KeepsUp (record rows { templates = others }) options None active
+  with_templates others = record { options = up.options; templates = tt; active = up.active }
+
+  pub template-up : (name : Text) (body : Data) → After (λ r. KeepsUp r options None active) (set_template rows name body)
+  template-up name body = template-after (λ r. KeepsUp r options None active) rows without_templates with_templates name body

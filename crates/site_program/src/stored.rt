@@ -1,0 +1,144 @@
+//! What a site has stored, with what its pages read of it kept from one request to the next.
+ghost use Rattle.std.specs.Prelude.{◌≡◌, IfOk, IfErr};
+ghost use Rattle.permalink_query.specs.Paths.{query_of};
+ghost use Rattle.permalink_query.specs.Found.{found};
+ghost use Rattle.site_edits.specs.Faults.{IsReadFault};
+ghost use Rattle.site_program.specs.Requests.{options_of, templates_of, active_of};
+
+use crate::shared::SharedList;
+use crate::templates::Templates;
+use hook_changes::Text;
+use permalink_query::{FindFault, Found, find, read};
+use post_tables::Tables;
+use site_edits::StoreFault;
+use std::alloc::Global;
+use std::marker::Model;
+
+/// The tables of a site, and the options, templates and active names that were read from them since each last changed.
+///
+/// Contracts see the rows of the tables. What is kept shows in none: it is always what the tables hold.
+#[derive(Drop)]
+pub struct Stored {
+    pub(crate) tables: Tables,
+    pub(crate) options: Option<SharedList<(Text, Text)>>,
+    pub(crate) templates: Option<Templates>,
+    pub(crate) active: Option<SharedList<Text>>,
+}
+
+impl Model for Stored {
+    ghost use Rattle.post_tables.specs.Rows.{Rows, rows_code};
+    ghost use Rattle.site_program.specs.Kept.{KeepsUp};
+
+    ghost Value = { Rows };
+
+    ghost coded = { rows_code };
+
+    ghost view = { λ s. s.tables };
+
+    ghost invariant = { λ s. KeepsUp s.tables s.options s.templates s.active };
+}
+
+impl Stored {
+    /// Of these tables nothing is kept yet.
+    pub(crate) fn new(tables: Tables) -> Self
+        ensures { result ≡ tables }
+    {
+        Stored {
+            tables,
+            options: None,
+            templates: None,
+            active: None,
+        }
+    }
+
+    /// Limits how many rows each later statement may visit. What is kept needs no statement.
+    pub(crate) fn limit_steps(&mut self, limit: Option<u32>)
+        ensures { self.new ≡ record self.old { step_limit = limit } }
+    {
+        self.tables.limit_steps(limit);
+    }
+
+    /// The options, read from the tables if they are not kept.
+    pub(crate) fn options(&mut self) -> Result<SharedList<(Text, Text)>, StoreFault>
+        ensures ok { IfOk result (λ options. options ≡ options_of self.old) }
+        ensures same { self.new ≡ self.old }
+        ensures fault { IfErr result (IsReadFault self.old.step_limit) }
+    {
+        if let Some(options) = &self.options {
+            return Ok(options.share()?);
+        }
+        let options = SharedList::new(self.tables.options()?)?;
+        self.options = Some(options.share()?);
+        Ok(options)
+    }
+
+    /// The names of the active plugins, read from the tables if they are not kept.
+    pub(crate) fn active(&mut self) -> Result<SharedList<Text>, StoreFault>
+        ensures ok { IfOk result (λ names. names ≡ active_of self.old) }
+        ensures same { self.new ≡ self.old }
+        ensures fault { IfErr result (IsReadFault self.old.step_limit) }
+    {
+        if let Some(active) = &self.active {
+            return Ok(active.share()?);
+        }
+        let active = SharedList::new(self.tables.active()?)?;
+        self.active = Some(active.share()?);
+        Ok(active)
+    }
+
+    /// The templates, read from the tables if they are not kept. They are the caller's now, to give back by
+    /// `keep_templates`.
+    pub(crate) fn take_templates(&mut self, alloc: Global) -> Result<Templates, StoreFault>
+        ensures ok { IfOk result (λ templates. templates ≡ templates_of self.old) }
+        ensures same { self.new ≡ self.old }
+        ensures fault { IfErr result (IsReadFault self.old.step_limit) }
+    {
+        if let Some(templates) = self.templates.take() {
+            return Ok(templates);
+        }
+        Ok(Templates::new(alloc, self.tables.templates()?)?)
+    }
+
+    /// Keeps the templates for the next request.
+    pub(crate) fn keep_templates(&mut self, templates: Templates)
+        requires { templates ≡ templates_of self.old }
+        ensures { self.new ≡ self.old }
+    {
+        self.templates = Some(templates);
+    }
+
+    /// What a path finds in a site with these options.
+    pub(crate) fn found(
+        &mut self,
+        alloc: Global,
+        path: &str,
+        options: &[(Text, Text)],
+    ) -> Result<Found, StoreFault>
+        ensures found { IfOk result (λ f.
+            f ≡ found self.old.posts options.now (query_of path.now)) }
+        ensures same { self.new ≡ self.old }
+        ensures stopped { IfErr result (IsReadFault self.old.step_limit) }
+    {
+        found_by(alloc, &mut self.tables, path, options)
+    }
+}
+
+/// What a path finds in a site with these options.
+fn found_by(
+    alloc: Global,
+    tables: &mut Tables,
+    path: &str,
+    options: &[(Text, Text)],
+) -> Result<Found, StoreFault>
+    ensures found { IfOk result (λ f.
+        f ≡ found tables.old.posts options.now (query_of path.now)) }
+    ensures same { tables.new ≡ tables.old }
+    ensures stopped { IfErr result (IsReadFault tables.old.step_limit) }
+{
+    let query = read(alloc, path)?;
+    match find(alloc, tables, &query, options) {
+        Ok(found) => Ok(found),
+        Err(FindFault::OutOfMemory) => Err(StoreFault::OutOfMemory),
+        Err(FindFault::Store) => Err(StoreFault::Store),
+    }
+}
