@@ -10,13 +10,13 @@ import tempfile
 
 # A function's verdict, as `fn hook_changes::kept::Text::new: not proved`.
 VERDICT = re.compile(r"^fn ([\w:+]+): (.*)$", re.M)
-# What is said of an error: a long sentence goes on in indented lines.
+# The message of an error: a long sentence goes on in indented lines.
 WHY = r"error: (.*(?:\n  .*)*)$"
 # A goal or an answer that failed, as `./proofs/kept/Text/new/Answers.antt:5:13: error: ...`.
 ERROR = re.compile(r"^(?:\./)?proofs/(\S+)/\w+\.antt:\d+:\d+: " + WHY, re.M)
 # A lemma that failed, as `./proofs/Folding.antt:241:16: error: ...`.
 LEMMA = re.compile(r"^(?:\./)?proofs/\w+\.antt:\d+:\d+: " + WHY, re.M)
-# What is said of an answer that names what isn't there, and of what only cites a failed one.
+# The messages for an answer that names what isn't there, and for what only cites a failed one.
 ONLY_A_NAME = re.compile(r"has no field|is not in scope|has no `|that can be named|not admitted|not checked")
 NO_FUNCTION = re.compile(r"has no function `([\w:+]+)`")
 LAST_LINE = re.compile(r"^(logic=|only=)", re.M)
@@ -40,7 +40,7 @@ def processors():
 
 
 class Said:
-    """What a check said of each function."""
+    """What a check reported: the verdict on each function, and the errors."""
 
     def __init__(self, crate, text):
         self.crate = crate

@@ -1,4 +1,4 @@
--- What a list of numbered replies says of a number.
+-- Replies in a list, looked up by their numbers.
 use Rattle.std.proofs.Common.{◌≡◌, ◌≢◌, ◌∙◌, ◌==◌, ◌||◌, ℕ, true, false, List, [], ◌∷◌, refl, sym, subst}
 use Rattle.std.specs.Prelude.{if◌then◌else◌}
 use Rattle.std.specs.List.{AllByRecursion}
@@ -22,7 +22,7 @@ holds Q (f ∷ fs) n each e =
       | false ↦ λ t q. holds Q fs n each.1 q
     ] refl e
 
--- of a number that the list doesn't have it says empty text
+-- a number that the list doesn't have replies with empty text
 missed : (fs : Numbered) (n : ℕ) (call : Call) → has fs n ≡ false → reply_in fs n call ≡ answers_text []
 missed [] n call e = refl
 missed (f ∷ fs) n call e =

@@ -1,4 +1,4 @@
--- What a row of the tables stands for: a change, a part of a text, a reply, a plugin.
+-- What a row of the tables means: a change, a part of a text, a reply, a plugin.
 use Rattle.std.specs.Prelude.{◌≡◌, ◌==◌, ℕ, Bool, true, false, List, [], ◌∷◌, map, flat_map, length, decimal, Some}
 use Rattle.std.specs.List.{list_any, AllByRecursion}
 use Rattle.hook_changes.specs.declared.reply.Call.{Call}
@@ -26,7 +26,7 @@ change_of (AddTag tag number) = change.AddTag tag.now number
 change_of (RemoveTag tag) = change.RemoveTag tag.now
 change_of RemoveAllTags = change.RemoveAllTags
 
--- a part of a text, as a call gives it
+-- a part of a text, for a call
 abbrev pub part_of : Call → Part → Text
 part_of call (Fixed text) = text.now
 part_of call First = first_argument call.args
@@ -50,7 +50,7 @@ reply_of row call = record {
 abbrev pub replies_of : List ReplyRow → List (ℕ × (Call → Reply))
 replies_of rows = map (λ row. (row.number, reply_of row)) rows
 
--- the numbers whose replies no row gives: those callbacks ask, or go through attributes or answers
+-- the numbers whose reply isn't in a row: those callbacks ask, or go through attributes or answers
 abbrev pub is_no_row : ℕ → Bool
 is_no_row number = list_any (λ k. k == number) (7 ∷ 18 ∷ 23 ∷ 24 ∷ 25 ∷ 26 ∷ 29 ∷ [])
 

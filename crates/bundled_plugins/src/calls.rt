@@ -1,4 +1,4 @@
-//! What a callback reads of its call, and a reply that answers texts.
+//! What a bundled callback reads of its call, and how it makes texts and replies.
 ghost use Rattle.std.specs.Prelude.{◌≡◌, ◌++◌, IfOk, OnOk, codes, flat_map};
 ghost use Rattle.bundled_plugins.specs.Calls.{first_argument, second_argument, text_in, shown, listed};
 ghost use Rattle.hook_changes.specs.Replies.{answers_text};
@@ -7,7 +7,7 @@ use hook_changes::{Answer, Call, Reply, Text};
 use itoa::Buffer;
 use std::alloc::{AllocError, Global};
 
-/// The first argument, or empty text if there is none.
+/// Returns the first argument, or empty text if there is none.
 pub fn first_argument(call: &Call) -> &str
     ensures { result.now ≡ first_argument call.entry.now.args }
 {
@@ -17,7 +17,7 @@ pub fn first_argument(call: &Call) -> &str
     }
 }
 
-/// The second argument, or empty text if there is none.
+/// Returns the second argument, or empty text if there is none.
 pub fn second_argument(call: &Call) -> &str
     ensures { result.now ≡ second_argument call.entry.now.args }
 {
@@ -27,7 +27,7 @@ pub fn second_argument(call: &Call) -> &str
     }
 }
 
-/// The text of an answer, or empty text if it is another one.
+/// Returns the text of an answer, or empty text if the answer isn't a text.
 pub fn text_in(answer: &Answer) -> &str
     ensures { result.now ≡ text_in answer.entry.now }
 {
@@ -47,7 +47,7 @@ pub fn push_all(text: &mut Text, parts: &[&str]) -> Result<(), AllocError>
     Ok(())
 }
 
-/// These texts, joined.
+/// Joins texts.
 pub fn joined(alloc: Global, parts: &[&str]) -> Result<Text, AllocError>
     ensures { IfOk result (λ text. text ≡ flat_map (λ part. part.now) parts.now) }
 {
@@ -69,7 +69,7 @@ pub fn show(text: &mut Text, answer: &Answer) -> Result<(), AllocError>
     }
 }
 
-/// Answers as they are shown, with commas between them.
+/// Joins answers, each as [`show`] writes it, with commas between them.
 pub fn listed(alloc: Global, answers: &[Answer]) -> Result<Text, AllocError>
     ensures { IfOk result (λ text. text ≡ listed answers.now) }
 {
@@ -92,7 +92,7 @@ fn show_more(text: &mut Text, answers: &[Answer]) -> Result<(), AllocError>
     Ok(())
 }
 
-/// The reply that answers these texts, joined, and does nothing else.
+/// Makes a reply that answers these texts, joined, and does nothing else.
 pub fn answer(alloc: Global, parts: &[&str]) -> Result<Reply, AllocError>
     ensures { IfOk result (λ reply. reply ≡ answers_text (flat_map (λ part. part.now) parts.now)) }
 {

@@ -197,7 +197,7 @@ const PLAIN: [ReplyRow; 24] = [
     },
 ];
 
-/// The reply of the bundled callback with that number. Another number answers empty text.
+/// Returns the reply of the bundled callback with that number. Any other number answers empty text.
 #[tactic(auto, unfolding(crate::specs::Replies::says))]
 pub fn bundled_reply(alloc: Global, id: CallbackId, call: &Call) -> Result<Reply, AllocError>
     ensures { IfOk result (λ reply. reply ≡ says id call.now) }
@@ -216,7 +216,7 @@ pub fn bundled_reply(alloc: Global, id: CallbackId, call: &Call) -> Result<Reply
     }
 }
 
-/// The replies that need no more than a row.
+/// Returns the replies that need no more than a row. Its contract is the proof that they are what is stated.
 fn plain_rows() -> &'static [ReplyRow]
     ensures { AreStated result.now }
 {
@@ -263,7 +263,7 @@ fn ask_without_itself(alloc: Global) -> Result<Reply, AllocError>
     Ok(Reply::ask(alloc, title_pass(alloc, "")?).with_changes(changes))
 }
 
-/// `apply_filters` of `the_title` on a value, with no further arguments.
+/// Makes the ask `apply_filters` of `the_title` on a value, with no further arguments.
 fn title_pass(alloc: Global, value: &str) -> Result<Ask, AllocError>
     ensures { IfOk result (λ ask. ask ≡ Ask.Apply the_title value.now []) }
 {
@@ -307,7 +307,7 @@ fn push_named(text: &mut Text, atts: &Atts) -> Result<(), AllocError>
         };
         push_all(text, &[name, "=", value, ";"])?;
     }
-    // No memory holds so many attributes.
+    // No memory holds that many attributes.
     Err(AllocError)
 }
 
@@ -330,7 +330,7 @@ fn link(alloc: Global, atts: &Atts) -> Result<Reply, AllocError>
     answer(alloc, &["<a href=\"", address, "\">", label, "</a>"])
 }
 
-/// Number 25 asks one question after another, and then lists what it was told.
+/// Number 25 asks one question after another, and then lists the answers.
 fn ask_in_turn(alloc: Global, answers: &[Answer]) -> Result<Reply, AllocError>
     ensures { IfOk result (λ reply. reply ≡ asks_in_turn answers.now) }
 {
@@ -357,7 +357,7 @@ fn ask_in_turn(alloc: Global, answers: &[Answer]) -> Result<Reply, AllocError>
     Ok(Reply::ask(alloc, question))
 }
 
-/// Number 26 asks what its own hook makes of one `d` fewer, and of `spin` asks without end.
+/// Number 26 asks what its own hook makes of one `d` fewer, and on `spin` asks without end.
 fn go_deeper(alloc: Global, value: &str, answers: &[Answer]) -> Result<Reply, AllocError>
     ensures { IfOk result (λ reply. reply ≡ goes_deeper value.now answers.now) }
 {
@@ -371,7 +371,7 @@ fn go_deeper(alloc: Global, value: &str, answers: &[Answer]) -> Result<Reply, Al
     in_parentheses(alloc, &value[1..], answers)
 }
 
-/// Whether a text is one or more `d` and nothing else.
+/// Returns whether a text is one or more `d` and nothing else.
 fn is_run_of_d(text: &str) -> bool
     ensures { result ≡ is_run_of_d text.now }
 {
@@ -385,7 +385,7 @@ fn is_all_d(bytes: &[u8]) -> bool
     bytes.iter().all(|byte| *byte == b'd')
 }
 
-/// What the hook makes of the shorter text, in parentheses.
+/// Asks what the hook makes of the shorter text, and then answers that in parentheses.
 fn in_parentheses(alloc: Global, shorter: &str, answers: &[Answer]) -> Result<Reply, AllocError>
     ensures { IfOk result (λ reply. reply ≡ in_parentheses shorter.now answers.now) }
 {
@@ -409,7 +409,7 @@ fn count_pings(alloc: Global, answers: &[Answer]) -> Result<Reply, AllocError>
     }
 }
 
-/// `do_action` of `ping`, with no arguments.
+/// Makes the ask `do_action` of `ping`, with no arguments.
 fn ping(alloc: Global) -> Result<Ask, AllocError>
     ensures { IfOk result (λ ask. ask ≡ Ask.Act (codes "ping") []) }
 {
@@ -419,7 +419,7 @@ fn ping(alloc: Global) -> Result<Ask, AllocError>
     })
 }
 
-/// The reply that answers an answer as it is shown.
+/// Makes the reply that answers one of the engine's answers, as [`show`] writes it.
 fn answer_shown(alloc: Global, found: &Answer) -> Result<Reply, AllocError>
     ensures { IfOk result (λ reply. reply ≡ answers_text (shown found.now)) }
 {

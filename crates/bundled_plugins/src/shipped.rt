@@ -119,7 +119,7 @@ fn take_first<S: Drop>(callbacks: &mut Vec<S>, count: usize) -> Result<Vec<S>, A
     Ok(mem::replace(callbacks, rest))
 }
 
-/// Appends the plugin of a row, which takes the first of the callbacks.
+/// Appends the plugin of a row, which takes as many of the first callbacks as the row has numbers.
 fn push<S: Stated + Drop>(
     alloc: Global,
     plugins: &mut Listed<Plugin<S>>,
@@ -142,7 +142,7 @@ fn push<S: Stated + Drop>(
     Ok(())
 }
 
-/// Makes the plugins of rows, over their callbacks in the order of the rows.
+/// Makes the plugins of rows. Their callbacks must be in the order of the rows.
 fn plugins_of<S: Stated + Drop>(
     alloc: Global,
     rows: &[Shipped],
@@ -159,7 +159,7 @@ fn plugins_of<S: Stated + Drop>(
     Ok(plugins)
 }
 
-/// The bundled plugins in the order of their names, over their callbacks, which stand in the order of [`NUMBERS`].
+/// Makes the bundled plugins, in the order of their names. Their callbacks must be in the order of [`NUMBERS`].
 pub fn bundle<S: Stated + Drop>(
     alloc: Global,
     callbacks: Listed<S>,

@@ -21,7 +21,7 @@ pub struct Stored {
 }
 
 impl Stored {
-    /// Stores a function as the callback of that number. It does not allocate.
+    /// Stores a function as the callback with that number. Does not allocate.
     pub fn new(id: CallbackId, function: Function) -> Self
         requires callable { Function.IsAlwaysCallable function }
         requires as_stated { (alloc : _) (call : _) (reply : _)

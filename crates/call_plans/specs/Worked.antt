@@ -38,10 +38,10 @@ position_after (suc n) table position = position_after n table (next_entry table
 abbrev pub table_before : Table
 table_before = after_all [] (added 1 (pos 10) ∷ added 2 (pos 10) ∷ [])
 
--- 1 moves after 2, 3 comes after both, and 4 and 5 come at a smaller and at a greater priority
+-- 1 moves after 2, 3 comes after both, and 4 and 5 come at a smaller and at a larger priority
 abbrev pub table_meanwhile : Table
 table_meanwhile = after_all table_before (removed 1 (pos 10) ∷ added 1 (pos 10) ∷ added 3 (pos 10) ∷ added 4 (pos 5) ∷ added 5 (pos 11) ∷ [])
 
--- 6 comes at a greater priority still
+-- 6 comes at a still larger priority
 abbrev pub table_at_last : Table
 table_at_last = after_all table_meanwhile (added 6 (pos 12) ∷ [])

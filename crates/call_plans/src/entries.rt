@@ -41,7 +41,7 @@ impl SharedEntries {
         self.entries.as_slice()
     }
 
-    /// The same entries for another owner; none is copied.
+    /// Returns the same entries for another owner, without copying them.
     pub fn share(&self) -> Result<Self, AllocError>
         ensures { IfOk result (λ shared. shared ≡ self.now) }
     {
@@ -50,8 +50,8 @@ impl SharedEntries {
         })
     }
 
-    /// Adds an entry after the others. If a pass shares the entries, it goes on over them as they were, and they are
-    /// copied. On allocation failure nothing is added.
+    /// Adds an entry after the others. If a pass shares the entries, they are copied first, and the pass goes on over
+    /// them as they were. On allocation failure nothing is added.
     pub(crate) fn push(&mut self, alloc: Global, new: Entry) -> Result<(), AllocError>
         ensures ok { OnOk result (self.new ≡ self.old ++ new ∷ []) }
         ensures err { OnErr result (self.new ≡ self.old) }
@@ -86,7 +86,7 @@ impl Model for EntriesLeft {
 }
 
 impl EntriesLeft {
-    /// No entries. Does not allocate.
+    /// Makes a list of no entries. Does not allocate.
     pub fn none() -> Self
         ensures { result ≡ [] }
     {
@@ -96,7 +96,7 @@ impl EntriesLeft {
         }
     }
 
-    /// All entries of a group.
+    /// Starts with all entries of a group.
     pub(crate) fn all(group: SharedEntries) -> Self
         ensures { result ≡ group }
     {
@@ -106,7 +106,7 @@ impl EntriesLeft {
         }
     }
 
-    /// Takes the next entry.
+    /// Takes the next entry, if one is left.
     pub fn take_first(&mut self) -> Option<Entry>
         ensures { MatchOption result ((self.old ≡ []) × (self.new ≡ [])) (λ entry. self.old ≡ entry ∷ self.new) }
     {
@@ -135,8 +135,8 @@ fn with_last(alloc: Global, entries: &[Entry], new: Entry) -> Result<Vec<Entry>,
     Ok(copy)
 }
 
-/// Copies the entries with one added: an entry of that callback keeps its place and takes the new count, and another
-/// one goes last.
+/// Copies the entries with one added. If the callback has an entry, that keeps its place and takes the new count;
+/// otherwise the new entry goes last.
 pub(crate) fn with_entry(
     alloc: Global,
     entries: &[Entry],
@@ -156,7 +156,7 @@ pub(crate) fn with_entry(
     SharedEntries::new(alloc, changed)
 }
 
-/// Copies the entries of the other callbacks.
+/// Copies the entries of all callbacks but one.
 pub(crate) fn without_callback(
     alloc: Global,
     entries: &[Entry],

@@ -13,21 +13,21 @@ pub struct Group {
 }
 
 impl Group {
-    /// Whether its priority is less than another.
+    /// Returns whether its priority is smaller than another.
     pub fn is_below(&self, priority: Priority) -> bool
         ensures { result ≡ int_lt self.now.priority priority }
     {
         self.priority.number() < priority.number()
     }
 
-    /// Whether this is its priority.
+    /// Returns whether it has this priority.
     pub fn is_at(&self, priority: Priority) -> bool
         ensures { result ≡ int_eq self.now.priority priority }
     {
         self.priority.number() == priority.number()
     }
 
-    /// Whether its priority is greater than another.
+    /// Returns whether its priority is larger than another.
     pub fn is_above(&self, priority: Priority) -> bool
         ensures { result ≡ int_lt priority self.now.priority }
     {

@@ -32,7 +32,7 @@ impl Model for HookPlan {
 }
 
 impl HookPlan {
-    /// No groups. Does not allocate.
+    /// Makes a plan with no groups. Does not allocate.
     pub fn new(alloc: Global) -> Self
         ensures { result ≡ [] }
     {
@@ -60,8 +60,8 @@ impl HookPlan {
         Ok(())
     }
 
-    /// Adds an entry of a callback that has none at the priority. So no entry is looked at, and none is copied unless a
-    /// pass shares them. On allocation failure nothing is added.
+    /// Adds an entry of a callback that has none at the priority. So no other entry is looked at, and none is copied
+    /// unless a pass shares them. On allocation failure nothing is added.
     pub fn append(
         &mut self,
         alloc: Global,
@@ -83,7 +83,7 @@ impl HookPlan {
         Ok(())
     }
 
-    /// Removes the entry of a callback at a priority. If memory for the entries that stay runs out, nothing is removed.
+    /// Removes the entry of a callback at a priority. If memory for the remaining entries runs out, nothing is removed.
     pub fn remove(
         &mut self,
         alloc: Global,
@@ -123,7 +123,7 @@ impl HookPlan {
         }
     }
 
-    /// The group of the smallest priority, or of the smallest one above another if that is given.
+    /// Returns the group of the smallest priority, or of the smallest one above another if that is given.
     pub fn next_group(&self, above: Option<Priority>) -> Option<&Group>
         ensures { MatchOption result (least_priority (is_above above) self.entry.now ≡ None) (λ group.
             (least_priority (is_above above) self.entry.now ≡ Some group.now.priority)
@@ -133,7 +133,7 @@ impl HookPlan {
     }
 }
 
-/// The place of the group of a priority, or else the place at which it would be inserted.
+/// Finds the group of a priority: `Ok` with its index, or `Err` with the index at which it would be inserted.
 fn find(groups: &[Group], priority: Priority) -> Result<usize, usize>
     requires { IsPlan groups.now }
     ensures { MatchResult result (IsAt priority groups.now) (IsGap priority groups.now) }
@@ -147,7 +147,7 @@ fn find(groups: &[Group], priority: Priority) -> Result<usize, usize>
     Err(at)
 }
 
-/// The place of the first group, or of the first one above a priority.
+/// Returns the index of the first group, or of the first one above a priority; the number of groups if there is none.
 fn place_above(groups: &[Group], above: Option<Priority>) -> usize
     requires { IsPlan groups.now }
     ensures { IsPlaceAbove above groups.now result }

@@ -33,7 +33,7 @@ impl Model for Plans {
 }
 
 impl Plans {
-    /// Nothing registered. Does not allocate.
+    /// Makes plans with nothing registered. Does not allocate.
     pub fn new(alloc: Global) -> Self
         ensures { result ≡ [] }
     {
@@ -43,15 +43,16 @@ impl Plans {
         }
     }
 
-    /// The position of a pass before the first priority of a hook. Copies the hook's name.
+    /// Returns the position of a pass before the first priority of a hook. Copies the hook's name.
     pub fn start(&self, hook: &HookName) -> Result<Position, AllocError>
         ensures { IfOk result (λ position. position ≡ record { hook = hook.now; reached = None; entries = [] }) }
     {
         Ok(Position::start(hook.clone()?))
     }
 
-    /// The next entry of a pass: the first one left, or else the first of the next priority's group as it is now. If
-    /// there is no such priority, or on a refusal, the position stays as it was. No entries are copied (class WP_Hook).
+    /// Takes the next entry of a pass: the first one left, or else the first of the next priority's group as it is now.
+    /// If there is no such priority, or on allocation failure, the position stays as it was. No entries are copied
+    /// (class WP_Hook).
     pub fn next(&self, position: &mut Position) -> Result<Option<Entry>, AllocError>
         ensures entry { IfOk result (λ found. found ≡ (next_entry self.now position.old).0) }
         ensures moved { OnOk result (position.new ≡ (next_entry self.now position.old).1) }
@@ -104,7 +105,7 @@ impl Plans {
         }
     }
 
-    /// The group of a hook's smallest priority, or of the smallest one above another if that is given.
+    /// Returns the group of a hook's smallest priority, or of the smallest one above another if that is given.
     fn next_group(&self, hook: &str, above: Option<Priority>) -> Option<&Group>
         ensures { MatchOption result (next_priority self.entry.now hook.entry.now above ≡ None) (λ found.
             (next_priority self.entry.now hook.entry.now above ≡ Some found.now.priority)
@@ -131,8 +132,8 @@ impl Plans {
         }
     }
 
-    /// Adds an entry of a callback that has none under the hook at the priority. No entry is looked at, so a list of n
-    /// additions costs n look-ups of the hook.
+    /// Adds an entry of a callback that has none under the hook at the priority. No other entry is looked at, so a list
+    /// of n additions costs n look-ups of the hook.
     pub fn append(&mut self, hook: &str, priority: i32, new: Entry) -> Result<(), AllocError>
         requires { list_any (is_of priority new.callback) (registrations self.old hook.now) ≡ false }
         ensures added { OnOk result (self.new ≡ add self.old hook.now
@@ -181,7 +182,7 @@ impl Plans {
         }
     }
 
-    /// Removes what is under a hook at a priority, or at all of them.
+    /// Removes what is registered under a hook at a priority, or at all of them.
     pub fn remove_all(&mut self, hook: &str, priority: Option<i32>)
         ensures { self.new ≡ remove_all self.old hook.now priority }
     {

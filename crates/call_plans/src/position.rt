@@ -15,7 +15,7 @@ pub struct Position {
 }
 
 impl Position {
-    /// Before the first priority of a hook. Does not allocate.
+    /// Starts before the first priority of a hook. Does not allocate.
     pub fn start(hook: HookName) -> Self
         ensures { result ≡ record { hook = hook; reached = None; entries = [] } }
     {

@@ -79,7 +79,7 @@ module _ {S : Type 0} (number : S → ℕ) where
       copied None = refl
       copied (Some c) = refl
 
--- what stands at a place and passes
+-- the item at a place, if it passes
 any_at : {X : Type 0} (test : X → Bool) (xs : List X) (i : ℕ) (x : X) → slice_get xs i ≡ Some x → test x ≡ true → list_any test xs ≡ true
 any_at test [] zero x e t = cc
 any_at test [] (suc i) x e t = cc

@@ -1,4 +1,4 @@
--- Going through a list from the left, to see whether an item stands in it again.
+-- Going through a list from the left, to see whether an item is repeated in it.
 use Rattle.std.proofs.Common.{◌≡◌, ℕ, ◌+◌, ◌<◌, true, false, Bool, not, ◌||◌, ◌==◌, List, [], ◌∷◌, ◌++◌, map, take, drop, length, get_or, ◌≤◌, refl, ap, sym, ◌∙◌}
 use Rattle.std.specs.List.{list_any}
 use Rattle.std.proofs.lemmas.List.{drop_more, take_more, drop_all}
@@ -31,7 +31,7 @@ module _ {X : Type 0} where
   any_same p q e (x ∷ xs) = rw (e x, any_same p q e xs) refl
 
 module _ {X : Type 0} (eq : X → X → Bool) where
-  -- an item of the rest stands among those seen, or again in the rest
+  -- an item of the rest is among those seen, or is repeated in the rest
   abbrev pub repeats : List X → List X → Bool
   repeats seen rest = list_any (λ y. list_any (eq y) seen) rest || has_repeat eq rest
 

@@ -1,4 +1,4 @@
--- A stable sort puts a list in the one order that there is.
+-- A stable sort puts a list in the only such order.
 use Rattle.std.proofs.Common.{◌≡◌, ℕ, ◌<◌, ◌≤◌, suc, Bool, true, false, cond, not, ◌&&◌, List, [], ◌∷◌, map, filter, length, get_or, refl, ap, sym, ◌∙◌, subst, arith, true≢false}
 use Rattle.std.specs.Cmp.{IsStrictWeakOrder}
 use Rattle.std.specs.List.{AllByRecursion}
@@ -7,7 +7,7 @@ use Rattle.std.proofs.lemmas.List.Sorted.{sorted_far}
 use Rattle.callback_store.specs.Sorting.{placed, sorted}
 
 module _ {X : Type 0} (lt : X → X → Bool) (o : IsStrictWeakOrder lt) where
-  -- none of them comes before x
+  -- no item comes before x
   abbrev NoneBefore : X → List X → Type 0
   NoneBefore x xs = AllByRecursion (λ y. lt y x ≡ false) xs
 
@@ -53,7 +53,7 @@ module _ {X : Type 0} (lt : X → X → Bool) (o : IsStrictWeakOrder lt) where
   both false true e = absurd (true≢false (sym e))
   both false false e = (refl, refl)
 
-  -- of two that tie with a third none comes before the other
+  -- of two items that tie with a third, neither comes before the other
   apart : (z x y : X) → lt y x ≡ true → ties lt z y ≡ true → ties lt z x ≡ false
   apart z x y l t =
       elim (ties lt z x) as (λ b. ties lt z x ≡ b → b ≡ false) [

@@ -6,7 +6,7 @@ use Rattle.callback_store.specs.Shape.{Shape}
 use Rattle.callback_store.specs.declared.fault.PluginFault.{PluginFault}
 use Rattle.callback_store.specs.declared.fault.PluginFault.TheVariants.{TooMany, BadName, SameName, SameCallback}
 
--- whether an item stands in the list again
+-- whether an item is repeated in the list
 abbrev pub has_repeat : {A : Type 0} → (A → A → Bool) → List A → Bool
 has_repeat eq [] = false
 has_repeat eq (x ∷ xs) = list_any (λ y. eq y x) xs || has_repeat eq xs

@@ -1,4 +1,4 @@
--- What is seen of plugins beside what their callbacks reply.
+-- What is known of plugins apart from what their callbacks reply.
 use Rattle.std.specs.Prelude.{ℕ, Bool, ◌&&◌, ◌==◌, List, map, Option, find, option_map, bytes_eq}
 use Rattle.std.specs.Cmp.Lexicographic.{slice_cmp}
 use Rattle.std.specs.List.{list_any}
@@ -21,7 +21,7 @@ shape_of number plugin = record { name = plugin.name; load = plugin.load; callba
 abbrev pub shapes_of : {S : Type 0} → (S → ℕ) → Plugins S → List Shape
 shapes_of number plugins = map (shape_of number) plugins.list
 
--- no name stands before a smaller one, by bytes
+-- no name comes before a smaller one, by bytes
 abbrev pub AreInOrder : List Shape → Type 0
 AreInOrder shapes = IsSortedByKey (λ s. s.name) (slice_cmp nat_cmp) shapes
 

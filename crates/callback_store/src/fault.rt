@@ -16,7 +16,7 @@ pub enum PluginFault {
     /// A number that two callbacks have, or 0, which is core's.
     #[error("two callbacks have one number")]
     SameCallback,
-    /// There was no memory to compare the callbacks.
+    /// Memory ran out while the callbacks were compared.
     #[error("out of memory")]
     OutOfMemory,
 }

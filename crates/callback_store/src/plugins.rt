@@ -53,7 +53,7 @@ impl<S: Stated> Plugin<S> {
         false
     }
 
-    /// Whether the callback at a place has the number.
+    /// Returns whether the callback at an index has the number.
     fn has_at(&self, place: usize, id: CallbackId) -> bool
         ensures { IsTrue result → IsTrue (has_callback id (shape_of S.number self.now)) }
     {
@@ -88,12 +88,12 @@ pub struct Plugins<S> {
     places: Places,
 }
 
-/// Where each callback stands, by its number: the place of its plugin, and its own place there.
+/// Where each callback is, by its number: the index of its plugin, and its own index there.
 type Places = IndexMap<u32, (usize, usize)>;
 
 impl<S: Stated> Plugins<S> {
-    /// Takes a list of plugins and puts them in the order of their names by bytes, in which load lists are carried
-    /// out, or refuses the list by its first fault. What is refused is dropped.
+    /// Takes a list of plugins and puts them in the order of their names by bytes, in which load lists are carried out,
+    /// or refuses the list by its first fault. A refused list is dropped.
     pub fn new(alloc: Global, list: Listed<Plugin<S>>) -> Result<Self, PluginFault>
         ensures permutation { IfOk result (λ plugins. IsPermutation
             (map (shape_of S.number) list) (shapes_of S.number plugins)) }
@@ -111,15 +111,15 @@ impl<S: Stated> Plugins<S> {
         }
     }
 
-    /// The plugins, in the order of their names by bytes.
+    /// Returns the plugins, in the order of their names by bytes.
     pub fn as_slice(&self) -> &[Plugin<S>]
         ensures { map (shape_of S.number) result.now ≡ shapes_of S.number self.entry.now }
     {
         self.list.as_slice()
     }
 
-    /// The plugins by name, in the order of bytes, in which load lists are carried out. `new` has put them in that
-    /// order already, but no invariant of a type that holds callbacks can say so.
+    /// Returns the plugins in the order of their names by bytes, in which load lists are carried out. `new` has put
+    /// them in that order already, but no invariant of a type that holds callbacks can say so.
     pub fn by_name(&self, alloc: Global) -> Result<Vec<&Plugin<S>>, AllocError>
         ensures { IfOk result (λ list. map (λ p. shape_of S.number p.now) list.items
             ≡ by_name (shapes_of S.number self.entry.now)) }
@@ -154,7 +154,7 @@ impl<S: Stated> Plugins<S> {
         None
     }
 
-    /// The name of the plugin that has the callback, if one has it. Core's callback 0 has none.
+    /// Returns the name of the plugin that has the callback, if one has it. Core's callback 0 has no plugin.
     pub fn owner(&self, id: CallbackId) -> Option<&str>
         ensures { option_map (λ name. name.now) result ≡ owner (shapes_of S.number self.entry.now) id }
     {
@@ -164,15 +164,16 @@ impl<S: Stated> Plugins<S> {
         }
     }
 
-    /// Whether a plugin of one of these names has the callback. If one does, that takes one look-up, and otherwise a
-    /// walk of those plugins.
+    /// Returns whether a plugin of one of these names has the callback. If one does, that takes one look-up, and
+    /// otherwise a walk over those plugins.
     pub fn is_held_by(&self, names: &[Text], id: CallbackId) -> bool
         ensures { result ≡ is_held_by (shapes_of S.number self.now) names.now id }
     {
         self.is_placed_in(names, id) || self.is_among(names, id)
     }
 
-    /// Whether the place that is kept for the number is in a plugin of one of these names.
+    /// Returns whether the place that is kept for the number is in a plugin of one of these names, and has the
+    /// callback.
     fn is_placed_in(&self, names: &[Text], id: CallbackId) -> bool
         ensures { IsTrue result → IsTrue (is_held_by (shapes_of S.number self.now) names.now id) }
     {
@@ -186,7 +187,7 @@ impl<S: Stated> Plugins<S> {
         }
     }
 
-    /// Whether one of the callbacks of the plugins of these names has the number.
+    /// Returns whether one of the callbacks of the plugins of these names has the number.
     fn is_among(&self, names: &[Text], id: CallbackId) -> bool
         ensures { result ≡ list_any (λ p. list_any (bytes_eq p.name) names.now
             && list_any (λ c. S.number c == id) p.callbacks) self.now.list }
@@ -199,7 +200,7 @@ impl<S: Stated> Plugins<S> {
         false
     }
 
-    /// The load list of the plugin of that name, or `None` if no plugin has the name.
+    /// Returns the load list of the plugin of that name, or `None` if no plugin has the name.
     pub fn load_of(&self, name: &str) -> Option<&[Change]>
         ensures { option_map (λ changes. changes.now) result ≡ load_of (shapes_of S.number self.entry.now) name.now }
     {
@@ -216,7 +217,7 @@ impl<S: Stated> Plugins<S> {
         plugins.get(place)
     }
 
-    /// The callback at the place that is kept for a number.
+    /// Returns the callback at the place that is kept for a number.
     fn at_place(&self, id: CallbackId) -> Option<&S>
         ensures number { IfSome result (λ callback. S.number callback.now ≡ id) }
         ensures held { IfSome result (λ callback. IsTrue (is_held (shapes_of S.number self.entry.now) id)) }
@@ -230,8 +231,8 @@ impl<S: Stated> Plugins<S> {
         }
     }
 
-    /// The callback with a number, if a plugin has it. It takes as long in a bundle of many callbacks as in a small
-    /// one; a number that none has is looked for among all.
+    /// Returns the callback with a number, if a plugin has it. That takes as long in a bundle of many callbacks as in a
+    /// small one; a number that no callback has is looked for among all.
     pub fn callback(&self, id: CallbackId) -> Option<&S>
         ensures number { IfSome result (λ callback. S.number callback.now ≡ id) }
         ensures held { is_some result ≡ is_held (shapes_of S.number self.entry.now) id }
@@ -252,7 +253,7 @@ impl<S: Stated> Plugins<S> {
         }
     }
 
-    /// The reply of the callback with a number to a call, if there is memory for it.
+    /// Returns the reply of the callback with a number to a call, or an error if memory runs out.
     pub fn call(&self, alloc: Global, id: CallbackId, call: &Call) -> Result<Reply, AllocError>
         requires { IsTrue (is_held (shapes_of S.number self.now) id) }
         ensures { IfOk result (λ reply. reply ≡ S.says id call.now) }
@@ -361,7 +362,7 @@ fn push_numbers<S: Stated>(numbers: &mut Vec<u32>, callbacks: &[S]) -> Result<()
     Ok(())
 }
 
-/// The numbers of all callbacks, after core's.
+/// Returns the numbers of all callbacks, after core's 0.
 fn all_numbers<S: Stated>(alloc: Global, list: &[Plugin<S>]) -> Result<Vec<u32>, AllocError>
     ensures { IfOk result (λ all. all.items ≡ numbers (map (shape_of S.number) list.now)) }
 {

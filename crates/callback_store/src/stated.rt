@@ -4,9 +4,9 @@ ghost use Rattle.std.specs.Prelude.{◌≡◌, ℕ, IfOk};
 use hook_changes::{Call, CallbackId, Reply};
 use std::alloc::{AllocError, Global};
 
-/// A stored callback, whose replies are stated: `says` is the one reply of each number to each call, and whatever
-/// the callback answers is that reply. Each bundle of plugins has a type of its own that keeps this fact beside the
-/// closure, and so a page's meaning can be told without running anything.
+/// A stored callback, whose replies are stated: `says` is the one reply of each number to each call, and whatever the
+/// callback answers is that reply. Each bundle of plugins has a type of its own that keeps this fact beside the
+/// closure, so what a page means is known without running anything.
 pub trait Stated: Drop {
     ghost use Rattle.hook_changes.specs.declared.reply.Call.{Call};
     ghost use Rattle.hook_changes.specs.declared.reply.Reply.{Reply};
@@ -17,11 +17,11 @@ pub trait Stated: Drop {
     /// The callback's number.
     ghost number: { Self → ℕ };
 
-    /// The callback's number.
+    /// Returns the callback's number.
     fn id(&self) -> CallbackId
         ensures { result ≡ number self.now };
 
-    /// The reply to a call, if there is memory for it.
+    /// Returns the reply to a call, or an error if memory runs out.
     fn answer(&self, alloc: Global, call: &Call) -> Result<Reply, AllocError>
         ensures { IfOk result (λ reply. reply ≡ says (number self.now) call.now) };
 }

@@ -14,7 +14,7 @@ use std::num::NonZeroUsize;
 
 /// The pieces of the texts that were asked for last, each with the live names that it was cut by.
 ///
-/// Contracts see the maximum number of texts that it keeps, and not which these are: that shows in no answer.
+/// Contracts see the maximum number of texts that it keeps, and not which these are: no result depends on that.
 #[derive(Drop)]
 pub struct PieceCache {
     alloc: Global,
@@ -33,7 +33,7 @@ impl Model for PieceCache {
 }
 
 impl PieceCache {
-    /// An empty cache for the pieces of at most `capacity` texts.
+    /// Makes an empty cache for the pieces of at most `capacity` texts.
     pub fn new(alloc: Global, capacity: usize) -> Result<Self, AllocError>
         requires some { 1 ≤ capacity }
         requires most { capacity ≤ 4096 }
@@ -48,7 +48,7 @@ impl PieceCache {
         }
     }
 
-    /// The pieces of the text by the names in `live`, as `shortcode_scan::pieces` gives them. They are kept for the
+    /// Returns the pieces of the text by the names in `live`, as `shortcode_scan::pieces` does. They are kept for the
     /// next time, unless memory for that runs out.
     pub fn pieces(&mut self, live: &[TagName], text: &str) -> Result<Vec<Piece>, AllocError>
         ensures pieces { IfOk result (λ pieces. IsPieces live.now text.now pieces.items) }
@@ -60,14 +60,14 @@ impl PieceCache {
         Vec::from_slice(self.alloc, found.as_slice())
     }
 
-    /// The same pieces, shared with the cache; none is copied.
+    /// Returns the same pieces, shared with the cache and not copied.
     pub fn shared(&mut self, live: &[TagName], text: &str) -> Result<SharedPieces, AllocError>
         ensures pieces { IfOk result (λ pieces. IsPieces live.now text.now pieces) }
         ensures value { IfOk result (λ pieces. pieces ≡ pieces_of live.now text.now) }
         ensures spans { IfOk result (λ pieces. AllByRecursion (HasSpansOf text.now) pieces) }
         ensures capacity { self.new ≡ self.old }
     {
-        // With no live name the text is one plain piece: it is found faster than it is looked up.
+        // With no live name the text is one plain piece, which is made faster than it is looked up.
         if live.is_empty() {
             return SharedPieces::new(pieces(self.alloc, live, text)?);
         }
@@ -81,7 +81,7 @@ impl PieceCache {
         Ok(found)
     }
 
-    /// The number of texts whose pieces it keeps.
+    /// Returns the number of texts whose pieces it keeps.
     pub fn kept(&self) -> usize
         ensures { result ≤ self.now }
     {

@@ -40,7 +40,7 @@ impl SharedPieces {
         self.pieces.as_slice()
     }
 
-    /// The same pieces for another owner; none is copied.
+    /// Returns the same pieces for another owner, without copying them.
     pub fn share(&self) -> Result<Self, AllocError>
         ensures { IfOk result (λ shared. shared ≡ self.now) }
     {
@@ -80,7 +80,7 @@ fn copied_names(alloc: Global, names: &[TagName]) -> Result<Listed<TagName>, All
     Ok(Listed::new(copy))
 }
 
-/// Whether two lists have the same names in the same order.
+/// Returns whether two lists have the same names in the same order.
 pub fn are_same(left: &[TagName], right: &[TagName]) -> bool
     ensures { IsTrue result ↔ (left.now ≡ right.now) }
 {

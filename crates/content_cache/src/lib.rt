@@ -1,4 +1,4 @@
-//! A cache of the pieces that shortcodes cut texts into, least recently used out first.
+//! A cache of the pieces that shortcodes cut texts into. If it is full, the least recently used text is dropped.
 #![tactic(auto)]
 
 mod cache;

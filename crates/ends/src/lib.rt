@@ -16,28 +16,29 @@ pub use over_std::{Reading, Writing};
 pub use pieces::{write_all, write_pieces};
 use thiserror::Error;
 
-/// A read or a write failed. Why is not told: the end knows from then on that it has failed.
+/// A read or a write failed. The fault has no reason: the end knows from then on that it has failed.
 #[derive(Clone, Copy, Debug, PartialEq, Eq, Drop, Error)]
 #[error("the end failed")]
 pub struct EndFault;
 
-/// Where input comes from.
+/// A source of bytes, which input is read from.
 pub trait Source {
-    /// The bytes that reads give from here on, or `None` if the source does not tell them.
+    /// The bytes that reads return from here on, or `None` if the source does not tell them.
     ghost remaining: { Self → Option (List ℕ) };
 
     /// Whether a read has failed.
     ghost has_failed: { Self → Bool };
 
-    /// Reads some bytes to the front of the buffer, and says how many. 0 into a buffer that has room is the end of the
-    /// input. A call that answers `EndFault` marks the source as failed; no other call does, and none clears the mark.
+    /// Reads some bytes into the front of the buffer, and returns how many. If the buffer has room, 0 means the end of
+    /// the input. A call that returns `EndFault` marks the source as failed; no other call does, and none clears the
+    /// mark.
     fn read(&mut self, buf: &mut [u8]) -> Result<usize, EndFault>
         ensures bound { ReadsAtMost result buf.new }
         ensures bytes { ReadConsumes (remaining self.old) (remaining self.new) result buf.new }
         ensures fault { has_failed self.new ≡ has_failed self.old || is_err result };
 }
 
-/// Where replies go.
+/// A sink of bytes, which replies are written to.
 pub trait Sink {
     /// The bytes that were taken so far, or `None` if the sink does not tell them.
     ghost contents: { Self → Option (List ℕ) };
@@ -45,8 +46,8 @@ pub trait Sink {
     /// Whether a write has failed.
     ghost has_failed: { Self → Bool };
 
-    /// Takes some of the bytes, from their front, and says how many: at least one where there is one. A call that
-    /// answers `EndFault` marks the sink as failed; no other call does, and none clears the mark.
+    /// Writes some of the bytes, from their front, and returns how many: at least one if there are any. A call that
+    /// returns `EndFault` marks the sink as failed; no other call does, and none clears the mark.
     fn write(&mut self, bytes: &[u8]) -> Result<usize, EndFault>
         ensures bound { WritesAtMost result bytes.now }
         ensures some { IfOk result (λ n. 0 < length bytes.now → 0 < n) }

@@ -14,7 +14,7 @@ pub struct Reading<R> {
 }
 
 impl<R: Read> Reading<R> {
-    /// The source that gives what the reader gives. Nothing is read yet, and no read has failed.
+    /// Makes a source of a reader. Nothing is read yet, and no read has failed.
     pub fn new(inner: R) -> Self
         ensures told { ⟦<Reading<R> as Source>⟧.remaining result ≡ R.remaining inner }
         ensures sound { ⟦<Reading<R> as Source>⟧.has_failed result ≡ false }
@@ -42,7 +42,8 @@ impl<R: Read> Source for Reading<R> {
     }
 }
 
-/// A sink over a writer. A failed write of any kind is a fault, and so is a write of some bytes that takes none.
+/// A sink over a writer. A failed write of any kind is a fault, and so is a write of some bytes that takes none of
+/// them.
 ///
 /// It tells its bytes if the writer does, as a `Vec<u8>` does and standard output does not.
 #[derive(Drop)]
@@ -52,7 +53,7 @@ pub struct Writing<W> {
 }
 
 impl<W: Write> Writing<W> {
-    /// The sink that hands on to the writer. Nothing is written yet, and no write has failed.
+    /// Makes a sink of a writer. Nothing is written yet, and no write has failed.
     pub fn new(inner: W) -> Self
         ensures told { ⟦<Writing<W> as Sink>⟧.contents result ≡ W.contents inner }
         ensures sound { ⟦<Writing<W> as Sink>⟧.has_failed result ≡ false }

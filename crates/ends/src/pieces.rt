@@ -9,7 +9,7 @@ use arrayvec::ArrayVec;
 // How many bytes of short pieces are gathered before they are written.
 const GATHERED: usize = 1024;
 
-/// Writes all the bytes, in as many writes as the sink wants. At an `Err` some of them were written, from their front.
+/// Writes all the bytes, in as many writes as the sink wants. On `Err` some of them were written, from their front.
 pub fn write_all<W: Sink>(writer: &mut W, bytes: &[u8]) -> Result<(), EndFault>
     requires { W.has_failed writer.old ≡ false }
     ensures ok { OnOk result (Appends (W.contents writer.old) (W.contents writer.new) bytes.now) }
@@ -26,7 +26,7 @@ pub fn write_all<W: Sink>(writer: &mut W, bytes: &[u8]) -> Result<(), EndFault>
 }
 
 /// Writes the pieces, one after another. Short pieces are gathered on the stack, up to 1,024 bytes, and written
-/// together, so it does not allocate. At an `Err` some of their bytes were written, from the front.
+/// together, so it does not allocate. On `Err` some of their bytes were written, from the front.
 pub fn write_pieces<W: Sink>(writer: &mut W, pieces: &[&[u8]]) -> Result<(), EndFault>
     requires { W.has_failed writer.old ≡ false }
     ensures ok { OnOk result (Appends (W.contents writer.old) (W.contents writer.new)

@@ -48,7 +48,8 @@ pub fn crowd(
     Ok(list)
 }
 
-/// The plugin with the callbacks from `first` to before `end`. On its own, so that few exits of `crowd` drop a list.
+/// Makes the plugin with the callbacks from `first` up to but not including `end`. A function of its own, so that few
+/// exits of `crowd` drop a list.
 fn plugin(
     alloc: Global,
     spread: Spread,
@@ -84,7 +85,7 @@ fn callbacks(alloc: Global, first: u16, end: u16) -> Result<Listed<Kept>, AllocE
     Ok(callbacks)
 }
 
-/// The names of the plugins, which are all active.
+/// Returns the names of the plugins, which are all active.
 pub fn active(alloc: Global) -> Result<Listed<Text>, AllocError> {
     let mut names = Listed::empty(alloc);
     for name in &NAMES {

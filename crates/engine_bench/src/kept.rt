@@ -5,7 +5,7 @@ use callback_store::Stated;
 use hook_changes::{Call, CallbackId, Listed, Reply, Text, Then};
 use std::alloc::{AllocError, Global};
 
-/// A callback that gives the value as it came.
+/// A callback that answers the value as it came.
 #[derive(Drop)]
 pub struct Kept {
     id: CallbackId,

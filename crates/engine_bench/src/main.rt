@@ -39,7 +39,7 @@ fn main(rt: HostRuntime) -> ExitCode {
     }
 }
 
-/// The number that an argument is, or 3 if there is no such argument.
+/// Reads an argument as a number: 3 if there is no such argument, and 0 if it isn't a number.
 fn number(word: Option<String>) -> u32 {
     match word {
         Some(word) => word.as_str().parse().unwrap_or(0),
@@ -53,7 +53,7 @@ fn value_after(alloc: Global, spread: Spread, count: u16, times: u32) -> Option<
     passes_over(alloc, &plugins, times).ok()
 }
 
-/// The same in a request of its own.
+/// Runs the passes in a request of their own.
 fn passes_over<S: Stated>(
     alloc: Global,
     plugins: &Plugins<S>,

@@ -9,7 +9,7 @@ use crate::callbacks::first_argument;
 use hook_changes::{Answer, Ask, Call, CallbackId, Listed, Reply, Text};
 use std::alloc::{AllocError, Global};
 
-/// The reply of the callback with this number, one of those that ask or show.
+/// Returns the reply of the callback with this number, one of those that ask or show.
 pub fn asking(alloc: Global, number: u32, call: &Call) -> Result<Reply, AllocError>
     ensures { IfOk result (λ reply. reply ≡ asking number call.now) }
 {
@@ -19,7 +19,7 @@ pub fn asking(alloc: Global, number: u32, call: &Call) -> Result<Reply, AllocErr
     asks_or_shows(alloc, number, call)
 }
 
-/// Prints and answers the arguments.
+/// Prints the arguments, and answers them.
 fn shows(alloc: Global, args: &[Text]) -> Result<Reply, AllocError>
     ensures { IfOk result (λ reply. reply ≡ shows args.now) }
 {
@@ -28,7 +28,7 @@ fn shows(alloc: Global, args: &[Text]) -> Result<Reply, AllocError>
     Ok(Reply::answer(alloc, text).with_echo(echo))
 }
 
-/// The arguments, each with a semicolon after it.
+/// Returns the arguments, each with a semicolon after it.
 fn listed(alloc: Global, args: &[Text]) -> Result<Text, AllocError>
     ensures { IfOk result (λ text. text ≡ listed args.now) }
 {
@@ -40,7 +40,7 @@ fn listed(alloc: Global, args: &[Text]) -> Result<Text, AllocError>
     Ok(text)
 }
 
-/// Asks, or else answers what it was told last.
+/// Asks, or else answers what the engine answered last.
 fn asks_or_shows(alloc: Global, number: u32, call: &Call) -> Result<Reply, AllocError>
     ensures { IfOk result (λ reply. reply ≡ asks_or_shows number call.now.args call.now.answers) }
 {
@@ -66,7 +66,7 @@ fn shown(alloc: Global, answer: &Answer) -> Result<Text, AllocError>
     }
 }
 
-/// What is asked first: of the hook that the second argument names, with the further arguments.
+/// Returns what is asked first: of the hook that the second argument names, with the further arguments.
 fn first_ask(alloc: Global, number: u32, call: &Call) -> Result<Ask, AllocError>
     ensures { IfOk result (λ ask. ask ≡ first_ask number call.now.args) }
 {
@@ -96,7 +96,7 @@ fn first_ask(alloc: Global, number: u32, call: &Call) -> Result<Ask, AllocError>
     }
 }
 
-/// Asks for a filter of a value with some letters after it.
+/// Makes the ask for a filter of a value with some letters after it.
 fn filter_ask(
     alloc: Global,
     hook: &str,
@@ -134,7 +134,7 @@ fn plain_ask(alloc: Global, number: u32, hook: &str, args: &[Text]) -> Result<As
     }
 }
 
-/// The title's own hook while the value is shorter than 32 bytes, and then the hook that is named.
+/// Returns the title's own hook while the value is shorter than 32 bytes, and then the hook that is named.
 fn deeper_hook<'a>(value: &str, name: &'a str) -> &'a str
     ensures { result.now ≡ deeper_hook value.now name.now }
 {
@@ -159,7 +159,7 @@ fn after_one(args: &[Text]) -> &[Text]
     }
 }
 
-/// Copies of the texts.
+/// Copies texts.
 fn copies(alloc: Global, texts: &[Text]) -> Result<Listed<Text>, AllocError>
     ensures { IfOk result (λ copies. copies ≡ texts.now) }
 {

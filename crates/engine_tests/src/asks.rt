@@ -1,5 +1,5 @@
-//! Asks with arguments, of hooks that have callbacks and of texts that are no hook's name, each worked out from the
-//! rules.
+//! Asks with arguments, about hooks that have callbacks and about texts that aren't hook names, each worked out from
+//! the rules.
 use crate::names::{LONGEST, TOO_LONG};
 use crate::plugins::{Given, Hook, Load};
 use crate::runs::{Setting, Step, are_answered};
@@ -96,7 +96,7 @@ static PASSES: [Case; 13] = [
         Ok("v"),
         "",
     ),
-    // An action has no value, and is answered by nothing.
+    // An action has no value, and its answer is `Nothing`.
     Case(
         [ACTS, On(Hook::In, 10, 207, 16), No],
         "v",
@@ -163,7 +163,7 @@ static QUESTIONS: [Case; 12] = [
     ),
     // Core's own callback.
     Case([HAS, No, No], "v", &["the_content"], Ok("1"), ""),
-    // The smallest priority, and no number if the hook has another callback alone.
+    // The smallest priority, and no number if only another callback of the hook is registered.
     Case(
         [HAS_207, On(Hook::In, 20, 207, 1), On(Hook::In, -5, 207, 1)],
         "v",
@@ -194,7 +194,8 @@ static QUESTIONS: [Case; 12] = [
     Case([DID, No, No], "v", &["in"], Ok("0"), ""),
 ];
 
-/// Asks of a text that is no hook's name: nothing is registered, run or counted, and a filter gives the value back.
+/// Asks about a text that isn't a hook name: nothing is registered, run or counted, and a filter answers the value
+/// unchanged.
 static NAMES: [Case; 16] = [
     Case(
         [APPLIES, On(Hook::TooLong, 10, 207, 1), No],
@@ -226,7 +227,7 @@ static NAMES: [Case; 16] = [
     ),
     Case([ACTS, DID, No], "v", &[TOO_LONG], Ok("0"), ""),
     Case([ACTS_THEN_DOING, No, No], "v", &[TOO_LONG], Ok("0"), ""),
-    // The empty text is no name either.
+    // Empty text isn't a name either.
     Case(
         [APPLIES, On(Hook::Empty, 10, 207, 1), No],
         "v",
@@ -256,7 +257,7 @@ static NAMES: [Case; 16] = [
         "",
     ),
     Case([ACTS, DID, No], "v", &[""], Ok("0"), ""),
-    // One byte less, and it is a hook.
+    // One byte shorter, it is a hook's name.
     Case(
         [APPLIES, On(Hook::Longest, 10, 207, 1), No],
         "v",
@@ -272,7 +273,7 @@ static NAMES: [Case; 16] = [
         "",
     ),
     Case([ACTS, DID, No], "v", &[LONGEST], Ok("1"), ""),
-    // It is asked one level deeper as any other: 32 levels down, and one too many.
+    // It is asked one level deeper like any other hook: 32 levels down, and one too many.
     Case([DEEPER, No, No], "x", &[TOO_LONG], Ok(XS), ""),
     Case(
         [DEEPER, No, No],
@@ -289,7 +290,7 @@ fn is_run(alloc: Global, case: &Case) -> bool {
         Step::Filters("the_title", case.1, case.2, case.3),
         Step::Prints(case.4),
     ];
-    // Nothing is printed by a run that was refused.
+    // A run that was refused prints nothing.
     let count = if case.3.is_ok() { 2 } else { 1 };
     are_answered(
         alloc,
@@ -327,7 +328,7 @@ static PAGES: [(&str, &str, &str); 3] = [
     ("", "v", ""),
 ];
 
-/// Whether a page's own passes over that name do so.
+/// Returns whether a page's own passes over that name answer and print this.
 fn is_named(
     alloc: Global,
     name: &'static str,

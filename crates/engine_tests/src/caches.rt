@@ -13,7 +13,7 @@ struct LookUp(bool, &'static str, bool, usize);
 struct Case(usize, &'static [LookUp]);
 
 static CACHES: [Case; 3] = [
-    // What is kept for other names isn't what is answered. Without a name nothing is kept.
+    // What is kept for other names isn't returned. Without a name nothing is kept.
     Case(
         1,
         &[

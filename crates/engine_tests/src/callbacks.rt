@@ -24,7 +24,7 @@ impl Stated for Tested {
         self.id
     }
 
-    // Number 106 never has the memory to reply.
+    // Number 106 fails on every call, as if memory had run out.
     #[tactic(auto, unfolding(crate::specs::Tested::tested))]
     fn answer(&self, alloc: Global, call: &Call) -> Result<Reply, AllocError> {
         let number = self.id.number();
@@ -50,7 +50,7 @@ fn lettered(alloc: Global, number: u32, value: &str) -> Result<Reply, AllocError
     Ok(Reply::answer(alloc, text).with_changes(changes))
 }
 
-/// The first argument, or empty text.
+/// Returns the first argument, or empty text.
 pub fn first_argument(call: &Call) -> &str
     ensures { result.now ≡ first_or_empty call.entry.now.args }
 {
@@ -99,14 +99,14 @@ fn changes(alloc: Global, number: u32, value: &str) -> Result<Listed<Change>, Al
     Ok(changes)
 }
 
-/// Whether a callback adds itself at a greater priority.
+/// Returns whether a callback adds itself at a larger priority.
 fn climbs(number: u32, value: &str) -> bool
     ensures { result ≡ climbs number value.now }
 {
     number == 107 || number == 104 && value.len() < 3
 }
 
-/// 11 and the length of the value, or the greatest priority.
+/// Returns 11 plus the length of the value, or the largest priority if that is smaller.
 fn next_priority(value: &str) -> i32
     ensures { result ≡ next_priority value.now }
 {

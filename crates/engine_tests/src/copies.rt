@@ -1,9 +1,9 @@
-//! Copies that the program makes none of.
+//! Copies of values that the program itself doesn't make.
 use shortcode_atts::{Atts, parse};
 use site_records::PostDate;
 use std::alloc::{AllocError, Global};
 
-/// The copy of a text's attributes.
+/// Reads a text's attributes, and copies them.
 fn copied(alloc: Global, text: &str) -> Result<Atts, AllocError> {
     parse(alloc, text)?.clone()
 }
@@ -15,7 +15,7 @@ fn attributes_are_copied(alloc: Global) -> bool {
     }
 }
 
-/// Whether the copy of a date gives its text back.
+/// Returns whether the copy of a date has the same text.
 fn date_is_copied(text: &str) -> bool {
     let Some(date) = PostDate::read(text) else {
         return false;

@@ -1,9 +1,9 @@
-//! A reader that fails once. What else the ends of the program do, `tests/ends` shows of the program.
+//! A reader that fails once. `tests/ends` shows of the built program what its ends do otherwise.
 use ends::{Reading, Source};
 use std::io;
 use std::io::{ErrorKind, Read};
 
-/// A reader of std that fails at its first read, and then gives its bytes.
+/// A reader of `std` that fails at its first read, and then returns its bytes.
 #[derive(Drop)]
 struct FailsOnce<'a> {
     has_failed: bool,
@@ -20,8 +20,8 @@ impl<'a> Read for FailsOnce<'a> {
     }
 }
 
-// A reader that fails is told as a fault at once, even if it would give bytes at the next read: what is read before a
-// fault never has a gap.
+// A failed read is reported as a fault at once, even if the next read would return bytes: what is read before a fault
+// never has a gap.
 #[test]
 fn a_fault_is_told_at_once(rt: HostRuntime) {
     let mut source = Reading::new(FailsOnce {

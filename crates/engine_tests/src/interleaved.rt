@@ -1,5 +1,5 @@
-//! Two pages and a run that go on by turns among each other, over one cache: each makes as many turns as it does alone
-//! and comes to the same end, however their turns lie among each other and however much the cache keeps.
+//! Two pages and a run that go on in turn with each other, over one cache: each makes as many turns as it does alone
+//! and comes to the same end, in whatever order their turns are made and however much the cache keeps.
 ghost use Rattle.std.specs.Prelude.{◌≤◌};
 ghost use Rattle.template_parts.specs.Page.{CanGoOn};
 
@@ -14,7 +14,7 @@ use std::alloc::{AllocError, Global};
 use template_parts::{Page, PageTurn};
 
 /// The job of a run: its active plugin, the value of the filter `the_title`, how many turns stop after a callback, and
-/// what comes of it.
+/// what the run answers.
 struct Work(&'static str, &'static str, u32, Answer);
 
 static WORKS: [Work; 4] = [
@@ -41,7 +41,8 @@ const BEGINNING: Place = Place {
     is_over: false,
 };
 
-/// One turn of a page that isn't over. False if it comes to a wrong end, or not after as many turns as alone.
+/// Makes one turn of a page that isn't over. Returns false if the page comes to a wrong end, or not after as many turns
+/// as alone.
 fn page_steps(
     page: &mut Page<'_, Tested>,
     case: &Case,
@@ -66,7 +67,8 @@ fn page_steps(
     }
 }
 
-/// One turn of a run that isn't over. False if it comes to a wrong end, or not after as many turns as alone.
+/// Makes one turn of a run that isn't over. Returns false if the run comes to a wrong end, or not after as many turns
+/// as alone.
 fn run_steps(
     run: &mut Run<'_, Tested>,
     work: &Work,
@@ -88,15 +90,15 @@ fn run_steps(
     place.turned == work.2 && is_text(outcome, work.3)
 }
 
-/// The next of a row of numbers that look random: a linear congruential generator with Knuth's constants.
+/// Returns the next pseudorandom number, by a linear congruential generator with Knuth's constants.
 fn next_number(number: u64) -> u64 {
     number
         .wrapping_mul(6364136223846793005)
         .wrapping_add(1442695040888963407)
 }
 
-/// Whose turn a step is: 0 is the first page's, 1 the second's, 2 the run's. With a batch of 0 it is as the number
-/// says; else the first page takes that many turns, and then the others take one each.
+/// Returns whose turn a step is: 0 is the first page's, 1 the second's, 2 the run's. With a batch of 0 the number
+/// decides; otherwise the first page takes `batch` turns, and then the others take one each.
 fn whose_turn(step: u32, batch: u32, number: u64) -> u32 {
     if batch == 0 {
         return ((number >> 40) % 3) as u32;
@@ -105,7 +107,7 @@ fn whose_turn(step: u32, batch: u32, number: u64) -> u32 {
     if at < batch { 0 } else { at - batch + 1 }
 }
 
-/// Whether each of them comes to its own end.
+/// Returns whether each of them comes to its own end.
 fn come_to_their_ends(
     first: &mut Page<'_, Tested>,
     second: &mut Page<'_, Tested>,
@@ -134,7 +136,7 @@ fn come_to_their_ends(
     one.is_over && two.is_over && three.is_over
 }
 
-/// What goes on, and in which order.
+/// What is run, and in which order.
 #[derive(Clone, Copy)]
 struct Script {
     first: &'static Case,
@@ -144,7 +146,7 @@ struct Script {
     seed: u64,
 }
 
-/// A script for each number: the cases in turn, each with another one and a work.
+/// Makes the script with a number: the cases in turn, each with another one and a job.
 fn script_at(at: u32) -> Script {
     Script {
         first: &CASES[at as usize % 16],
@@ -155,7 +157,7 @@ fn script_at(at: u32) -> Script {
     }
 }
 
-/// A run that has begun its job.
+/// Makes a run that has begun its job.
 fn started<'p>(
     alloc: Global,
     plugins: &'p Plugins<Tested>,
@@ -237,7 +239,7 @@ fn is_carried_out(
     }
 }
 
-/// Whether the scripts, one after another over one cache of that capacity, come to their right ends.
+/// Returns whether the scripts, one after another over one cache of that capacity, come to the right ends.
 fn are_carried_out(alloc: Global, plugins: &Plugins<Tested>, capacity: usize) -> bool
     requires { (1 ≤ capacity) × (capacity ≤ 4096) }
 {

@@ -21,10 +21,10 @@ static TEXTS: [(&str, Option<NameFault>, Option<NameFault>); 12] = [
     ("a", None, None),
     (LONGEST, None, None),
     (TOO_LONG, NO, NO),
-    // Letters, digits, `_` and `-` are in both.
+    // Letters, digits, `_` and `-` may appear in both.
     ("a-B_9", None, None),
     ("-", None, None),
-    // Any other character is in names of hooks alone.
+    // Any other character may appear only in names of hooks.
     ("a b", None, NO),
     ("a.b", None, NO),
     ("a/b", None, NO),
@@ -33,7 +33,7 @@ static TEXTS: [(&str, Option<NameFault>, Option<NameFault>); 12] = [
     ("the é [content]", None, NO),
 ];
 
-/// Whether a text is refused so as the name of a hook, or else read and given back.
+/// Returns whether a text is refused by that fault as the name of a hook, or else is read as one unchanged.
 fn is_hook(alloc: Global, text: &str, fault: Option<NameFault>) -> bool {
     match HookName::read(alloc, text) {
         Ok(name) => fault.is_none() && name.as_str() == text,
@@ -41,7 +41,7 @@ fn is_hook(alloc: Global, text: &str, fault: Option<NameFault>) -> bool {
     }
 }
 
-/// Whether a text is refused so as the name of a shortcode, or else read and given back.
+/// Returns whether a text is refused by that fault as the name of a shortcode, or else is read as one unchanged.
 fn is_tag(alloc: Global, text: &str, fault: Option<NameFault>) -> bool {
     match TagName::read(alloc, text) {
         Ok(name) => fault.is_none() && name.as_str() == text,

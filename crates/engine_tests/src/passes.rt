@@ -22,7 +22,7 @@ const NO_MEMORY: Answer = Err(RunFault::OutOfMemory);
 const NONE: [Load; 2] = [No, No];
 
 static CASES: [Case; 23] = [
-    // A hook that is emptied: the list that the pass reached is run to its end, and the next pass has none.
+    // A hook that is emptied: the list that the pass reached is run to its end, and the next pass has no callbacks.
     Case(
         [
             On(Title, 10, 101, 1),
@@ -126,8 +126,8 @@ static CASES: [Case; 23] = [
         TOO_MANY,
         TOO_MANY,
     ),
-    // A callback that removes itself is run to the end of this pass, and is in no later one: at a smaller priority
-    // than another, at the same one before and after it, and at a greater one.
+    // A callback that removes itself is run to the end of this pass, and is in no later one: at a smaller priority than
+    // another, at the same one before and after it, and at a larger one.
     Case(
         [On(Title, 10, 105, 1), On(Title, 20, 102, 1), No],
         NONE,
@@ -164,7 +164,7 @@ static CASES: [Case; 23] = [
         Ok("b"),
         PLAIN,
     ),
-    // Its registration at a greater priority is gone when the pass would reach it, and that at a smaller one stays.
+    // Its registration at a larger priority is gone when the pass would reach it, and that at a smaller one stays.
     Case(
         [On(Title, 5, 105, 1), On(Title, 10, 105, 1), No],
         NONE,
@@ -184,7 +184,7 @@ static CASES: [Case; 23] = [
         Ok("r"),
         PLAIN,
     ),
-    // A callback that has no memory to reply ends the run.
+    // A callback that runs out of memory ends the run.
     Case(
         [On(Title, 10, 106, 1), On(Title, 20, 102, 1), No],
         NONE,
@@ -214,7 +214,7 @@ static CASES: [Case; 23] = [
         Ok("xr [r"),
     ),
     Case([Tag(102), No, No], NONE, false, 1, Ok(""), Ok(""), TOO_MANY),
-    // The handler of a plugin that isn't active isn't made one, and its shortcode stays plain text.
+    // The handler of a plugin that isn't active isn't registered, and its shortcode stays plain text.
     Case([Tag(103), No, No], NONE, false, 2, Ok(""), Ok(""), PLAIN),
     Case(
         [Tag(103), No, No],
@@ -225,7 +225,7 @@ static CASES: [Case; 23] = [
         Ok(""),
         Ok("xc [c"),
     ),
-    // No callback, no call.
+    // Without a callback no call is taken.
     Case([No, No, No], NONE, false, 0, Ok(""), Ok(""), PLAIN),
 ];
 

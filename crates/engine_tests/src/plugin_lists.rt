@@ -16,19 +16,19 @@ const TOO_MANY: Option<PluginFault> = Some(PluginFault::TooMany);
 /// Two names, the number of a callback of each, and how a list of two such plugins is refused.
 static PAIRS: [([&str; 2], [u32; 2], Option<PluginFault>); 8] = [
     (["a", "b"], [101, 102], None),
-    // Each name stands once.
+    // Each name appears once.
     (["a", "a"], [101, 102], SAME_NAME),
     (["a", "a"], [101, 101], SAME_NAME),
-    // Each number stands once, and 0 is core's.
+    // Each number appears once, and 0 is core's.
     (["a", "b"], [101, 0], SAME_CALLBACK),
     (["a", "b"], [0, 101], SAME_CALLBACK),
     (["a", "b"], [101, 101], SAME_CALLBACK),
-    // A bad name is told before one that stands twice, and before numbers.
+    // A bad name is reported before a repeated one, and before numbers.
     (["a", "a b"], [101, 101], BAD_NAME),
     (["", ""], [101, 102], BAD_NAME),
 ];
 
-/// How a list of two plugins with a callback each is refused.
+/// Returns the fault by which a list of two plugins with a callback each is refused, if it is.
 fn fault_of_pair(alloc: Global, names: &[&str; 2], numbers: &[u32; 2]) -> Option<PluginFault> {
     let first = Given(names[0], &numbers[..1], &[]);
     let second = Given(names[1], &numbers[1..], &[]);
@@ -46,7 +46,7 @@ fn pairs_are_refused(rt: HostRuntime) {
 static SIZES: [(usize, usize, usize, Option<PluginFault>); 7] = [
     (0, 0, 0, None),
     (1, 1, 256, None),
-    // Too many of anything is told before all else.
+    // Too many of anything is reported before all else.
     (64, 0, 0, SAME_NAME),
     (65, 0, 0, TOO_MANY),
     (1, 256, 256, SAME_CALLBACK),
@@ -54,7 +54,8 @@ static SIZES: [(usize, usize, usize, Option<PluginFault>); 7] = [
     (1, 0, 257, TOO_MANY),
 ];
 
-/// The fault of a list of `count` plugins, each with `callbacks` callbacks and `changes` changes.
+/// Returns the fault of a list of `count` plugins, each with `callbacks` callbacks and `changes` changes, if it has
+/// one.
 fn fault_of_many(
     alloc: Global,
     count: usize,

@@ -8,7 +8,7 @@ use callback_store::{Plugin, PluginFault, Plugins};
 use hook_changes::{CallbackId, Change, Listed, Text};
 use std::alloc::{AllocError, Global};
 
-/// A hook of a load list. A variant and not its name, since a table can't hold an array of what has references.
+/// A hook of a load list. A variant and not its name, since a table can't hold an array of a type that has references.
 #[derive(Clone, Copy)]
 pub enum Hook {
     Title,
@@ -18,10 +18,10 @@ pub enum Hook {
     Empty,
 }
 
-/// A place in a load list.
+/// An entry of a load list.
 #[derive(Clone, Copy)]
 pub enum Load {
-    /// Nothing stands there.
+    /// No entry.
     No,
     /// Adds a callback to a hook at a priority, with an accepted count.
     On(Hook, i32, u32, u8),
@@ -33,7 +33,7 @@ pub enum Load {
 #[derive(Clone, Copy)]
 pub struct Given<'a>(pub &'a str, pub &'a [u32], pub &'a [Load]);
 
-/// The plugins that are given, beside those of the bundle or without them.
+/// Makes these plugins, with those of the bundle or without them.
 pub fn plugins(
     alloc: Global,
     has_bundle: bool,

@@ -29,11 +29,11 @@ pub enum Step {
     Replaces(&'static str, Answer),
     /// What was printed since the last such step.
     Prints(&'static str),
-    /// Of how many texts the cache keeps the pieces.
+    /// The number of texts whose pieces the cache keeps.
     Keeps(usize),
 }
 
-/// Whether a new run over such plugins, which are loaded first, answers each step so.
+/// Returns whether a new run in this setting, whose plugins are loaded first, answers each step as it says.
 pub fn are_answered(alloc: Global, setting: &Setting<'_>, steps: &[Step]) -> bool {
     match plugins(alloc, setting.0, setting.1) {
         Ok(plugins) => are_answered_over(alloc, &plugins, setting, steps),
@@ -57,7 +57,7 @@ fn are_answered_over(
     }
 }
 
-/// A run with its plugins loaded.
+/// Makes a run, with its plugins loaded.
 pub fn loaded<'p>(
     alloc: Global,
     plugins: &'p Plugins<Tested>,
@@ -136,7 +136,7 @@ fn acts(
     run.do_action(hook, &args, cache)
 }
 
-/// These texts.
+/// Copies texts.
 pub fn texts(alloc: Global, texts: &[&str]) -> Result<Listed<Text>, AllocError> {
     let mut listed = Listed::empty(alloc);
     for text in texts {
@@ -145,7 +145,7 @@ pub fn texts(alloc: Global, texts: &[&str]) -> Result<Listed<Text>, AllocError> 
     Ok(listed)
 }
 
-/// Whether that is the text, or the fault.
+/// Returns whether a result is that text, or that fault.
 pub fn is_text(found: Result<Text, RunFault>, wanted: Result<&str, RunFault>) -> bool {
     match found {
         Ok(text) => wanted == Ok(text.as_str()),

@@ -1,5 +1,5 @@
-//! Site files that are given as bytes. The program reads them from a command's JSON tree, which shows all but where the
-//! first fault is.
+//! Site files that are given as bytes. The program reads them from a command's JSON tree, and its replies show
+//! everything but where the first fault is.
 use site_import::{ImportFault, Place, Section, read_site};
 use site_records::SiteRecords;
 use std::alloc::Global;
@@ -9,7 +9,7 @@ const NOTHING: &[u8] = br#"{"version":1}"#;
 const ONE_OF_EACH: &[u8] =
     br#"{"active":["bold"],"templates":{"index":[ {"tag" : "the_title"}, "\u0078" ]},"options":{"a":"1"},"posts":[{"id":2147483647,"kind":"page","status":"draft","title":"T","content":"[b]","date":"9999-12-31 23:59:59","more":0}],"front":0,"version":1}"#;
 
-/// Whether a site file is read, and has that many of each.
+/// Returns whether a site file is read, and has `count` entries in each section.
 fn has(alloc: Global, bytes: &[u8], count: usize) -> bool {
     match read_site(alloc, bytes) {
         Ok(file) => {
@@ -123,7 +123,7 @@ static FAULTS: [(&[u8], ImportFault); 12] = [
     ),
 ];
 
-/// Whether the first fault of a site file is that one.
+/// Returns whether the first fault of a site file is that one.
 fn is_refused(alloc: Global, bytes: &[u8], fault: ImportFault) -> bool {
     match read_site(alloc, bytes) {
         Ok(_) => false,
@@ -138,7 +138,7 @@ fn first_faults_are_found(rt: HostRuntime) {
     }
 }
 
-// Each front part of a site file is faulty as a text.
+// A site file that is cut short is not a JSON text.
 #[test]
 fn front_parts_are_no_site_files(rt: HostRuntime) {
     for end in 0..ONE_OF_EACH.len() {

@@ -15,8 +15,8 @@ use template_parts::{Page, PageTurn, Settings};
 use template_trees::{SharedTemplate, default_index};
 
 /// The active plugin, or two with a space between them, the title and content of the one post if there is one, how many
-/// calls a page has, how many turns stop after a callback, and what the next turn gives: a page, or a fault that each
-/// later turn gives too.
+/// calls a page has, how many turns stop after a callback, and what the next turn returns: a page, or a fault that each
+/// later turn returns too.
 pub struct Case(
     &'static str,
     Option<(&'static str, &'static str)>,
@@ -73,15 +73,15 @@ pub static CASES: [Case; 16] = [
         33,
         Err(RunFault::TooDeep),
     ),
-    // No call at all.
+    // No calls at all.
     Case("marks", Some(("T", "")), 0, 0, TOO_MANY),
-    // A callback that adds itself at a greater priority while the title is shorter than 3 bytes, and then core's.
+    // A callback that adds itself at a larger priority while the title is shorter than 3 bytes, and then core's.
     Case("climb", Some(("", "")), 5, 5, Ok("<h2>xxxx</h2>")),
     Case("climb", Some(("", "")), 4, 4, TOO_MANY),
     // One that always does.
     Case("climb-on", Some(("", "")), 5, 5, TOO_MANY),
     Case("climb-on", Some(("", "")), 1000, 1000, TOO_MANY),
-    // A callback that never has the memory to reply.
+    // A callback that fails on every call, as if memory had run out.
     Case(
         "fail",
         Some(("T", "")),
@@ -93,7 +93,7 @@ pub static CASES: [Case; 16] = [
 
 const TOO_MANY: Answer = Err(RunFault::TooManyCalls);
 
-/// The bundle's plugins, and some that are made for tests.
+/// Makes the bundle's plugins, and some for tests.
 pub fn all_plugins(alloc: Global) -> Result<Plugins<Tested>, PluginFault> {
     let given = [
         Given("climb", &[104], &[Load::On(Hook::Title, 10, 104, 1)]),
@@ -155,7 +155,7 @@ pub fn begun<'p>(
     Ok(Page::begin(alloc, found, settings, run))
 }
 
-/// Whether a turn gave that page, or that fault.
+/// Returns whether a turn returned that page, or that fault.
 pub fn is_end(turned: Result<PageTurn, RunFault>, wanted: Answer) -> bool {
     match turned {
         Ok(PageTurn::Done(status, bytes)) => is_page(status, bytes.as_slice(), wanted),
@@ -171,7 +171,7 @@ fn is_page(status: u16, bytes: &[u8], wanted: Answer) -> bool {
     }
 }
 
-/// Whether the whole page is that one, or refused by that fault.
+/// Returns whether the whole page is that one, or is refused by that fault.
 fn is_whole(finished: Result<(u16, Vec<u8>), RunFault>, wanted: Answer) -> bool {
     match finished {
         Ok((status, bytes)) => is_page(status, bytes.as_slice(), wanted),
@@ -179,7 +179,7 @@ fn is_whole(finished: Result<(u16, Vec<u8>), RunFault>, wanted: Answer) -> bool 
     }
 }
 
-/// Whether that many turns stop before the page's end.
+/// Makes that many turns, and returns whether all of them stop before the page's end.
 fn is_stopped(page: &mut Page<'_, Tested>, cache: &mut PieceCache, turns: u32) -> bool
     requires { CanGoOn page.old }
     ensures { CanGoOn page.new }
@@ -193,7 +193,8 @@ fn is_stopped(page: &mut Page<'_, Tested>, cache: &mut PieceCache, turns: u32) -
     true
 }
 
-/// Whether the case's page stops as often and then ends so, and each later call gives the fault of a refused one.
+/// Returns whether the case's page stops as often as the case says and then ends as it says, and each later call
+/// returns the fault of a refused one.
 fn is_case(alloc: Global, plugins: &Plugins<Tested>, case: &Case, cache: &mut PieceCache) -> bool {
     match begun(alloc, plugins, case) {
         Ok(mut page) => {
@@ -205,7 +206,7 @@ fn is_case(alloc: Global, plugins: &Plugins<Tested>, case: &Case, cache: &mut Pi
     }
 }
 
-/// Whether the case's page is finished so, once some turns have stopped.
+/// Returns whether the case's page, finished after some turns, is what the case says.
 fn is_finished(
     alloc: Global,
     plugins: &Plugins<Tested>,

@@ -39,7 +39,7 @@ impl Stated for Exclaim {
     }
 }
 
-/// The plugin, as the one of a list.
+/// Makes a list of this plugin alone.
 pub fn listed(alloc: Global) -> Result<Listed<Plugin<Exclaim>>, AllocError>
     ensures { IfOk result (λ plugins. map (shape_of number_of) plugins ≡ exclaim ∷ []) }
 {
@@ -56,7 +56,7 @@ pub fn listed(alloc: Global) -> Result<Listed<Plugin<Exclaim>>, AllocError>
     Ok(plugins)
 }
 
-/// What each request begins with if the plugin is active.
+/// Makes the load list: what each request begins with if the plugin is active.
 fn load(alloc: Global) -> Result<Listed<Change>, AllocError>
     ensures { IfOk result (λ changes. changes ≡ load) }
 {

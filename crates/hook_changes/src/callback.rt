@@ -20,14 +20,14 @@ impl Model for CallbackId {
 }
 
 impl CallbackId {
-    /// The callback with this number.
+    /// Makes the ID of the callback with this number.
     pub fn new(number: u32) -> Self
         ensures { result ≡ number }
     {
         CallbackId { number }
     }
 
-    /// The callback's number.
+    /// Returns the callback's number.
     pub fn number(self) -> u32
         ensures { result ≡ self }
     {

@@ -17,14 +17,14 @@ impl Model for Text {
 }
 
 impl Text {
-    /// The text of a `String`, which is moved and not copied.
+    /// Makes a text of a `String`, which is moved and not copied.
     pub fn new(text: String) -> Self
         ensures { result ≡ string_bytes text }
     {
         Text { text }
     }
 
-    /// The empty text. It does not allocate.
+    /// Makes the empty text. Does not allocate.
     pub fn empty(alloc: Global) -> Self
         ensures { result ≡ [] }
     {
@@ -33,7 +33,7 @@ impl Text {
         }
     }
 
-    /// A copy of a text.
+    /// Copies a text.
     pub fn copied(alloc: Global, text: &str) -> Result<Self, AllocError>
         ensures { IfOk result (λ copy. copy ≡ text.now) }
     {
@@ -42,14 +42,14 @@ impl Text {
         })
     }
 
-    /// The text itself.
+    /// Borrows the text.
     pub fn as_str(&self) -> &str
         ensures { result.now ≡ self.now }
     {
         self.text.as_str()
     }
 
-    /// Appends a text. If there is no memory for it, nothing is appended.
+    /// Appends a text. On allocation failure nothing is appended.
     pub fn push_str(&mut self, text: &str) -> Result<(), AllocError>
         ensures ok { OnOk result (self.new ≡ self.old ++ text.now) }
         ensures err { OnErr result (self.new ≡ self.old) }
@@ -57,7 +57,7 @@ impl Text {
         self.text.push_str(text)
     }
 
-    /// Gives the `String` back.
+    /// Returns the `String`, which is moved and not copied.
     pub fn into_string(self) -> String
         ensures { string_bytes result ≡ self }
     {
@@ -89,14 +89,14 @@ impl<T> Model for Listed<T> {
 }
 
 impl<T> Listed<T> {
-    /// The items of a `Vec`, which is moved and not copied.
+    /// Makes a list of the items of a `Vec`, which is moved and not copied.
     pub fn new(items: Vec<T>) -> Self
         ensures { result ≡ items.items }
     {
         Listed { items }
     }
 
-    /// No items. It does not allocate.
+    /// Makes a list of no items. Does not allocate.
     pub fn empty(alloc: Global) -> Self
         ensures { result ≡ [] }
     {
@@ -105,14 +105,14 @@ impl<T> Listed<T> {
         }
     }
 
-    /// The items, counted from 0.
+    /// Borrows the items.
     pub fn as_slice(&self) -> &[T]
         ensures { result.now ≡ self.now }
     {
         self.items.as_slice()
     }
 
-    /// Appends an item. If there is no memory for it, the items stay as they were.
+    /// Appends an item. On allocation failure the items stay as they were.
     pub fn push(&mut self, item: T) -> Result<(), AllocFailed<T>>
         ensures ok { OnOk result (self.new ≡ self.old ++ item ∷ []) }
         ensures err { OnErr result (self.new ≡ self.old) }
@@ -120,7 +120,7 @@ impl<T> Listed<T> {
         self.items.push(item)
     }
 
-    /// Gives the `Vec` back.
+    /// Returns the `Vec`, which is moved and not copied.
     pub fn into_vec(self) -> Vec<T>
         ensures { result.items ≡ self }
     {

@@ -15,7 +15,7 @@ pub enum NameFault {
     /// The text is empty, longer than 64 bytes or, for a shortcode, has a byte outside the alphabet.
     #[error("not a name")]
     BadName,
-    /// There was no memory for the copy.
+    /// Memory for the copy ran out.
     #[error("out of memory")]
     OutOfMemory,
 }
@@ -62,7 +62,7 @@ impl HookName {
         })
     }
 
-    /// The text that was read.
+    /// Returns the text that was read.
     pub fn as_str(&self) -> &str
         ensures text { result.now ≡ self.now }
         ensures name { IsTrue (is_hook_name self.now) }
@@ -70,7 +70,7 @@ impl HookName {
         self.name.as_str()
     }
 
-    /// Whether both are the name of one hook: names are compared byte by byte.
+    /// Returns whether both are the name of one hook: names are compared byte by byte.
     pub fn is(&self, other: &HookName) -> bool
         ensures { result ≡ bytes_eq self.now other.now }
     {
@@ -120,7 +120,7 @@ impl TagName {
         })
     }
 
-    /// The text that was read.
+    /// Returns the text that was read.
     pub fn as_str(&self) -> &str
         ensures text { result.now ≡ self.now }
         ensures name { IsTrue (is_tag_name self.now) }
@@ -139,7 +139,7 @@ impl Clone for TagName {
     }
 }
 
-/// Whether a text is the name of a shortcode.
+/// Returns whether a text is the name of a shortcode.
 pub fn is_tag_name(text: &str) -> bool
     ensures { result ≡ is_tag_name text.now }
 {

@@ -9,8 +9,8 @@ use std::alloc::Global;
 
 /// A change of the registrations or of the shortcodes.
 ///
-/// A change that names no hook or no tag, a callback of a plugin that isn't active, or an accepted count above 16
-/// does nothing.
+/// A change does nothing if it names no hook or no tag, or a callback of a plugin that isn't active, or has an accepted
+/// count above 16.
 #[derive(Drop)]
 pub enum Change {
     /// `add_filter` or `add_action`: hooks share one table. `accepted` is how many arguments the callback takes.
@@ -102,7 +102,7 @@ pub enum Answer {
 pub struct Call {
     /// The hook that runs the callback; empty for the handler of a shortcode.
     pub hook: Text,
-    /// The first of the pass's arguments, as many as the callback accepts; in a filter the value stands first.
+    /// The first of the pass's arguments, as many as the callback accepts; in a filter the value comes first.
     pub args: Listed<Text>,
     /// The tag whose handler this is; empty for the callback of a hook, as `atts` and `content` are.
     pub tag: Text,
@@ -119,7 +119,7 @@ pub struct Call {
 pub enum Then {
     /// It is done. In a filter this is the next value, in a shortcode what replaces it; an action drops it.
     Answer(Text),
-    /// It is called again, with the engine's answer after those that it had.
+    /// It is called again, with the engine's answer after those that it was given before.
     Ask(Ask),
 }
 
@@ -134,7 +134,7 @@ pub struct Reply {
 }
 
 impl Reply {
-    /// A reply that answers a text, changes nothing and prints nothing. It does not allocate.
+    /// Makes a reply that answers a text, changes nothing and prints nothing. Does not allocate.
     pub fn answer(alloc: Global, text: Text) -> Self
         ensures { result ≡ answers_text text }
     {
@@ -145,7 +145,7 @@ impl Reply {
         }
     }
 
-    /// A reply that asks, changes nothing and prints nothing. It does not allocate.
+    /// Makes a reply that asks, changes nothing and prints nothing. Does not allocate.
     pub fn ask(alloc: Global, ask: Ask) -> Self
         ensures { result ≡ asks ask }
     {
@@ -156,7 +156,7 @@ impl Reply {
         }
     }
 
-    /// The same reply, with these changes in place of its own.
+    /// Returns the same reply, with these changes in place of its own.
     pub fn with_changes(self, changes: Listed<Change>) -> Self
         ensures { result ≡ record self { changes = changes } }
     {
@@ -168,7 +168,7 @@ impl Reply {
         }
     }
 
-    /// The same reply, with this text to print in place of its own.
+    /// Returns the same reply, with this text to print in place of its own.
     pub fn with_echo(self, echo: Text) -> Self
         ensures { result ≡ record self { echo = echo } }
     {

@@ -1,4 +1,4 @@
--- Attributes of which there are none.
+-- Attributes that are empty.
 use Rattle.std.proofs.Common.{◌≡◌, ℕ, true, false, ◌==◌, List, [], ◌∷◌, length, Option, None, Some, refl, sym}
 use Rattle.std.specs.Prelude.{map, is_some, option_map}
 use Rattle.std.specs.List.{slice_get}
@@ -14,7 +14,7 @@ none_left : {A B : Type 0} (f : A → B) (xs : List A) (ys : List B) → map f x
 none_left f [] ys e h = sym e
 none_left f (x ∷ xs) ys e h = absurd (cc)
 
--- there is no first pair, and no value without a name
+-- there is no first pair, and there are no values without a name
 pub nothing : {A B : Type 0} (g : A → List ℕ × List ℕ) (first : Option A) (f : B → List ℕ) (xs : List B) (a : Attributes)
     → is_some first ≡ false → option_map g first ≡ slice_get a.named 0 → map f xs ≡ a.positional → (length xs == 0) ≡ true → a ≡ no_attributes
 nothing g first f xs a n p e h =

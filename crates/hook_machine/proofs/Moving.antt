@@ -74,7 +74,7 @@ module _ (engine : Engine) where
   pub handed_moves : (t : Trace Text) (w : World) (x : Text) (fs : List Frame) → t ≡ Done w x → Moves engine (then_rest engine t fs) (Ok (Handed x)) w fs
   handed_moves t w x fs e = ap (λ (t : Trace Text). then_rest engine t fs) e
 
-  -- one that is refused, unless memory was
+  -- a run that is refused, unless memory ran out
   pub deep_moves : (t : Trace Text) (depth : ℕ) (f : RunFault) (fs : List Frame) → (32 ≤ depth → t ≡ Refused TooDeep)
       → (f ≡ OutOfMemory) ⊎ ((f ≡ TooDeep) × (32 ≤ depth)) → (v : World) (gs : List Frame) → Moves engine (then_rest engine t fs) (Err f) v gs
   deep_moves t depth f fs h (inl e) v gs = rw e tt
@@ -360,8 +360,8 @@ module _ (engine : Engine) where
       (frame.Shortcodes (record p { hand = None })) fs fs'
       (rw (n, b, a) refl) f r s gs k
 
-  -- a text that stands in place of a match as it is: the filter's value, or a handler's answer if nothing is registered on
-  -- the filter
+  -- a text that replaces a match as it is: the filter's value, or a handler's answer if nothing is registered on the
+  -- filter
   placed : (w : World) (p : PassOverText) (x : Text) (hand : Option Matched) → (IsSome hand → has w.table shortcode_filter ≡ false)
       → text_handed engine w p hand x ≡ text_left engine w (record p { so_far = p.so_far ++ in_place hand x })
   unfolding text_handed

@@ -55,7 +55,7 @@ module _ (inv : Invocation) where
   piece_by w text so_far p ps t h = piece_first w text so_far p ps
       ∙ ap (λ (t : Trace Text). and_then t (λ later result. pieces_pass inv text later (so_far ++ result) ps)) h
 
-  -- a piece that stands as it is
+  -- a piece that stays as it is
   pub piece_shown : (w : World) (text cut so_far : Text) (all ps : List Piece) (p : Piece) (todo : Work) (span : Span) (more : Text) → cut ≡ text
       → all ≡ p ∷ ps → piece_pass inv cut w p ≡ work_pass inv cut w todo → todo ≡ work.Shown span → more ≡ so_far ++ text_at cut span
       → pieces_pass inv text w so_far all ≡ pieces_pass inv text w more ps

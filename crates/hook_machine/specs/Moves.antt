@@ -14,12 +14,13 @@ use Rattle.hook_machine.specs.Trace.{Trace, Done, Refused, Turn as turned_to}
 use Rattle.hook_machine.specs.Meaning.{Engine}
 use Rattle.hook_machine.specs.Rest.{rest, rest_with, then_rest}
 
--- what a run gives from a move on: the world of the invocation, and then its frames; or its frames, once the result is handed on
+-- what is left of a run after a move: the world of the invocation, and then its frames; or its frames, once the result
+-- is handed on
 abbrev pub still_left : Engine → Move → World → List Frame → Trace Text
 still_left engine Turned world frames = turned_to world (rest engine world frames)
 still_left engine (Handed x) world frames = rest_with engine world frames x
 
--- what was left is what is still left; or it is the fault; or memory was refused
+-- what was left is what is still left; or it is the fault; or memory ran out
 abbrev pub Moves : Engine → Trace Text → Result Move RunFault → World → List Frame → Type 0
 Moves engine left (Ok move) world frames = left ≡ still_left engine move world frames
 Moves engine left (Err TooManyCalls) world frames = left ≡ Refused TooManyCalls
@@ -62,12 +63,12 @@ abbrev pub way_of : Move → List Frame → ℕ
 way_of Turned frames = zero
 way_of (Handed x) frames = suc (weight_of frames)
 
--- what a turn gives: the next world, and then what is left now; or the result
+-- what a turn leads to: the next world, and then what is left now; or the result
 abbrev pub turn_gives : Turn → World → Trace Text → Trace Text
 turn_gives turn.More world now = turned_to world now
 turn_gives (turn.Done x) world now = Done world x
 
--- what was left is what the turn gives; or it is the fault; or memory was refused
+-- what was left is what the turn leads to; or it is the fault; or memory ran out
 abbrev pub Turns : Trace Text → Result Turn RunFault → World → Trace Text → Type 0
 Turns left (Ok turn) world now = left ≡ turn_gives turn world now
 Turns left (Err TooManyCalls) world now = left ≡ Refused TooManyCalls

@@ -55,7 +55,7 @@ fn wait(
     Ok(())
 }
 
-/// A callback asked for a filter pass.
+/// Begins the filter pass that a callback asked for.
 fn ask_apply<S: Stated>(
     plugins: &Plugins<S>,
     state: &mut State,
@@ -74,7 +74,7 @@ fn ask_apply<S: Stated>(
     begin_filter(plugins, state, stack, hook.as_str(), value, args)
 }
 
-/// A callback asked for an action pass.
+/// Begins the action pass that a callback asked for.
 fn ask_act<S: Stated>(
     plugins: &Plugins<S>,
     state: &mut State,
@@ -92,7 +92,7 @@ fn ask_act<S: Stated>(
     begin_action(plugins, state, stack, hook.as_str(), args)
 }
 
-/// A callback asked for a text with its shortcodes replaced.
+/// Begins to replace the shortcodes of a text, as a callback asked.
 fn ask_shortcodes<S: Stated>(
     plugins: &Plugins<S>,
     state: &mut State,
@@ -110,7 +110,8 @@ fn ask_shortcodes<S: Stated>(
     begin_text(plugins, state, stack, text, cache)
 }
 
-/// Core's callback replaces the shortcodes of its first argument. That moves out of the call, which is not read again.
+/// Begins to replace the shortcodes of the first argument of core's callback. The argument moves out of the call, which
+/// is not read again.
 fn core_turn<S: Stated>(
     plugins: &Plugins<S>,
     state: &mut State,
@@ -129,7 +130,7 @@ fn core_turn<S: Stated>(
     begin_text(plugins, state, stack, text, cache)
 }
 
-/// Goes on after an ask.
+/// Answers what a callback asked, or begins the pass that has to come first.
 fn ask_turn<S: Stated>(
     plugins: &Plugins<S>,
     state: &mut State,
@@ -179,7 +180,7 @@ fn ask_turn<S: Stated>(
     }
 }
 
-/// Goes on as a callback replied: its answer is handed on, or its ask is answered.
+/// Goes on after a callback's reply: its answer is handed on, or its ask is answered.
 fn follow_turn<S: Stated>(
     plugins: &Plugins<S>,
     state: &mut State,
@@ -202,7 +203,7 @@ fn follow_turn<S: Stated>(
     }
 }
 
-/// Goes on with an invocation by its pending step. One that waits is handed nothing here.
+/// Goes on with an invocation by its pending step. An invocation that waits for a result is not handed one here.
 pub fn invocation_turn<S: Stated>(
     plugins: &Plugins<S>,
     state: &mut State,

@@ -22,7 +22,7 @@ use std::mem;
 pub struct PassParts {
     pub kind: PassKind,
     pub args: Listed<Text>,
-    /// In a filter the value after the callbacks so far.
+    /// In a filter, the value after the callbacks so far.
     pub value: Text,
     pub position: Position,
 }
@@ -67,7 +67,7 @@ impl HookPass {
         self.parts.args.as_slice()
     }
 
-    /// Its next entry, if there is one (class WP_Hook).
+    /// Takes the next entry of the pass, if there is one (class WP_Hook).
     pub fn next(&mut self, state: &State) -> Result<Option<Entry>, AllocError>
         ensures entry { IfOk result (λ found. found ≡ (next_entry state.now.table self.old.position).0) }
         ensures moved { OnOk result (self.new ≡ record self.old {
@@ -77,7 +77,7 @@ impl HookPass {
         state.next(&mut self.parts.position)
     }
 
-    /// Takes the value, which leaves empty text. Does not allocate.
+    /// Takes the value, and leaves empty text in its place. Does not allocate.
     pub fn take_value(&mut self, alloc: Global) -> Text
         ensures value { result ≡ self.old.value }
         ensures rest { self.new ≡ record self.old { value = [] } }
@@ -91,7 +91,7 @@ impl HookPass {
         self.parts.value = value;
     }
 
-    /// Hands it a callback's answer.
+    /// Hands the pass a callback's answer.
     pub fn hand(&mut self, alloc: Global, answer: Text)
         ensures { self.new ≡ record self.old { value = value_after self.old.kind self.old.value answer } }
     {
@@ -104,13 +104,13 @@ impl HookPass {
 /// What an invocation is to do next.
 #[derive(Drop)]
 pub enum Pending {
-    /// The callback has replied, and goes on so.
+    /// The callback has replied, and goes on by this.
     Next(Then),
     /// Core's callback is to replace the shortcodes of its first argument.
     Core,
-    /// What the callback asked runs, and answers by a text.
+    /// What the callback asked for is running, and its answer will be a text.
     ForText,
-    /// What it asked runs, and answers by nothing.
+    /// What it asked for is running, and its answer will be `Nothing`.
     ForNothing,
     /// The text of core's callback is being made.
     ForCore,
@@ -165,7 +165,7 @@ impl Invoked {
         &self.parts.call
     }
 
-    /// Makes it the invocation of another callback, with a call of its own.
+    /// Makes this the invocation of another callback, with a call of its own.
     pub fn set_call(&mut self, callback: CallbackId, call: Call)
         ensures { self.new ≡ record self.old { callback = callback; call = call } }
     {
@@ -179,7 +179,7 @@ impl Invoked {
         self.parts.pending = pending;
     }
 
-    /// Takes what it is to do next.
+    /// Takes the step that is pending.
     pub fn take_pending(&mut self) -> Pending
         ensures pending { result ≡ self.old.pending }
         ensures rest { self.new ≡ record self.old { pending = ForNothing } }
@@ -187,7 +187,7 @@ impl Invoked {
         mem::replace(&mut self.parts.pending, Pending::ForNothing)
     }
 
-    /// Hands its call one more answer.
+    /// Appends an answer to those in its call.
     pub fn add_answer(&mut self, answer: Answer) -> Result<(), AllocError>
         ensures { OnOk result (self.new ≡ record self.old {
           call = record self.old.call { answers = self.old.call.answers ++ answer ∷ [] };
@@ -196,7 +196,7 @@ impl Invoked {
         add_answer(&mut self.parts.call, answer)
     }
 
-    /// Takes the first argument out of its call, or empty text if there is none.
+    /// Takes the first argument out of its call; returns empty text if there is none.
     pub fn take_first_argument(&mut self, alloc: Global) -> Text
         ensures text { result ≡ first_or_empty self.old.call.args }
         ensures callback { self.new.callback ≡ self.old.callback }
@@ -204,9 +204,8 @@ impl Invoked {
         take_first_argument(alloc, &mut self.parts.call)
     }
 
-    /// Makes it the invocation of a hook's callback, whose call takes over the texts of the call before. A filter keeps
-    /// nothing of its value until the callback has answered, so the value itself goes into the call; an action keeps
-    /// it.
+    /// Makes this the invocation of a hook's callback. Its call reuses the texts of the call before. A filter needs its
+    /// value no more until the callback has answered, so the value itself moves into the call; an action keeps it.
     pub fn set_hook_call(
         &mut self,
         alloc: Global,

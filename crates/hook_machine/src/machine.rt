@@ -1,4 +1,4 @@
-//! What an invocation takes: the reply of a callback, and what stands in its call.
+//! What an invocation needs of its callback and its call.
 ghost use Rattle.std.specs.Prelude.{◌≡◌, ◌++◌, ◌∷◌, [], IfOk, OnOk};
 ghost use Rattle.hook_machine.specs.Meaning.{first_or_empty, said};
 ghost use Rattle.hook_machine.specs.Outcomes.{engine_over};
@@ -7,7 +7,7 @@ use callback_store::{Plugins, Stated};
 use hook_changes::{Answer, Call, CallbackId, Listed, Reply, Text, Then};
 use std::alloc::{AllocError, Global};
 
-/// The reply of a callback; a number that no plugin has says nothing.
+/// Returns the reply of a callback; a number that no plugin has answers empty text and does nothing else.
 pub fn reply_of<S: Stated>(
     plugins: &Plugins<S>,
     alloc: Global,
@@ -26,7 +26,7 @@ pub fn reply_of<S: Stated>(
     }
 }
 
-/// Takes the first argument out of a call, or empty text if there is none.
+/// Takes the first argument out of a call; returns empty text if there is none.
 pub fn take_first_argument(alloc: Global, call: &mut Call) -> Text
     ensures { result ≡ first_or_empty call.old.args }
 {
@@ -40,7 +40,7 @@ pub fn take_first_argument(alloc: Global, call: &mut Call) -> Text
     first
 }
 
-/// Hands a call one more answer.
+/// Appends an answer to those in a call.
 pub fn add_answer(call: &mut Call, answer: Answer) -> Result<(), AllocError>
     ensures { OnOk result (call.new ≡ record call.old { answers = call.old.answers ++ answer ∷ [] }) }
 {

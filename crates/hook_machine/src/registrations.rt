@@ -43,7 +43,7 @@ impl State {
         Ok(())
     }
 
-    /// Takes the registration of a callback at a priority away.
+    /// Removes the registration of a callback at a priority.
     pub fn deregister(
         &mut self,
         hook: &HookName,
@@ -86,8 +86,8 @@ impl State {
         Ok(())
     }
 
-    /// The next entry of a pass: the first one left, or else the first of the group of the next priority as it is now.
-    /// Without such a priority, and without memory, the position stays.
+    /// Takes the next entry of a pass: the first one left, or else the first of the group of the next priority as it is
+    /// now. If there is no such priority, or on allocation failure, the position stays as it was.
     pub fn next(&self, position: &mut Position) -> Result<Option<Entry>, AllocError>
         ensures entry { IfOk result (λ found. found ≡ (next_entry self.now.table position.old).0) }
         ensures moved { OnOk result (position.new ≡ (next_entry self.now.table position.old).1) }

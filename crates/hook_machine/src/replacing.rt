@@ -27,19 +27,19 @@ use std::alloc::{AllocError, Global};
 use std::marker::Model;
 use std::mem;
 
-/// The filter on what stands in place of a shortcode (Code Reference, do_shortcode_tag).
+/// The filter on what replaces a shortcode (Code Reference, do_shortcode_tag).
 const SHORTCODE_FILTER: &str = "do_shortcode_tag";
 
-/// What a shortcode pass has: the pieces left of its text, and what stands in place of the others.
+/// What a shortcode pass has: the pieces left of its text, and the text that the others have become.
 #[derive(Drop)]
 struct TextParts {
     cut: Cut,
     so_far: Text,
-    /// The match whose handler was invoked. Once that has answered there is none, also while its answer is filtered.
+    /// The match whose handler was invoked; `None` once that has answered, also while its answer is filtered.
     hand: Option<Matched>,
 }
 
-/// A shortcode pass. Its parts are on the heap, as those of each frame.
+/// A shortcode pass. Its parts are on the heap, like those of each frame.
 #[derive(Drop)]
 pub struct TextPass {
     parts: Box<TextParts>,
@@ -68,7 +68,7 @@ impl TextPass {
     ghost use Rattle.hook_machine.specs.Handling.{handling_pass};
     ghost use Rattle.hook_machine.specs.Rest.{in_place};
 
-    /// A pass over a text whose pieces are all left.
+    /// Makes a pass over a text of which all pieces are left.
     fn new(alloc: Global, cut: Cut) -> Result<Self, AllocError>
         ensures { IfOk result (λ pass. pass ≡ record { cut = cut; so_far = []; hand = None }) }
     {
@@ -94,21 +94,21 @@ impl TextPass {
         self.parts.hand
     }
 
-    /// Puts the match that was in hand away, once its handler has answered.
+    /// Forgets the match in hand, once its handler has answered.
     fn put_away(&mut self)
         ensures { self.new ≡ record self.old { hand = None } }
     {
         self.parts.hand = None;
     }
 
-    /// Takes what stands in place of the pieces so far, which leaves empty text. Does not allocate.
+    /// Takes the text that the pieces so far have become, and leaves empty text in its place. Does not allocate.
     fn take_text(&mut self, alloc: Global) -> Text
         ensures { result ≡ self.old.so_far }
     {
         mem::replace(&mut self.parts.so_far, Text::empty(alloc))
     }
 
-    /// Appends what stands in place of the match in hand, or a text as it is if there is none.
+    /// Appends what replaces the match in hand, or the text as it is if no match is in hand.
     fn append(&mut self, text: &str) -> Result<(), AllocError>
         ensures { OnOk result (self.new ≡ record self.old {
           so_far = self.old.so_far ++ in_place self.old.hand text.now;
@@ -195,7 +195,8 @@ pub fn text_turn<S: Stated>(
     }
 }
 
-/// Appends what stands in place of a match: a handler's answer between the extra brackets, or a text as it is.
+/// Appends what replaces a match: a handler's answer between the extra brackets, or the text as it is if there is no
+/// match.
 fn append(so_far: &mut Text, hand: Option<Matched>, text: &str) -> Result<(), AllocError>
     ensures { OnOk result (so_far.new ≡ so_far.old ++ in_place hand text.now) }
 {
@@ -212,7 +213,7 @@ fn append(so_far: &mut Text, hand: Option<Matched>, text: &str) -> Result<(), Al
     Ok(())
 }
 
-/// A handler's answer between its match's extra brackets. Without any it is moved and not copied.
+/// Puts a handler's answer between its match's extra brackets. If there are none, it is moved and not copied.
 fn between_brackets(alloc: Global, matched: Matched, answer: Text) -> Result<Text, AllocError>
     ensures { IfOk result (λ text. text ≡ bracketed matched answer) }
 {
@@ -224,7 +225,7 @@ fn between_brackets(alloc: Global, matched: Matched, answer: Text) -> Result<Tex
     Ok(text)
 }
 
-/// The further argument of the filter: the tag of a match.
+/// Makes the further argument of the filter: the tag of a match.
 fn tag_argument(alloc: Global, text: &str, name: Span) -> Result<Listed<Text>, AllocError>
     requires { IsSpanOf text.now name }
     ensures { IfOk result (λ args. args ≡ text_at text.now name ∷ []) }
@@ -234,7 +235,7 @@ fn tag_argument(alloc: Global, text: &str, name: Span) -> Result<Listed<Text>, A
     Ok(args)
 }
 
-/// The match in hand, if anything is registered on the filter that its handler's answer goes through.
+/// Returns the match in hand, if anything is registered on the filter that its handler's answer goes through.
 fn to_filter(state: &State, pass: &TextPass) -> Option<Matched>
     ensures { MatchOption result (IsSome pass.now.hand → IsFalse (has state.now.table shortcode_filter))
         (λ matched. (pass.now.hand ≡ Some matched) × IsSpanOf pass.now.cut.text matched.name) }
@@ -291,7 +292,7 @@ pub fn shown_turn<S: Stated>(
     }
 }
 
-/// Whether a text is one piece, which stands as it is.
+/// Returns whether a text is one piece, a stretch that stays as it is.
 fn is_one_stretch(text: &str, pieces: &[Piece]) -> bool
     ensures { IsTrue result → (invocation : Invocation) (world : World)
         → pieces_pass invocation text.now world [] pieces.now ≡ Done world text.now }

@@ -15,7 +15,7 @@ use callback_store::{Plugins, Stated};
 use content_cache::PieceCache;
 use hook_changes::{Listed, Text};
 
-/// What a turn of a run gave.
+/// What a turn of a run came to.
 #[derive(Drop)]
 pub enum Turn {
     /// A callback was invoked, and its echo and changes were carried out. There is more to do.
@@ -150,7 +150,7 @@ fn move_on<S: Stated>(
     }
 }
 
-/// One turn: it goes on until a callback was invoked, or to the end.
+/// Makes one turn: goes on until a callback was invoked, or to the end.
 pub fn next_turn<S: Stated>(
     plugins: &Plugins<S>,
     state: &mut State,
@@ -166,7 +166,7 @@ pub fn next_turn<S: Stated>(
     hand_on(plugins, state, stack, moved)
 }
 
-/// Turn after turn, to the end.
+/// Makes turn after turn, to the end.
 pub fn all_turns<S: Stated>(
     plugins: &Plugins<S>,
     state: &mut State,

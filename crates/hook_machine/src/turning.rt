@@ -17,7 +17,8 @@ use hook_changes::{HookName, Listed, NameFault, Text};
 use hook_registry::Entry;
 use std::alloc::AllocError;
 
-/// What an invocation is to do next, once its callback has replied and the reply's echo and changes are carried out.
+/// Calls the callback, carries the echo and the changes of its reply out, and returns what its invocation is to do
+/// next. Core's own callback has no reply.
 fn begun<S: Stated>(
     plugins: &Plugins<S>,
     state: &mut State,
@@ -55,7 +56,7 @@ pub fn invoke_turn<S: Stated>(
     Ok(Move::Turned)
 }
 
-/// The invocation of a pass's next callback, into whose call a filter's value moves.
+/// Makes the invocation of a pass's next callback. A filter's value moves into its call.
 fn next_invocation(
     state: &mut State,
     pass: &mut HookPass,

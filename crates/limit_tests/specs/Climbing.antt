@@ -10,11 +10,11 @@ abbrev pub first_argument : List (List ℕ) → List ℕ
 first_argument [] = []
 first_argument (x ∷ xs) = x
 
--- 11 and the length of the value, or the greatest priority
+-- 11 plus the length of the value, or the largest priority if that is smaller
 abbrev pub next_priority : List ℕ → ℤ
 next_priority value = if nat_lt 2147483636 (length value) then pos 2147483647 else pos (11 + length value)
 
--- a callback adds itself at a greater priority while the value has fewer bytes than its number says
+-- a callback adds itself at a larger priority while the value has fewer bytes than its number says
 abbrev pub changes : ℕ → List ℕ → List Change
 changes number value = if nat_lt (length value) number then Add (codes "the_title") (next_priority value) number 1 ∷ [] else []
 

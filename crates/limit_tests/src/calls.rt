@@ -1,4 +1,4 @@
-//! Pages whose callbacks need more and more calls, or have no memory.
+//! Pages whose callbacks need more and more calls, or run out of memory.
 use crate::replies::Wanted;
 use crate::sites::{Trial, passes};
 use site_program::Refusal;
@@ -28,7 +28,7 @@ static ONE_TOO_FEW: [(&[u8], Wanted); 3] = [PUT, CLIMB, TOO_MANY];
 
 static NEVER_ENOUGH: [(&[u8], Wanted); 3] = [PUT, CLIMB_ON, TOO_MANY];
 
-/// A callback without memory refuses each page, until its plugin is inactive.
+/// A callback that fails as if memory had run out: each page is refused until its plugin is inactive.
 static FAILS: [(&[u8], Wanted); 7] = [
     PUT,
     PLAIN,

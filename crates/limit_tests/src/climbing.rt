@@ -1,5 +1,5 @@
-//! Plugins of one callback each, on `the_title`: it adds itself at greater and greater priorities, or it never has the
-//! memory to reply.
+//! Plugins of one callback each, on `the_title`, which adds itself at larger and larger priorities, or fails on every
+//! call as if memory had run out.
 ghost use Rattle.std.specs.Prelude.{◌≡◌, codes, IfOk};
 ghost use Rattle.hook_changes.specs.declared.reply.Change.TheVariants.{Add};
 ghost use Rattle.limit_tests.specs.Climbing.{says, climbs, changes, next_priority, first_argument};
@@ -8,7 +8,7 @@ use callback_store::{Plugin, Plugins, Stated};
 use hook_changes::{Call, CallbackId, Change, Listed, Reply, Text};
 use std::alloc::{AllocError, Global};
 
-/// The number of the callback that has no memory.
+/// The number of the callback that fails on every call.
 const NO_MEMORY: u32 = 1;
 
 /// The plugins' names, each with the number of its callback.
@@ -81,7 +81,7 @@ fn addition(alloc: Global, number: u32, priority: i32) -> Result<Change, AllocEr
     })
 }
 
-/// 11 and the length of the value, or the greatest priority.
+/// Returns 11 plus the length of the value, or the largest priority if that is smaller.
 fn next_priority(value: &str) -> i32
     ensures { result ≡ next_priority value.now }
 {
@@ -91,7 +91,7 @@ fn next_priority(value: &str) -> i32
     11 + value.len() as i32
 }
 
-/// The plugins.
+/// Makes the plugins.
 pub fn plugins(alloc: Global) -> Option<Plugins<Climbing>> {
     match listed(alloc) {
         Ok(list) => Plugins::new(alloc, list).ok(),

@@ -94,7 +94,7 @@ static PAGES: [&[u8]; 6] = [
     br#"{"cmd":"get","path":"/?page_id=40"}"#,
 ];
 
-/// The pages, one after another.
+/// Returns the pages, one after another.
 fn shown(alloc: Global, site: &mut Site<'_, Climbing>) -> Result<Vec<u8>, AllocError> {
     let mut all = Vec::new(alloc);
     for page in &PAGES {
@@ -112,8 +112,8 @@ fn is_shown(alloc: Global, site: &mut Site<'_, Climbing>, pages: &[u8]) -> bool 
     }
 }
 
-/// Whether a line is replied to so under a limit, which is taken away again, and if not, whether it is refused as
-/// `Store`.
+/// Carries out a line under a limit, which is then removed. Returns whether the reply is the expected one, and whether
+/// it is the refusal `Store`.
 fn is_done(site: &mut Site<'_, Climbing>, limit: u32, line: &[u8], wanted: Wanted) -> (bool, bool) {
     site.limit_steps(Some(limit));
     let reply = site.command(line);
@@ -121,8 +121,8 @@ fn is_done(site: &mut Site<'_, Climbing>, limit: u32, line: &[u8], wanted: Wante
     (is_reply(&reply, wanted), is_reply(&reply, STORE))
 }
 
-/// Whether a command is refused as `Store` under each limit up to some, with all pages as before, and then replied to
-/// as without one.
+/// Returns whether a command is refused as `Store` under each limit that is too small, with all pages as before, and
+/// then gets the expected reply.
 fn is_stopped_or_done(
     alloc: Global,
     site: &mut Site<'_, Climbing>,
@@ -178,7 +178,7 @@ fn no_row_is_enough_without_a_statement(rt: HostRuntime) {
     assert!(rt; passes(rt.alloc(), 10_000, 3, Trial::Early));
 }
 
-/// Whether a post is shown under its ID.
+/// Returns whether a post is shown under its ID.
 fn has_post(alloc: Global, site: &mut Site<'_, Climbing>, id: u32) -> bool {
     match format!(in alloc; "{{\"cmd\":\"get\",\"path\":\"/?p={id}\"}}") {
         Ok(line) => !is_reply(&site.command(line.as_bytes()), NOTHING),
@@ -186,7 +186,8 @@ fn has_post(alloc: Global, site: &mut Site<'_, Climbing>, id: u32) -> bool {
     }
 }
 
-/// Whether a limit of one row stops the front of a site of 1,000 posts, and the posts then are those that were put in.
+/// Returns whether a limit of one row stops the front of a site of 1,000 posts, and the site then has exactly the posts
+/// that were stored.
 pub fn one_row(alloc: Global, site: &mut Site<'_, Climbing>) -> bool {
     site.limit_steps(Some(1));
     let is_front_stopped = is_reply(&site.command(FRONT), STORE);
@@ -196,7 +197,7 @@ pub fn one_row(alloc: Global, site: &mut Site<'_, Climbing>) -> bool {
     is_front_stopped && (is_put || is_reply(&reply, STORE)) && has_thousand(alloc, site, is_put)
 }
 
-/// Whether there are 1,000 posts, or one more.
+/// Returns whether there are the 1,000 posts, and a further one exactly if `and_one`.
 fn has_thousand(alloc: Global, site: &mut Site<'_, Climbing>, and_one: bool) -> bool {
     for id in 1..=1_000 {
         if !has_post(alloc, site, id) {

@@ -1,4 +1,4 @@
-//! What a line is to be replied.
+//! The expected reply to a line.
 use site_program::{Refusal, SiteReply};
 
 /// A reply.
@@ -10,7 +10,7 @@ pub enum Wanted {
     Page(u16, &'static str),
 }
 
-/// Whether that is the reply.
+/// Returns whether a reply is the expected one.
 pub fn is_reply(reply: &SiteReply, wanted: Wanted) -> bool {
     match (reply, wanted) {
         (SiteReply::Ok, Wanted::Ok) => true,

@@ -23,7 +23,7 @@ pub enum Trial {
 
 const PUT: &[u8] = br#"{"cmd":"put","title":"T","content":"C","date":"2024-05-01 10:00:00"}"#;
 
-/// Whether a new site with some posts, whose pages have some calls, passes a trial.
+/// Returns whether a new site with `count` posts, each of whose pages has `calls` calls, passes a trial.
 pub fn passes(alloc: Global, calls: u32, count: u32, trial: Trial) -> bool
     requires { (1 ≤ calls) × (calls ≤ 100000) }
 {
@@ -48,7 +48,7 @@ fn passes_over(
     }
 }
 
-/// Puts in some posts, the first of which has the ID 1.
+/// Stores `count` posts, the first of which gets the ID 1. Returns whether each is stored.
 fn is_filled(site: &mut Site<'_, Climbing>, count: u32) -> bool {
     for number in 0..count {
         if !is_reply(&site.command(PUT), Wanted::Id(number + 1)) {
@@ -67,7 +67,7 @@ fn is_passed(alloc: Global, site: &mut Site<'_, Climbing>, trial: Trial) -> bool
     }
 }
 
-/// Whether a site replies so to lines, one after another.
+/// Returns whether a site's replies to lines, one after another, are the expected ones.
 pub fn are_replies(site: &mut Site<'_, Climbing>, lines: &[(&[u8], Wanted)]) -> bool {
     for (line, wanted) in lines {
         if !is_reply(&site.command(line), *wanted) {

@@ -49,7 +49,7 @@ impl Stated for Callback {
     }
 }
 
-/// The plugin, as the one of a list.
+/// Makes a list of this plugin alone.
 pub fn listed(alloc: Global) -> Result<Listed<Plugin<Callback>>, AllocError>
     ensures { IfOk result (λ plugins. map (shape_of number_of) plugins ≡ notices ∷ []) }
 {
@@ -67,7 +67,7 @@ pub fn listed(alloc: Global) -> Result<Listed<Plugin<Callback>>, AllocError>
     Ok(plugins)
 }
 
-/// What each request begins with if the plugin is active.
+/// Makes the load list: what each request begins with if the plugin is active.
 fn load(alloc: Global) -> Result<Listed<Change>, AllocError>
     ensures { IfOk result (λ changes. changes ≡ load) }
 {
@@ -85,7 +85,7 @@ fn load(alloc: Global) -> Result<Listed<Change>, AllocError>
     Ok(changes)
 }
 
-/// A box round the content, in which the shortcodes are replaced first.
+/// Draws a box round the content, in which the shortcodes are replaced first.
 fn notice(alloc: Global, call: &Call) -> Result<Reply, AllocError>
     ensures { IfOk result (λ reply. reply ≡ notice call.now.atts call.now.content call.now.answers) }
 {
@@ -102,7 +102,7 @@ fn notice(alloc: Global, call: &Call) -> Result<Reply, AllocError>
     }
 }
 
-/// The box round a content.
+/// Makes the box round a content.
 fn notice_html(alloc: Global, atts: &Atts, content: &str) -> Result<Text, AllocError>
     ensures { IfOk result (λ html. html ≡ notice_html atts.now content.now) }
 {
@@ -113,7 +113,7 @@ fn notice_html(alloc: Global, atts: &Atts, content: &str) -> Result<Text, AllocE
     }
 }
 
-/// The attributes `kind` and `label`, or else their defaults.
+/// Returns the attributes `kind` and `label`, or else their defaults.
 fn with_defaults(alloc: Global, atts: &Atts) -> Result<Vec<(String, String)>, AllocError>
     ensures { IfOk result (λ pairs. map pair_bytes pairs.items ≡ with_defaults atts.now defaults) }
 {
@@ -142,7 +142,7 @@ fn boxed(alloc: Global, kind: &str, label: &str, content: &str) -> Result<Text, 
     Ok(Text::new(html))
 }
 
-/// A title after the post's ID, if the filter is given one.
+/// Puts the post's ID before a title, if the filter is given one.
 fn numbered(alloc: Global, args: &[Text]) -> Result<Text, AllocError>
     ensures { IfOk result (λ title. title ≡ numbered args.now) }
 {

@@ -81,7 +81,7 @@ replaced (suc n) p s out is (a, b, q, rest, found, keeps, on, made) =
     let more = ⊎_elim (λ next. replaced n q (drop b s) rest (keeps ∙ is) next.1) (λ empty. absurd (omega (arith, empty.0, has.ends))) on in
     made ∙ ap (λ l. take a s ++ (escape ++ l)) more ∙ sym (up_to_end s a b lacks has)
 
--- an end stands if a text goes on with one
+-- an end occurs where a text goes on with one
 stands : (s rest : List ℕ) (i : ℕ) → drop i s ≡ end ++ rest → OccursAt s end i
 stands s rest i same =
     record {

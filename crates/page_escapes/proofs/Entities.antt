@@ -25,7 +25,7 @@ stays c plain =
     let whole = sym (append-nil bytes) in
     stay bytes (λ k inside. ⊎_elim (λ low. subst P (inside_one c [] bytes k whole inside low) plain) (beyond_ascii _) (cases_lt (get_or bytes k 0) 128))
 
--- a byte that is none of the marks has no entity
+-- a byte that isn't one of the marks has no entity
 plain_byte : (b : ℕ) → (is_byte3 38 60 62 b ≡ true → ⊥) → (is_byte2 34 39 b ≡ true → ⊥) → entity b ≡ b ∷ []
 plain_byte b mark quote = grind (arith, nat_tests, mark, quote)
 

@@ -1,4 +1,4 @@
-//! Text made safe for the place in a page where it stands.
+//! Text made safe for its place in a page.
 #![tactic(auto)]
 
 ghost use Rattle.std.specs.Prelude.{◌≡◌, ◌++◌, IsTrue, IfOk, OnOk, codes, string_bytes};
@@ -9,7 +9,8 @@ use hook_changes::Text;
 use memchr::{memchr2, memchr3, memmem};
 use std::alloc::{AllocError, Global};
 
-/// A text with each `]]>` as `]]&gt;` (Code Reference, the_content). A text without one is given back and not copied.
+/// Writes each `]]>` of a text as `]]&gt;` (Code Reference, the_content). A text without one is returned and not
+/// copied.
 pub fn escape_ends(alloc: Global, text: Text) -> Result<Text, AllocError>
     ensures { IfOk result (λ escaped. escaped ≡ ends_escaped text) }
 {
@@ -20,14 +21,14 @@ pub fn escape_ends(alloc: Global, text: Text) -> Result<Text, AllocError>
     Ok(Text::new(escaped))
 }
 
-/// Whether no `]]>` is in a text.
+/// Returns whether a text has no `]]>`.
 fn has_no_end(text: &str) -> bool
     ensures { IsTrue result → ends_escaped text.now ≡ text.now }
 {
     memmem::find(text.as_bytes(), b"]]>").is_none()
 }
 
-/// A text with `&`, `<`, `>`, `"` and `'` as entities. An entity that stands there is escaped too (Code Reference,
+/// Writes `&`, `<`, `>`, `"` and `'` of a text as entities. An entity that the text has is escaped too (Code Reference,
 /// esc_html).
 pub fn escape_html(alloc: Global, text: &str) -> Result<Text, AllocError>
     ensures { IfOk result (λ escaped. escaped ≡ html_escaped text.now) }
@@ -42,7 +43,7 @@ pub fn escape_html(alloc: Global, text: &str) -> Result<Text, AllocError>
     Ok(Text::new(escaped))
 }
 
-/// `escape_html` for a text that is owned: one without any of these characters is given back and not copied.
+/// Escapes an owned text as [`escape_html`] does. One without any of these characters is returned and not copied.
 pub fn into_escaped_html(alloc: Global, text: Text) -> Result<Text, AllocError>
     ensures { IfOk result (λ escaped. escaped ≡ html_escaped text) }
 {
@@ -52,7 +53,7 @@ pub fn into_escaped_html(alloc: Global, text: Text) -> Result<Text, AllocError>
     escape_html(alloc, text.as_str())
 }
 
-/// Whether no character of a text has an entity.
+/// Returns whether no character of a text has an entity.
 fn has_no_mark(text: &str) -> bool
     ensures { IsTrue result → html_escaped text.now ≡ text.now }
 {
@@ -74,9 +75,9 @@ fn push_escaped(text: &mut String, character: char) -> Result<(), AllocError>
     }
 }
 
-/// What some texts come to. The call itself does nothing: it carries these facts.
+/// States what some texts become. The call itself does nothing: it carries these facts.
 pub fn worked_escapes()
-    // Only a `>` after `]]` is escaped, and what follows it is not after that mark.
+    // Only a `>` right after `]]` is escaped; the byte after that one doesn't come after `]]` any more.
     ensures end { ends_escaped (codes "]]>") ≡ codes "]]&gt;" }
     ensures end_behind_a_bracket { ends_escaped (codes "]]]>>") ≡ codes "]]]&gt;>" }
     ensures one_bracket { ends_escaped (codes "]>") ≡ codes "]>" }

@@ -77,14 +77,14 @@ list_kind options = if fronts_a_page options then Home else Front
 abbrev pub front_of : FoundKind → ℕ → List Post → Found
 front_of kind part posts = if nat_le part 1 then showing kind posts else unless_empty kind posts
 
--- a front that lists posts: of a part that is no number it has none
+-- a front that lists posts: a part that isn't a number is empty
 abbrev pub listed_front : List Post → List (Text × Text) → Option ℕ → Found
 listed_front posts options part =
     option_map_or (λ n. front_of (list_kind options) n (part_of_posts (posts_per_page options) n (published_posts posts)))
     part nothing
 
--- a query that finds nothing whatever posts a site has: for nothing, for a month that the calendar doesn't have, or, if the
--- front lists posts, for a part of it that is no number
+-- a query that finds nothing whatever posts a site has: for nothing, for a month that the calendar doesn't have, or, if
+-- the front lists posts, for a part of it that isn't a number
 abbrev pub is_void : List (Text × Text) → Query → Bool
 is_void options query.Nothing = true
 is_void options (query.Front part) = not (is_some (page_on_front options) || is_some part)

@@ -24,11 +24,11 @@ last_value name pairs = option_map (λ p. p.1) (find (λ p. bytes_eq p.0 name) (
 abbrev pub part_number : Text → Option ℕ
 part_number text = option_map (λ n. max n 1) (whole_number text)
 
--- without `paged` it is the first part, and there is none if `paged` is no number
+-- without `paged` it is the first part; there is no part if `paged` isn't a number
 abbrev pub part_of : Option Text → Option ℕ
 part_of paged = option_map_or part_number paged (Some 1)
 
--- a value that is not of its form asks for nothing
+-- a value that doesn't have its form asks for nothing
 abbrev pub asks : {A : Type 0} → (A → Query) → Option A → Query
 asks query value = option_map_or query value Nothing
 

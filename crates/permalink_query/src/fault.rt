@@ -6,10 +6,10 @@ use thiserror::Error;
 /// Why the posts of a query can't be found. No row has changed.
 #[derive(Clone, Copy, Debug, PartialEq, Eq, Drop, Error)]
 pub enum FindFault {
-    /// There was no memory.
+    /// Memory ran out.
     #[error("out of memory")]
     OutOfMemory,
-    /// The database refused in another way.
+    /// The database refused for another reason.
     #[error("store failed")]
     Store,
 }

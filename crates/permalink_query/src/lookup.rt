@@ -51,14 +51,17 @@ use std::alloc::{AllocError, Global};
 /// How many posts make a part if the option doesn't say.
 const DEFAULT_SIZE: u32 = 10;
 
-/// What a site has for a query: published posts and pages alone, and of a list the part that the
-/// query names, newest first (class WP_Query). A part has as many posts as the option `posts_per_page`
-/// says, if that is a number from 1 to 100, and else 10. If the option `show_on_front` is `page` and
-/// `page_on_front` a number other than 0, the front shows the page with that ID, whatever the part.
-/// Of options the first of a name counts. Nothing is found if there is no such post or page, and if a
-/// part is empty, but for the first part of a front that lists posts. A part of it that is no number
-/// finds nothing, and neither does a month that the calendar doesn't have. It is refused on allocation
-/// failure, or by the limit on the steps of a statement, and not at all if there is nothing to look for.
+/// Finds what a site has for a query: only published posts and pages, and of a list the part that the query names,
+/// newest first (class WP_Query). A part has as many posts as the option `posts_per_page` says, if that is a number
+/// from 1 to 100, and otherwise 10. If the option `show_on_front` is `page` and `page_on_front` is a number other than
+/// 0, the front shows the page with that ID, whatever the part. If an option is repeated, its first value counts.
+///
+/// Nothing is found if there is no such post or page, or if a part is empty, except the first part of a front that
+/// lists posts. A part of it that isn't a number finds nothing, and neither does a month that the calendar doesn't
+/// have.
+///
+/// It fails if memory runs out, or if a statement would go past the limit on its steps, and never if there is nothing
+/// to look for.
 pub fn find(
     alloc: Global,
     tables: &mut Tables,
@@ -87,7 +90,7 @@ pub fn find(
     }
 }
 
-/// The page that the front shows, or else a part of all posts.
+/// Finds the page that the front shows, or else a part of all posts.
 fn find_front(
     alloc: Global,
     tables: &mut Tables,
@@ -108,7 +111,7 @@ fn find_front(
     }
 }
 
-/// A part of all posts, or nothing if the part is no number.
+/// Finds a part of all posts, or nothing if the part isn't a number.
 fn list_front(
     alloc: Global,
     tables: &mut Tables,
@@ -129,7 +132,7 @@ fn list_front(
     }
 }
 
-/// A part of the posts of a month.
+/// Finds a part of the posts of a month.
 fn find_month(
     alloc: Global,
     tables: &mut Tables,
@@ -150,7 +153,7 @@ fn find_month(
     Ok(unless_empty(alloc, FoundKind::Month, posts))
 }
 
-/// A part of the published posts of a month, or `None` if the calendar has no such month.
+/// Returns a part of the published posts of a month, or `None` if the calendar has no such month.
 fn month_part(
     alloc: Global,
     tables: &mut Tables,
@@ -174,7 +177,7 @@ fn month_part(
     Ok(Some(posts))
 }
 
-/// A part of all published posts. Each has a date between the first and the last that there are.
+/// Returns a part of all published posts. Each has a date between the first and the last possible one.
 fn front_part(tables: &mut Tables, size: u32, part: u32) -> Result<Listed<Post>, FindFault>
     requires { size ≤ 100 }
     ensures ok { IfOk result (λ posts. posts
@@ -186,7 +189,7 @@ fn front_part(tables: &mut Tables, size: u32, part: u32) -> Result<Listed<Post>,
     part_of(tables, &from, &to, size, part)
 }
 
-/// The first and the last moment that a post can have.
+/// Returns the first and the last moment that a post can have.
 #[tactic(auto, unfolding(site_records::specs::Dates::is_post_date))]
 fn all_dates() -> (PostDate, PostDate)
     ensures from { result.0 ≡ codes "0001-01-01 00:00:00" }
@@ -201,7 +204,7 @@ fn all_dates() -> (PostDate, PostDate)
     }
 }
 
-/// The posts of a span that a part has.
+/// Returns the posts of a span of dates that a part has.
 fn part_of(
     tables: &mut Tables,
     from: &PostDate,
@@ -220,7 +223,7 @@ fn part_of(
     Ok(tables.posts_of(PostKind::Post, from, to, size, offset)?)
 }
 
-/// The published entry of a kind with the ID, if there is one.
+/// Returns the published entry of a kind with the ID, if there is one.
 fn published(
     alloc: Global,
     tables: &mut Tables,
@@ -235,7 +238,7 @@ fn published(
     Ok(if_published(alloc, kind, found)?)
 }
 
-/// An entry, if it is published and of the kind.
+/// Returns the entry, if it is published and of the kind.
 fn if_published(
     alloc: Global,
     kind: PostKind,
@@ -291,7 +294,7 @@ fn nothing(alloc: Global) -> Found
     }
 }
 
-/// How many posts make a part.
+/// Returns how many posts make a part.
 fn posts_per_page(options: &[(Text, Text)]) -> u32
     ensures value { result ≡ posts_per_page options.now }
     ensures few { result ≤ 100 }
@@ -302,7 +305,7 @@ fn posts_per_page(options: &[(Text, Text)]) -> u32
     }
 }
 
-/// The ID of the page that the front shows, if it shows one.
+/// Returns the ID of the page that the front shows, if it shows one.
 fn page_on_front(options: &[(Text, Text)]) -> Option<u32>
     ensures { result ≡ page_on_front options.now }
 {
@@ -315,7 +318,7 @@ fn page_on_front(options: &[(Text, Text)]) -> Option<u32>
     }
 }
 
-/// The kind of a front that lists posts.
+/// Returns the kind of a front that lists posts.
 fn list_kind(options: &[(Text, Text)]) -> FoundKind
     ensures { result ≡ list_kind options.now }
 {
@@ -326,7 +329,7 @@ fn list_kind(options: &[(Text, Text)]) -> FoundKind
     }
 }
 
-/// Whether the front is to show a page.
+/// Returns whether the front is to show a page.
 fn fronts_a_page(options: &[(Text, Text)]) -> bool
     ensures { result ≡ fronts_a_page options.now }
 {

@@ -8,7 +8,7 @@ use jiff::civil::Date;
 use site_records::PostDate;
 use std::alloc::{AllocError, Global};
 
-/// The first and the last moment of a month, or nothing if there is no such month.
+/// Returns the first and the last moment of a month, or `None` if there is no such month.
 pub(crate) fn month_span(
     alloc: Global,
     year: u16,

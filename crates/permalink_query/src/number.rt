@@ -4,7 +4,7 @@ ghost use Rattle.permalink_query.specs.Numbers.{whole_number, year_and_month};
 
 use site_records::{MAX_ID, number};
 
-/// The number of one to ten digits, if it is at most the largest ID.
+/// Reads a number of one to ten digits, if it is at most the largest ID.
 pub(crate) fn whole_number(text: &str) -> Option<u32>
     ensures { result ≡ whole_number text.now }
 {
@@ -18,7 +18,7 @@ pub(crate) fn whole_number(text: &str) -> Option<u32>
     Some(n as u32)
 }
 
-/// The year and the month that six digits spell.
+/// Reads the year and the month that six digits spell.
 pub(crate) fn year_and_month(text: &str) -> Option<(u16, u8)>
     ensures { result ≡ year_and_month text.now }
 {

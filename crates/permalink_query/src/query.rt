@@ -25,7 +25,7 @@ use std::borrow::CowStr;
 #[derive(Clone, Copy, PartialEq, Eq)]
 pub enum Query {
     /// The page that the site has at its front, or else a part of all posts, newest first. The part is `None` if
-    /// `paged` is no number, which finds nothing if posts are listed.
+    /// `paged` isn't a number, which finds nothing if posts are listed.
     Front { part: Option<u32> },
     /// One post.
     Single { id: u32 },
@@ -33,15 +33,15 @@ pub enum Query {
     Page { id: u32 },
     /// A part of the posts of a month, newest first. Months are counted from 1.
     Month { year: u16, month: u8, part: u32 },
-    /// What no post or page answers to.
+    /// A request that no post or page matches.
     Nothing,
 }
 
-/// Reads the path of a request: `/` or `/index.php`, and after its first `?` the pairs of a form
-/// (URL Standard, `application/x-www-form-urlencoded`). The first of `p`, `page_id` and `m` that is
-/// there decides alone, by its last value; `paged` counts with `m` and with the front, which is
-/// asked for if none of the three is there. Any other path asks for nothing, and so does a value
-/// that is not of its form, but for `paged` with the front. It fails only if memory runs out.
+/// Reads the path of a request: `/` or `/index.php`, and after its first `?` the pairs of a form (URL Standard,
+/// `application/x-www-form-urlencoded`). The first of `p`, `page_id` and `m` that is there decides alone, by its last
+/// value; `paged` counts with `m` and with the front, which is asked for if none of the three is there. Any other path
+/// asks for nothing, and so does a value that doesn't have its form, except `paged` with the front. It fails only if
+/// memory runs out.
 pub fn read(alloc: Global, path: &str) -> Result<Query, AllocError>
     ensures { IfOk result (λ query. query ≡ query_of path.now) }
 {
@@ -52,7 +52,7 @@ pub fn read(alloc: Global, path: &str) -> Result<Query, AllocError>
     }
 }
 
-/// The path up to its first `?`, and what comes after it.
+/// Splits a path into what comes before its first `?` and what comes after it.
 fn split_path(path: &str) -> (&str, &str)
     ensures before { result.0.now ≡ before_first is_question_mark path.now }
     ensures after { result.1.now ≡ after_first is_question_mark path.now }
@@ -72,7 +72,7 @@ fn read_form(alloc: Global, form: &str) -> Result<Query, AllocError>
     read_list(alloc, form)
 }
 
-/// The list that `m` and `paged` ask for.
+/// Reads the list that `m` and `paged` ask for.
 fn read_list(alloc: Global, form: &str) -> Result<Query, AllocError>
     ensures { IfOk result (λ query. query ≡
         let part = part_of (last_value (codes "paged") (parse form.now)) in
@@ -113,7 +113,7 @@ fn month(text: &str, part: Option<u32>) -> Query
     }
 }
 
-/// The part that `paged` asks for, or nothing if it is no number.
+/// Returns the part that `paged` asks for, or `None` if it isn't a number. Without `paged` it is part 1.
 fn read_part(alloc: Global, form: &str) -> Result<Option<u32>, AllocError>
     ensures { IfOk result (λ part. part ≡ part_of (last_value (codes "paged") (parse form.now))) }
 {
@@ -129,7 +129,7 @@ fn part_number(text: &str) -> Option<u32>
     whole_number(text).map(|n| n.max(1))
 }
 
-/// The last value under a name, with U+FFFD for what is not UTF-8 in it.
+/// Returns the last value under a name, with U+FFFD for what is not UTF-8 in it.
 fn last_value<'a>(
     alloc: Global,
     form: &'a str,
@@ -147,7 +147,7 @@ fn last_value<'a>(
     Ok(last)
 }
 
-/// The value of a pair that has the name, and else what was found before.
+/// Returns the value of a pair that has the name, or else what was found before.
 fn value_under<'a>(
     name: &str,
     pair: (CowStr<'a>, CowStr<'a>),

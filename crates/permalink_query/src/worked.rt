@@ -17,7 +17,7 @@ ghost use Rattle.permalink_query.specs.Months.{is_in_month};
 use crate::query::Query;
 use site_records::{FoundKind, PostStatus};
 
-/// What some paths ask for. The call itself does nothing: it carries these facts.
+/// States what some paths ask for. The call itself does nothing: it carries these facts.
 #[tactic(auto, unfolding(form_urlencoded::proofs::OnLiterals::form_urlencoded_on_literals))]
 pub fn worked_queries()
     // The front has two names, and any other path asks for nothing.
@@ -70,8 +70,8 @@ pub fn worked_queries()
     ensures part_of_a_page { query_of (codes "/?page_id=4&paged=2") ≡ Query.Page 4 }
 {}
 
-/// What a site has for some queries: posts 1, 2, 5 and 6, the draft 3 and the page 4, all of May 2024.
-/// The call itself does nothing: it carries these facts.
+/// States what a site has for some queries: posts 1, 2, 5 and 6, the draft 3 and the page 4, all of May 2024. The call
+/// itself does nothing: it carries these facts.
 pub fn worked_finds()
     ensures front { found some_posts [] (Query.Front (Some 1)) ≡ showing FoundKind.Front
         (post 2 wednesday ∷ post 6 tuesday ∷ post 5 monday ∷ post 1 monday ∷ []) }
@@ -113,10 +113,10 @@ pub fn worked_finds()
     ensures no_size { posts_per_page ((codes "posts_per_page", codes "all") ∷ []) ≡ 10 }
 {}
 
-/// What the front of a site with the posts above is: with the page 4 at its front, with an ID there that is no
+/// States what the front of a site with the posts above is: with the page 4 at its front, with an ID there that isn't a
 /// published page's, and with posts in place of a page. The call itself does nothing: it carries these facts.
 pub fn worked_fronts()
-    // The page is shown whatever the part, and asked for by its ID it is no front.
+    // The page is shown whatever the part; asked for by its ID it isn't a front.
     ensures page { found some_posts (fronting (codes "page") (codes "4")) (Query.Front (Some 1))
         ≡ showing FoundKind.FrontPage (page 4 tuesday ∷ []) }
     ensures second_part { found some_posts (fronting (codes "page") (codes "4")) (Query.Front (Some 2))

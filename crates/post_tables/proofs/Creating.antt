@@ -27,7 +27,7 @@ use Rattle.post_tables.specs.Stored.{IsBare, IsSite, ArePosts, AreNamed, IsCount
 use Rattle.post_tables.proofs.Texts.{post_is, sequence_is, option_is, template_is, active_is, index_is}
 use Rattle.post_tables.proofs.Memory.{wrote}
 
--- a part that gave a value did not stop on the way
+-- a part that has a value did not stop on the way
 pub went : {B E R : Type 0} {b : B} {Stops : E → Type 0} → ((stop : E) × Stops stop × (Ok b ≡ Err stop)) ⊎ R → R
 went (inl stopped) = absurd (let e = stopped.2 in cc)
 went (inr on) = on

@@ -23,7 +23,7 @@ use Rattle.sqlite_rules.proofs.PlaceLemmas.{row_at_is}
 use Rattle.post_tables.proofs.Comparing.{mapped_from, mapped_has}
 use Rattle.post_tables.proofs.Reading as reading
 
--- the rows that have none of the rowids
+-- the rows whose rowid isn't one of these
 without_is : (ids : List ℤ) (rows : List Row) → without_all rows ids ≡ filter (λ r. not (list_any (λ id. has_rowid id r) ids)) rows
 without_is [] rows = keeps_all rows
   where

@@ -1,4 +1,4 @@
--- What the queries for an ID answer, also within a transaction.
+-- What the queries for an ID return, also within a transaction.
 use Rattle.std.proofs.Common.{◌≡◌, inl, inr, ℕ, pos, negsuc, List, [], ◌∷◌, map, filter, Bool, false, not, ◌==◌, codes, Option, Some, None, Ok, Err, Result, IfOk, Vec, is_some, nat_eq, length, ◌≤◌, lit≤, refl, sym, ap, subst, ◌∙◌}
 use Rattle.std.specs.declared.alloc.Global.{Global}
 use Rattle.std.specs.Option.{option_to_list}
@@ -63,7 +63,7 @@ module _ (shown : List Term) where
     abbrev passes : Row → Bool
     passes = reading.passes 0 wheres shown [] [] (lit (Int (negsuc 0))) (lit (Int (pos 0))) (λ _. []) (id_given id)
 
-    -- the answer is what is shown of the post, or nothing
+    -- the result is what is shown of the post, or nothing
     pub by_id : (db : Trees) → ArePosts (db 0) → (rows : List Row) → IsAnswer query (overlay db []) (id_given id) rows
         → rows ≡ map (λ p. (shows (row_of p)).1) (option_to_list (post_with id (map post_in (db 0))))
     by_id db ok rows a =

@@ -31,7 +31,7 @@ edited_given id e (p ∷ ps) n given =
     let rest = edited_given id e ps n given.1 in
     elim (p.id == id) as (λ b. AreGiven (cond b (edited_post e p) p ∷ edited_posts id e ps) n) [ true ↦ (given.0, rest) | false ↦ (given.0, rest) ]
 
--- the ID after the largest is none of them
+-- the ID after the largest isn't one of them
 pub next_is_free : (ps : List Post) (n : ℕ) → AreGiven ps n → has_post (n + 1) ps ≡ false
 next_is_free [] n given = refl
 next_is_free (p ∷ ps) n given =

@@ -30,7 +30,7 @@ module _ (old new : Held MemStore) (idle : IsIdle old) where
   not_run sql params e (inl refused) = same refused.1
   not_run sql params e (inr broke) = failed _ e broke
 
-  -- a statement that answers an error changes nothing
+  -- a statement that returns an error changes nothing
   pub refused : (sql : List ℕ) (params : Row) (e : Error) → Executes sql params (state over_memory old) (state over_memory new) (Err e) → IsKept old new
   unfolding ExecutesIn
   refused sql params e (inl none) = not_run sql params e none

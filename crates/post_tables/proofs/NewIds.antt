@@ -7,7 +7,7 @@ use Rattle.site_records.specs.declared.post.Post.{Post}
 use Rattle.post_tables.specs.Rows.{has_post, are_new}
 use Rattle.post_tables.specs.Stored.{is_met}
 
--- none of the posts has an ID that was met
+-- no post has an ID that was met
 abbrev pub none_met : List ℕ → List Post → Bool
 none_met met [] = true
 none_met met (p ∷ ps) = not (is_met met p.id) && none_met met ps

@@ -1,4 +1,4 @@
--- What the query of a part of the posts answers.
+-- What the query of a part of the posts returns.
 use Rattle.std.proofs.Common.{◌≡◌, inl, inr, ℕ, zero, suc, nat_lt, lit<, pos, List, [], ◌∷◌, map, filter, take, drop, Bool, true, false, ◌&&◌, cond, codes, Ok, Err, Result, IfOk, Vec, Less, refl, sym, ap, subst, ◌∙◌}
 use Rattle.std.specs.List.{AllByRecursion, IsDistinct}
 use Rattle.std.specs.Str.{bytes_eq}
@@ -220,7 +220,7 @@ module _ (kind : PostKind) (from to : List ℕ) (limit offset : ℕ) where
     first_shown [] = refl
     first_shown (p ∷ ps) = ap (λ l. shown_of p ∷ l) (first_shown ps)
 
-    -- the answer over the rows of posts
+    -- the result over the rows of posts
     pub answered_page : (db : Trees) (rows : List Row) (ps : List Post) → db 0 ≡ map row_of ps → IsTable (db 0) → IsAnswer (query shown) db params rows
         → rows ≡ map shown_of (page_of kind from to limit offset ps)
     answered_page db rows ps are up a =
@@ -236,7 +236,7 @@ module _ (kind : PostKind) (from to : List ℕ) (limit offset : ℕ) where
         ∙ ap (take limit) (drop-map shown_of offset (sorted newest ls))
         ∙ take-map shown_of limit (drop offset (sorted newest ls))
 
--- what the statement answers over the tables of a site
+-- what the statement returns over the tables of a site
 page_read : (old new : Held MemStore) (kind : PostKind) (from to : List ℕ) (limit offset : ℕ) (rows : List Row) → IsSite old
     → Shown page_text (params kind from to limit offset) (state over_memory old) (state over_memory new) rows
     → rows ≡ map shown_post (page_of kind from to limit offset (rows_of old).posts)

@@ -1,4 +1,4 @@
--- What the query of the IDs of a part answers, and what the posts with these IDs are.
+-- What the query of the IDs of a part returns, and what the posts with these IDs are.
 use Rattle.std.proofs.Common.{◌≡◌, inl, inr, ℕ, pos, List, [], ◌∷◌, ◌++◌, map, false, codes, Some, Ok, Err, Result, IfOk, Vec, refl, sym, ap, subst, ◌∙◌}
 use Rattle.std.specs.Prelude.{All}
 use Rattle.std.specs.List.{AllByRecursion, flat_map}
@@ -71,7 +71,7 @@ ids_safe kind from to limit offset = record {
   sums = λ db. reading.never_sums 0 wheres shown [] orders (col 0 3) (col 0 4) db (params kind from to limit offset);
 }
 
--- ---- its answer
+-- ---- its result
 
 abbrev shown_id : Post → Row
 shown_id p = Int (pos p.id) ∷ []
@@ -134,7 +134,7 @@ part_by_ids h is kind from to limit offset ids are =
     sym (flat_map-map (found_of ps) id_of ids) ∙ ap (flat_map (found_of ps)) are
     ∙ found_each ps (page_of kind from to limit offset ps) (λ p there. found_in_part kind from to limit offset ps (site_rises h is) p there)
 
--- so what they give is the part, if the tables are still as they were
+-- so they are the posts of the part, if the tables are still as they were
 pub part_given : (h mid : Held MemStore) (is : IsSite h) (kind : PostKind) (from to : List ℕ) (limit offset : ℕ) (ids : List Row) → rows_of mid ≡ rows_of h
     → map id_of ids ≡ map (λ p. p.id) (page_of kind from to limit offset (rows_of h).posts)
     → (r : Result (Vec Post Global) TablesFault) → IfOk r (λ posts. posts.items ≡ flat_map (λ r. found_of (rows_of mid).posts (id_of r)) ids)

@@ -81,7 +81,7 @@ some_posts p rows ok = record {
   readable = λ r h. ok.readable r (has_filtered p rows r h).0;
 }
 
--- if none has the ID, all stay
+-- if no post has the ID, all stay
 pub none_without : (id : ℕ) (ps : List Post) → has_post id ps ≡ false → without_post id ps ≡ ps
 none_without id [] none = refl
 none_without id (p ∷ ps) none =
@@ -93,7 +93,7 @@ filter_none : (p : Row → Bool) (rows : List Row) → ((r : Row) → Has rows r
 filter_none p [] each = refl
 filter_none p (r ∷ rows) each = rw (each r (inl refl)) (filter_none p rows (λ x h. each x (inr h)))
 
--- one row has the rowid, or none
+-- one row has the rowid, or no row has it
 pub one_or_none : (p : Row → Bool) (id : ℕ) (rows : List Row) → IsTable rows → ((r : Row) → Has rows r → r ≡ row_of (post_in r))
     → ((r : Row) → Has rows r → p r ≡ ((post_in r).id == id))
     → ((filter p rows ≡ []) × (post_with id (map post_in rows) ≡ None))
@@ -124,7 +124,7 @@ one_or_none p id (x ∷ rows) up each tests = elim (cases_Bool ((post_in x).id =
 -- ---- an edit of one post
 
 module _ (id : ℕ) (e : PostEdit) where
-  -- if none has the ID, all stay
+  -- if no post has the ID, all stay
   pub none_edited : (ps : List Post) → post_with id ps ≡ None → edited_posts id e ps ≡ ps
   none_edited [] none = refl
   none_edited (p ∷ ps) none = elim (cases_Bool (p.id == id)) [
@@ -132,7 +132,7 @@ module _ (id : ℕ) (e : PostEdit) where
     | inr other ↦ let more = rw other at none in rw other (ap (λ l. p ∷ l) (none_edited ps more))
   ]
 
-  -- posts with greater IDs stay
+  -- posts with larger IDs stay
   above_stay : (ps : List Post) → AllByRecursion (λ q. nat_cmp id q.id ≡ Less) ps → edited_posts id e ps ≡ ps
   above_stay [] up = refl
   above_stay (p ∷ ps) up = let first = up.0 in let other : (p.id == id) ≡ false = grind (arith, nat_tests) in rw other (ap (λ l. p ∷ l) (above_stay ps up.1))

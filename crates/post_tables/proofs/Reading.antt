@@ -1,4 +1,4 @@
--- What a query on one table answers, if ORDER BY leaves no tie.
+-- What a query on one table returns, if ORDER BY leaves no tie.
 use Rattle.std.proofs.Common.{◌≡◌, inl, inr, ℕ, List, [], ◌∷◌, ◌++◌, map, flat_map, filter, Bool, true, false, cond, None, refl, ap, subst, ◌∙◌}
 use Rattle.std.specs.List.{list_all, IsDistinct}
 use Rattle.std.specs.List.Sorted.{IsPermutation}
@@ -58,7 +58,7 @@ module _ (t : ℕ) (where_ : List Term) (project : List Term) (collations : List
       kept_is : a.kept ≡ outputs
       kept_is = a.distinct ∙ ap (map (output query)) (a.grouped ∙ all_matches (db t)) ∙ shown_all (filter passes (db t))
 
-      -- the rows of the answer, whatever the order
+      -- the rows of the result, whatever the order
       pub some_order : IsPermutation outputs a.ordered
       some_order = subst (λ k. IsPermutation k a.ordered) kept_is a.same
 

@@ -14,7 +14,7 @@ use Rattle.post_tables.specs.Schema.{site_schema}
 use Rattle.post_tables.specs.Stored.{IsIdle, IsKept, IsSite, HoldsSite, trees_of, rows_of, rows_in, Makes, MakesInside, Reads}
 use Rattle.post_tables.proofs.Memory.{refused, answered, unanswered}
 
--- the rows that stand in the trees, if the limit is as it was
+-- the rows in the trees, if the limit is as it was
 limited : (old new : Held MemStore) → new.step_limit ≡ old.step_limit → rows_of new ≡ rows_in old.step_limit (trees_of new)
 limited old new limit = ap (λ l. rows_in l (trees_of new)) limit
 

@@ -1,4 +1,4 @@
--- What the query of the largest ID answers.
+-- What the query of the largest ID returns.
 use Rattle.std.proofs.Common.{◌≡◌, ◌<◌, ◌^◌, ℕ, pos, negsuc, List, [], ◌∷◌, map, filter, Bool, true, false, codes, Ok, Err, Result, IfOk, Vec, refl, sym, ap, subst, ◌∙◌}
 use Rattle.std.specs.declared.alloc.Global.{Global}
 use Rattle.std.specs.List.{IsDistinct}

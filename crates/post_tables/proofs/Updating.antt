@@ -113,7 +113,7 @@ module _ (id : ℕ) (e : PostEdit) where
     pub posts : ArePosts (next 0)
     pub are : map post_in (next 0) ≡ edited_posts id e (map post_in (db 0))
 
-  -- what an edit gives can be read back
+  -- what an edit makes can be read back
   pub record IsReadableEdit : Type 0 where
     pub title : IfSome e.title IsUtf8
     pub content : IfSome e.content IsUtf8

@@ -1,4 +1,4 @@
--- What rows of an answer say.
+-- What the rows of a result say.
 use Rattle.std.specs.Prelude.{⊤, ◌≡◌, ◌⊎◌, ◌<◌, ◌^◌, true, length, ℕ, pos, List, [], ◌∷◌, Option, IsSome}
 use Rattle.sqlite_value.specs.declared.value.Value.{Value}
 use Rattle.sqlite_value.specs.declared.value.Value.TheVariants.{Int}
@@ -13,7 +13,7 @@ use Rattle.post_tables.specs.Rows.{Text}
 use Rattle.site_records.specs.Dates.{is_post_date}
 use Rattle.post_tables.specs.Stored.{IsText, magnitude, kind_of, status_of}
 
--- a post that is to be put in
+-- a post that is to be stored
 abbrev pub shown : NewPost → Post
 shown p = record { id = p.id; kind = p.kind; status = p.status; title = p.title.now; content = p.content.now; date = p.date.now }
 
@@ -37,7 +37,7 @@ name_from r = bytes (column r 0)
 abbrev pub IsNoMemory : Error → Type 0
 IsNoMemory e = e ≡ SqliteFailure code.OutOfMemory
 
--- a query has no answer: an allocation failed, or it would have gone past the limit on its steps
+-- a query has no result: an allocation failed, or it would have gone past the limit on its steps
 abbrev pub IsStopped : Option ℕ → Error → Type 0
 IsStopped limit e = IsNoMemory e ⊎ ((e ≡ SqliteFailure code.OperationInterrupted) × IsSome limit)
 
@@ -65,7 +65,7 @@ pub record IsNameRow (r : Row) : Type 0 where
   pub width : length r ≡ 1
   pub name : IsText (column r 0)
 
--- the answer names the largest ID, or has no row if none was given
+-- the result has the largest ID, or no row if no ID was given
 abbrev pub IsTop : List Row → ℕ → Type 0
 IsTop [] n = n ≡ 0
 IsTop (r ∷ []) n = column r 0 ≡ Int (pos n)

@@ -52,7 +52,7 @@ no_rows = record { posts = []; options = empty; templates = empty; active = empt
 
 -- ---- posts
 
--- a post in its place by ID, as the table lies
+-- the posts with one more in its place by ID, which is the order of the table
 abbrev pub with_post : Post → List Post → List Post
 with_post p [] = p ∷ []
 with_post p (q ∷ qs) = if nat_lt q.id p.id then q ∷ with_post p qs else p ∷ q ∷ qs
@@ -69,18 +69,18 @@ has_post id = list_any (λ q. q.id == id)
 abbrev pub post_with : ℕ → List Post → Option Post
 post_with id = find (λ q. q.id == id)
 
--- one post more. IDs are never used anew, so the largest is kept apart from the posts (SQLite, AUTOINCREMENT)
+-- one post more. IDs are never used again, so the largest is kept apart from the posts (SQLite, AUTOINCREMENT)
 abbrev pub with_new : Post → Rows → Rows
 with_new p s = record s { posts = with_post p s.posts; largest = max s.largest p.id }
 
--- what an edit gives stands in place of what the post had, and what it doesn't give stays (wp_update_post)
+-- what an edit gives replaces what the post had, and what it doesn't give stays (wp_update_post)
 pub record PostEdit : Type 0 where
   pub status : Option PostStatus
   pub title : Option Text
   pub content : Option Text
   pub date : Option Text
 
--- of what is given, and what it refers to
+-- the edit by these values, some of them borrowed
 abbrev pub edit_by : Option PostStatus → Option (Bor Text) → Option (Bor Text) → Option (Bor Text) → PostEdit
 edit_by status title content date = record { status = status; title = option_copied title; content = option_copied content; date = option_copied date }
 
@@ -98,12 +98,12 @@ edited_posts id e = map (λ q. if q.id == id then edited_post e q else q)
 
 -- ---- names
 
--- a text set under a name, in place of the one before (update_option), or taken away with its name
+-- sets a text under a name, in place of the one before (update_option), or removes the name
 abbrev pub set_text : Text → Option Text → Named → Named
 set_text name None texts = remove texts name
 set_text name (Some text) texts = insert texts name text
 
--- a name put in (activate_plugin), or taken away (deactivate_plugins)
+-- adds a name (activate_plugin), or removes it (deactivate_plugins)
 abbrev pub set_name : Text → Bool → Names → Names
 set_name name true names = insert names name tt
 set_name name false names = remove names name
@@ -122,7 +122,7 @@ largest_of (p ∷ ps) n = largest_of ps (max n p.id)
 abbrev pub with_all : List Post → Rows → Rows
 with_all ps s = record s { posts = with_posts ps s.posts; largest = largest_of ps s.largest }
 
--- no ID of these is there, and none stands twice
+-- no stored post has one of these IDs, and no two of the posts have the same one
 abbrev pub are_new : List Post → List Post → Bool
 are_new [] stored = true
 are_new (p ∷ ps) stored = (not (has_post p.id stored) && not (has_post p.id ps)) && are_new ps stored
@@ -150,7 +150,7 @@ with_records r s = with_active r.active (with_templates r.templates (with_option
 
 -- ---- what can go wrong in any call
 
--- there was no memory, or the database refused
+-- memory ran out, or the database refused
 abbrev pub IsOfStore : TablesFault → Type 0
 IsOfStore e = (e ≡ OutOfMemory) ⊎ (e ≡ Store)
 

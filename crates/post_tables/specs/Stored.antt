@@ -49,12 +49,12 @@ pub record IsBare (schema : Schema) (h : Held MemStore) : Type 0 where
 abbrev pub IsText : Value → Type 0
 IsText v = (t : Text) × (v ≡ Words t) × IsUtf8 t
 
--- ---- names: a row is its rowid, the name, and what stands under it
+-- ---- names: a row is its rowid, the name, and what is stored under it
 
 abbrev pub name_in : Row → Text
 name_in r = bytes (column r 1)
 
--- under an option or a template stands a text, under an active name nothing
+-- a text is stored under an option or a template, nothing under an active name
 abbrev pub text_rest : Text → Row
 text_rest t = Words t ∷ []
 
@@ -148,7 +148,7 @@ rows_in limit t = record {
   step_limit = limit;
 }
 
--- no ID of these is greater than the largest ever given
+-- no ID of these is larger than the largest ever given
 abbrev pub AreGiven : List Post → ℕ → Type 0
 AreGiven posts largest = AllByRecursion (λ p. p.id ≤ largest) posts
 

@@ -35,7 +35,7 @@ one_deleted = record two_posts { posts = without_post 2 two_posts.posts }
 abbrev pub some_posts : List Post
 some_posts = post 1 monday ∷ post 2 wednesday ∷ draft 3 wednesday ∷ page 4 tuesday ∷ post 5 monday ∷ post 6 tuesday ∷ []
 
--- an edit that gives a title alone
+-- an edit of the title alone
 abbrev pub new_title : PostEdit
 new_title = record { status = None; title = Some (codes "u"); content = None; date = None }
 

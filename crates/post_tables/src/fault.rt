@@ -12,13 +12,13 @@ pub enum TablesFault {
     /// No post has the ID.
     #[error("no such post")]
     NoSuchPost,
-    /// The ID of a post to be imported stands twice among these, or is there already.
+    /// Two posts to be imported have the same ID, or a stored post has it already.
     #[error("an ID stands twice")]
     DuplicateId,
     /// The largest ID was given: [`MAX_ID`](site_records::MAX_ID).
     #[error("the IDs are used up")]
     IdsUsedUp,
-    /// There was not enough memory.
+    /// Memory ran out.
     #[error("out of memory")]
     OutOfMemory,
     /// The database refused for a reason of its own.

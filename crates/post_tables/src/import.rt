@@ -28,7 +28,7 @@ use sqlite::{Connection, Error, MemStore, Transaction};
 use std::alloc::{AllocError, Global};
 use std::collections::BTreeSet;
 
-/// Whether no post has one of the IDs, and none stands twice among them.
+/// Returns whether no stored post has one of the IDs, and no two of the posts have the same one.
 fn are_new(
     conn: &mut Connection<MemStore>,
     alloc: Global,
@@ -48,7 +48,7 @@ fn are_new(
     Ok(true)
 }
 
-/// Remembers an ID, and tells whether it is met for the first time.
+/// Remembers an ID, and returns whether it is met for the first time.
 fn meet(met: &mut BTreeSet<u32>, id: u32) -> Result<bool, AllocError>
     ensures first { IfOk result (λ first. first ≡ not (is_met met.old.keys id)) }
     ensures keys { OnOk result (met.new.keys ≡ insert_key nat_cmp met.old.keys id) }
@@ -56,7 +56,7 @@ fn meet(met: &mut BTreeSet<u32>, id: u32) -> Result<bool, AllocError>
     Ok(met.insert(id)?)
 }
 
-// One more post, whose ID is new.
+// Adds one more post, whose ID is new.
 fn add_post(tx: &mut Transaction<'_, MemStore>, post: &Post) -> Result<(), Error>
     requires holds { HoldsSite (state over_memory tx.old.conn.now).now }
     requires inside { tx.old.conn.now.in_transaction ≡ true }
@@ -147,7 +147,8 @@ fn add_records(tx: &mut Transaction<'_, MemStore>, records: &SiteRecords) -> Res
     Ok(())
 }
 
-/// All of the records, whose IDs are new, or none. A transaction that is dropped before its commit leaves nothing.
+/// Adds all of the records, whose IDs are new, or none. A transaction that is dropped before its commit changes
+/// nothing.
 fn add_all(conn: &mut Connection<MemStore>, records: &SiteRecords) -> Result<(), TablesFault>
     requires { IsSite conn.old }
     ensures site { IsSite conn.new }
@@ -161,7 +162,7 @@ fn add_all(conn: &mut Connection<MemStore>, records: &SiteRecords) -> Result<(),
     Ok(())
 }
 
-/// All of the records, or none. The IDs are looked at first, so nothing is written if one is taken.
+/// Adds all of the records, or none. The IDs are checked first, so nothing is written if one is taken.
 pub(crate) fn import(
     conn: &mut Connection<MemStore>,
     alloc: Global,

@@ -16,7 +16,8 @@ use site_records::{Post, PostDate, PostKind};
 use sqlite::{Connection, Error, MemStore, Row, params};
 use std::alloc::Global;
 
-/// The published entries of a kind and a span, newest first: those after the first `offset`, and `limit` at most.
+/// Returns the published entries of a kind and a span of dates, newest first: without the first `offset`, and at most
+/// `limit`.
 pub(crate) fn part(
     conn: &mut Connection<MemStore>,
     alloc: Global,
@@ -39,12 +40,13 @@ pub(crate) fn part(
     if offset > 0 {
         return later_part(conn, alloc, kind, from, to, limit, offset);
     }
-    // Nothing is left out, so one statement reads what is given and no more.
+    // Nothing is left out, so one statement reads what is returned and no more.
     let rows = page_rows(conn, kind, from, to, limit, offset)?;
     Ok(read_posts(alloc, &rows)?)
 }
 
-/// The same part, if there can be one: each post has an ID of its own, and none is above the largest ever given.
+/// Returns the same part, which is empty if the largest ID ever given is below `offset`: each post has an ID of its
+/// own.
 fn later_part(
     conn: &mut Connection<MemStore>,
     alloc: Global,
@@ -67,7 +69,8 @@ fn later_part(
     part_by_ids(conn, alloc, kind, from, to, limit, offset)
 }
 
-/// The same part by its IDs: of the posts that it leaves out no row is read, only their places in the index.
+/// Returns the same part, found by its IDs: of the posts that are left out no row is read, only their places in the
+/// index.
 fn part_by_ids(
     conn: &mut Connection<MemStore>,
     alloc: Global,
@@ -87,7 +90,7 @@ fn part_by_ids(
     posts_with(conn, alloc, &ids)
 }
 
-/// The IDs of a part, in its order. All that the statement looks at is in the index of dates.
+/// Returns the IDs of a part, in its order. All that the statement reads is in the index of dates.
 fn id_rows(
     conn: &mut Connection<MemStore>,
     kind: PostKind,
@@ -111,7 +114,7 @@ fn id_rows(
     )
 }
 
-/// The posts that have the IDs, in the order of these.
+/// Returns the posts that have the IDs, in the order of the IDs.
 fn posts_with(
     conn: &mut Connection<MemStore>,
     alloc: Global,

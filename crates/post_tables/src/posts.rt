@@ -48,7 +48,7 @@ const INSERT_POST: &str = "INSERT INTO post (id, kind, status, title, content, d
 
 const FIND_POST: &str = "SELECT id FROM post WHERE id = ?1";
 
-/// A post that is to be put in.
+/// A post that is to be stored.
 #[derive(Clone, Copy)]
 pub(crate) struct NewPost<'a> {
     pub(crate) id: u32,
@@ -59,7 +59,7 @@ pub(crate) struct NewPost<'a> {
     pub(crate) date: &'a PostDate,
 }
 
-/// What the column `kind` has.
+/// Returns what the column `kind` holds for a kind.
 pub(crate) fn kind_text(kind: PostKind) -> &'static str
     ensures { result.now ≡ kind_text kind }
 {
@@ -69,7 +69,7 @@ pub(crate) fn kind_text(kind: PostKind) -> &'static str
     }
 }
 
-/// What the column `status` has.
+/// Returns what the column `status` holds for a status.
 fn status_text(status: PostStatus) -> &'static str
     ensures { result.now ≡ status_text status }
 {
@@ -88,7 +88,7 @@ fn given_status(status: Option<PostStatus>) -> Option<&'static str>
     }
 }
 
-/// The same text: what a `&str` is by its type, the clause says, since what is read back rests on it.
+/// Returns the text unchanged. Its contract states what every `&str` is by its type, UTF-8: rows are read back by that.
 fn as_text(text: &str) -> &str
     ensures same { result.now ≡ text.now }
     ensures utf8 { IsUtf8 text.now }
@@ -166,7 +166,7 @@ pub(crate) fn delete_post(conn: &mut Connection<MemStore>, id: u32) -> Result<us
     conn.execute("DELETE FROM post WHERE id = ?1", params![id])
 }
 
-// What is not given is NULL, and the column then keeps what it has.
+// What is not given is NULL in the statement, and the column then keeps what it has.
 pub(crate) fn edit_post(
     conn: &mut Connection<MemStore>,
     id: u32,
@@ -196,7 +196,7 @@ pub(crate) fn edit_post(
     )
 }
 
-/// The row that AUTOINCREMENT keeps, which has the largest ID ever given.
+/// Returns the row that AUTOINCREMENT keeps, which has the largest ID ever given.
 fn top_rows(conn: &mut Connection<MemStore>) -> Result<Vec<Row>, Error>
     requires { IsSite conn.old }
     ensures reads { Reads conn.old conn.new }
@@ -207,7 +207,7 @@ fn top_rows(conn: &mut Connection<MemStore>) -> Result<Vec<Row>, Error>
     conn.query_all("SELECT seq FROM sqlite_sequence WHERE name = 'post'", &[])
 }
 
-/// The largest ID ever given, or 0 before the first.
+/// Returns the largest ID ever given, or 0 before the first.
 pub(crate) fn largest_id(conn: &mut Connection<MemStore>) -> Result<u32, Error>
     requires { IsSite conn.old }
     ensures reads { Reads conn.old conn.new }
@@ -264,7 +264,7 @@ fn id_rows(conn: &mut Connection<MemStore>, id: u32) -> Result<Vec<Row>, Error>
     conn.query_all(FIND_POST, params![id])
 }
 
-/// Whether a post has the ID.
+/// Returns whether a post has the ID.
 pub(crate) fn has_post(conn: &mut Connection<MemStore>, id: u32) -> Result<bool, Error>
     requires { IsSite conn.old }
     ensures reads { Reads conn.old conn.new }

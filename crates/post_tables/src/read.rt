@@ -1,4 +1,4 @@
-//! From rows of an answer to values.
+//! Reading values from the rows of a query's result.
 ghost use Rattle.std.specs.Prelude.{
   ◌≡◌,
   ◌<◌,
@@ -68,7 +68,7 @@ fn read_text(row: &Row, at: usize) -> Result<Text, Error>
     Ok(Text::new(text))
 }
 
-// The date that a column has.
+// Reads the date in a column.
 fn read_date(text: &str) -> PostDate
     requires { is_post_date text.now ≡ true }
     ensures { result ≡ text.now }
@@ -79,7 +79,7 @@ fn read_date(text: &str) -> PostDate
     }
 }
 
-/// The ID that a row begins with.
+/// Reads the ID that a row begins with.
 pub(crate) fn read_id(row: &Row) -> Result<u32, Error>
     requires { IsId (column row.now 0) }
     ensures ok { IfOk result (λ id. id ≡ magnitude (id_in (column row.now 0))) }
@@ -88,7 +88,7 @@ pub(crate) fn read_id(row: &Row) -> Result<u32, Error>
     row.get(0)
 }
 
-// What the column `kind` of a post's row says.
+// Reads the kind in a post's row.
 fn kind_in(row: &Row) -> Result<PostKind, Error>
     requires { IsPostRow row.now }
     ensures memory { IfErr result IsNoMemory }
@@ -97,7 +97,7 @@ fn kind_in(row: &Row) -> Result<PostKind, Error>
     Ok(read_kind(read_text(row, 1)?.as_str()))
 }
 
-// What the column `status` of a post's row says.
+// Reads the status in a post's row.
 fn status_in(row: &Row) -> Result<PostStatus, Error>
     requires { IsPostRow row.now }
     ensures memory { IfErr result IsNoMemory }
@@ -106,7 +106,7 @@ fn status_in(row: &Row) -> Result<PostStatus, Error>
     Ok(read_status(read_text(row, 2)?.as_str()))
 }
 
-// The date in a post's row.
+// Reads the date in a post's row.
 fn date_in(row: &Row) -> Result<PostDate, Error>
     requires { IsPostRow row.now }
     ensures memory { IfErr result IsNoMemory }
@@ -153,7 +153,7 @@ pub(crate) fn read_posts(alloc: Global, rows: &[Row]) -> Result<Vec<Post>, Error
     Ok(posts)
 }
 
-// A name and its value.
+// Reads a name and its value.
 fn read_pair(row: &Row) -> Result<(Text, Text), Error>
     requires { IsPairRow row.now }
     ensures memory { IfErr result IsNoMemory }
@@ -175,7 +175,7 @@ pub(crate) fn read_pairs(alloc: Global, rows: &[Row]) -> Result<Vec<(Text, Text)
     Ok(pairs)
 }
 
-// A name.
+// Reads a name.
 fn read_name(row: &Row) -> Result<Text, Error>
     requires { IsNameRow row.now }
     ensures memory { IfErr result IsNoMemory }
@@ -196,7 +196,7 @@ pub(crate) fn read_names(alloc: Global, rows: &[Row]) -> Result<Vec<Text>, Error
     Ok(names)
 }
 
-/// The post of an answer of one row, or of none.
+/// Reads the post in a result of at most one row.
 pub(crate) fn read_found(rows: &[Row]) -> Result<Option<Post>, Error>
     requires readable { All IsPostRow rows.now }
     requires few { length rows.now ≤ 1 }
@@ -210,7 +210,7 @@ pub(crate) fn read_found(rows: &[Row]) -> Result<Option<Post>, Error>
     }
 }
 
-/// The largest ID, which is 0 before the first was given.
+/// Reads the largest ID, which is 0 before the first was given.
 pub(crate) fn read_top(rows: &[Row]) -> Result<u32, Error>
     requires { IsTopRow rows.now }
     ensures ok { IfOk result (λ top. (largest : ℕ) → IsTop rows.now largest → top ≡ largest) }

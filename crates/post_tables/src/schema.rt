@@ -26,7 +26,7 @@ pub(crate) fn create(conn: &mut Connection<MemStore>) -> Result<(), Error>
     Ok(())
 }
 
-/// An ID is at most `MAX_ID`, which the statement writes out.
+/// Makes the table of posts. An ID is at most `MAX_ID`, which the statement writes out.
 fn create_post(conn: &mut Connection<MemStore>) -> Result<usize, Error>
     requires { IsBare no_schema conn.old }
     ensures { OnOk result (IsBare post_schema conn.new) }
@@ -72,7 +72,7 @@ fn create_active(conn: &mut Connection<MemStore>) -> Result<usize, Error>
     )
 }
 
-// Without it a page of posts would be found by a look at each post.
+// Makes the index of dates. Without it each post would be looked at to find a page of posts.
 fn create_index(conn: &mut Connection<MemStore>) -> Result<usize, Error>
     requires { IsBare table_schema conn.old }
     ensures site { OnOk result (IsSite conn.new) }

@@ -79,7 +79,7 @@ impl Model for Tables {
     ghost invariant = { λ t. IsSite t.conn };
 }
 
-/// The ID after the largest that was ever given, if there is one left.
+/// Returns the ID after the largest that was ever given, or `IdsUsedUp` if there is none left.
 fn next_id(conn: &mut Connection<MemStore>) -> Result<u32, TablesFault>
     requires { IsSite conn.old }
     ensures reads { Reads conn.old conn.new }
@@ -98,17 +98,17 @@ fn next_id(conn: &mut Connection<MemStore>) -> Result<u32, TablesFault>
 }
 
 impl Tables {
-    /// A law: whatever calls were made, the IDs of posts ascend, so that each stands once, and none is above the
-    /// largest that was ever given. The call changes nothing: it carries these facts.
+    /// A law: whatever calls were made, the IDs of posts ascend, so that no two posts have the same one, and none is
+    /// above the largest that was ever given. The call changes nothing: it carries these facts.
     pub fn ids_stand_once(&self)
         ensures once { IsStrictlySortedBy nat_cmp (map (λ p. p.id) self.now.posts) }
         ensures given { All (λ p. p.id ≤ self.now.largest) self.now.posts }
     {
-        // What holds of all tables is known once they are looked into.
+        // The invariant of the type is known once a field is borrowed.
         let _conn = &self.conn;
     }
 
-    /// New tables with no rows.
+    /// Makes new tables with no rows.
     pub fn open_in_memory(alloc: Global) -> Result<Tables, TablesFault>
         ensures ok { IfOk result (λ tables. tables ≡ no_rows) }
         ensures fault { IfErr result IsOfStore }
@@ -127,9 +127,8 @@ impl Tables {
         self.conn.set_step_limit(steps);
     }
 
-    /// Puts in a post or a page, and answers its ID: the one after the largest that was ever given
-    /// (wp_insert_post; SQLite, AUTOINCREMENT). It is refused as `IdsUsedUp` if that
-    /// largest is [`MAX_ID`].
+    /// Stores a new post or page, and returns its ID: the one after the largest that was ever given (wp_insert_post;
+    /// SQLite, AUTOINCREMENT). It is refused as `IdsUsedUp` if that largest is [`MAX_ID`].
     pub fn put_post(
         &mut self,
         kind: PostKind,
@@ -199,7 +198,7 @@ impl Tables {
         Ok(())
     }
 
-    /// Deletes the post with the ID. The ID is not given again.
+    /// Deletes the post with the ID. The ID is never given again.
     pub fn delete_post(&mut self, id: u32) -> Result<(), TablesFault>
         ensures ok { OnOk result (self.new ≡ record self.old {
           posts = without_post id self.old.posts;
@@ -218,7 +217,7 @@ impl Tables {
         Ok(())
     }
 
-    /// The post or page with the ID, published or not, if there is one.
+    /// Returns the post or page with the ID, published or not, if there is one.
     pub fn post(&mut self, id: u32) -> Result<Option<Post>, TablesFault>
         ensures ok { IfOk result (λ post. post ≡ post_with id self.old.posts) }
         ensures same { self.new ≡ self.old }
@@ -228,9 +227,9 @@ impl Tables {
         Ok(read_found(&rows)?)
     }
 
-    /// The published entries of a kind, dated `from` one moment `to` another, both included:
-    /// newest first, and of one date the greater ID first (WP_Query, `orderby`). The first `offset`
-    /// of them are left out, and of the others at most `limit` are given.
+    /// Returns the published entries of a kind, dated `from` one moment `to` another, both included: newest first, and
+    /// of two with one date the larger ID first (WP_Query, `orderby`). The first `offset` of them are left out, and of
+    /// the others at most `limit` are returned.
     pub fn posts_of(
         &mut self,
         kind: PostKind,
@@ -249,7 +248,7 @@ impl Tables {
         ensures stored { IfOk result (λ posts. All (λ p. (is_listed kind from.now to.now p ≡ true)
             × (post_with p.id self.old.posts ≡ Some p)) posts) }
 
-        // Whatever calls were made, each post has the date of a day and a time.
+        // Whatever calls were made, the date of each post is a day and a time.
         ensures dated { list_all (λ p. is_post_date p.date) self.old.posts ≡ true }
     {
         let posts = part(&mut self.conn, self.alloc, kind, from, to, limit, offset)?;
@@ -268,7 +267,7 @@ impl Tables {
         Ok(())
     }
 
-    /// All options with their values, in the order of their names' bytes.
+    /// Returns all options with their values, in the order of their names' bytes.
     pub fn options(&mut self) -> Result<Listed<(Text, Text)>, TablesFault>
         ensures ok { IfOk result (λ options. options ≡ entries self.old.options) }
         ensures same { self.new ≡ self.old }
@@ -278,7 +277,7 @@ impl Tables {
         Ok(Listed::new(read_pairs(self.alloc, &rows)?))
     }
 
-    /// Makes a name active, or takes it from the active ones. It may have been so before.
+    /// Makes a name active or inactive. It may have been so before.
     pub fn set_active(&mut self, name: &str, active: bool) -> Result<(), TablesFault>
         ensures ok { OnOk result (self.new ≡ record self.old {
           active = set_name name.now active self.old.active;
@@ -294,7 +293,7 @@ impl Tables {
         Ok(())
     }
 
-    /// The active names, in the order of their bytes.
+    /// Returns the active names, in the order of their bytes.
     pub fn active(&mut self) -> Result<Listed<Text>, TablesFault>
         ensures ok { IfOk result (λ names. names ≡ keys self.old.active) }
         ensures same { self.new ≡ self.old }
@@ -304,7 +303,7 @@ impl Tables {
         Ok(Listed::new(read_names(self.alloc, &rows)?))
     }
 
-    /// Sets the text of a template, or with `None` takes the template away, if it is there.
+    /// Sets the text of a template, or with `None` removes the template, if it is there.
     pub fn set_template(&mut self, name: &str, text: Option<&str>) -> Result<(), TablesFault>
         ensures ok { OnOk result (self.new ≡ record self.old {
           templates = set_text name.now (option_copied text.entry) self.old.templates;
@@ -319,7 +318,7 @@ impl Tables {
         Ok(())
     }
 
-    /// All templates with their texts, in the order of their names' bytes.
+    /// Returns all templates with their texts, in the order of their names' bytes.
     pub fn templates(&mut self) -> Result<Listed<(Text, Text)>, TablesFault>
         ensures ok { IfOk result (λ templates. templates ≡ entries self.old.templates) }
         ensures same { self.new ≡ self.old }
@@ -329,9 +328,9 @@ impl Tables {
         Ok(Listed::new(read_pairs(self.alloc, &rows)?))
     }
 
-    /// Adds all records of a site file, or none: the posts first, and then the options, the
-    /// templates and the active names in the order of their lists. It is refused as `DuplicateId`
-    /// if the ID of a post stands twice among these, or is there already.
+    /// Adds all records of a site file, or none: the posts first, and then the options, the templates and the active
+    /// names in the order of their lists. It is refused as `DuplicateId` if two of the posts have the same ID, or a
+    /// stored post has it already.
     pub fn import(&mut self, records: &SiteRecords) -> Result<(), TablesFault>
         requires { All (λ p. (1 ≤ p.id) × (p.id ≤ max_id)) records.now.posts }
         ensures ok { OnOk result (self.new ≡ with_records records.now self.old) }

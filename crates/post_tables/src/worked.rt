@@ -26,10 +26,11 @@ ghost use Rattle.post_tables.specs.Worked.{
   some_names,
 };
 
-/// What a few calls leave and answer. `post n day` is a published post, `draft n day` one that
-/// isn't published, and `page n day` a page. The call itself does nothing: it carries these facts.
+/// States what a few calls leave and return. `post n day` is a published post, `draft n day` one
+/// that isn't published, and `page n day` a page. The call itself does nothing: it carries these
+/// facts.
 pub fn worked_rows()
-    // A deleted post takes its ID along: the largest one given stays.
+    // The ID of a deleted post isn't used again: the largest one given stays.
     ensures put { two_posts.posts ≡ post 1 monday ∷ post 2 monday ∷ [] }
     ensures deleted { one_deleted.posts ≡ post 1 monday ∷ [] }
     ensures largest { one_deleted.largest ≡ 2 }
@@ -39,7 +40,7 @@ pub fn worked_rows()
         ≡ post 1 monday ∷ record (post 2 monday) { title = codes "u" } ∷ [] }
     ensures nothing_edited { edited_posts 3 new_title two_posts.posts ≡ two_posts.posts }
 
-    // Imported posts stand by their IDs, and the largest ID is that of them all.
+    // Imported posts are in the order of their IDs, and the largest ID is the largest of them all.
     ensures imported { with_posts (post 7 monday ∷ post 3 monday ∷ []) (post 5 monday ∷ [])
         ≡ post 3 monday ∷ post 5 monday ∷ post 7 monday ∷ [] }
     ensures largest_imported { largest_of (post 7 monday ∷ post 3 monday ∷ []) 5 ≡ 7 }
@@ -48,8 +49,8 @@ pub fn worked_rows()
     ensures id_there { are_new (post 7 monday ∷ post 5 monday ∷ []) (post 5 monday ∷ []) ≡ false }
     ensures id_twice { are_new (post 1 monday ∷ post 1 tuesday ∷ []) [] ≡ false }
 
-    // Newest first, of one date the greater ID first; no drafts, no pages; both ends of the span
-    // count.
+    // Newest first, and of two with one date the larger ID first; no drafts, no pages; both ends of
+    // the span count.
     ensures newest_first { page_of OfPost monday wednesday 10 0 some_posts
         ≡ post 2 wednesday ∷ post 6 tuesday ∷ post 5 monday ∷ post 1 monday ∷ [] }
     ensures only_pages { page_of OfPage monday wednesday 10 0 some_posts ≡ page 4 tuesday ∷ [] }
@@ -60,7 +61,7 @@ pub fn worked_rows()
     ensures none_left { page_of OfPost monday wednesday 2 4 some_posts ≡ [] }
     ensures no_span { page_of OfPost wednesday monday 10 0 some_posts ≡ [] }
 
-    // Names stand in the order of their bytes, and a later value counts.
+    // Names are in the order of their bytes, and a later value counts.
     ensures values { entries some_options
         ≡ (codes "a", codes "2") ∷ (codes "b", codes "3") ∷ [] }
     ensures names { keys some_names ≡ codes "a" ∷ codes "b" ∷ [] }

@@ -1,4 +1,4 @@
--- The items of a text: each leaves a shorter rest, and one list of items alone stands in a text.
+-- The items of a text: each leaves a shorter rest, and a text has one list of items only.
 use Rattle.std.proofs.Common.{◌≡◌, ℕ, zero, suc, ◌+◌, ◌<◌, ◌≤◌, Bool, true, false, not, List, [], ◌∷◌, length, drop, Option, Some, None, refl, sym, ap, ◌∙◌, subst, arith, length-drop}
 use Rattle.std.specs.Prelude.{◌==◌, take_while, nat_lt, option_map}
 use Rattle.std.specs.List.{prefix_len}

@@ -1,5 +1,5 @@
--- What stands in the bytes of a text stands in its characters: each byte that a form or a value asks for is ASCII, and no
--- byte of any other character is.
+-- What the bytes of a text spell, its characters spell: each byte that a form or a value asks for is ASCII, and no byte
+-- of any other character is.
 use Rattle.std.proofs.Common.{◌≡◌, ℕ, zero, suc, ◌+◌, ◌<◌, ◌≤◌, Bool, true, false, not, cond, ◌||◌, List, [], ◌∷◌, ◌++◌, length, take, drop, map, Option, Some, None, refl, sym, ap, ◌∙◌, subst, arith, inl, inr}
 use Rattle.std.specs.Prelude.{◌==◌, if◌then◌else◌, nat_lt, take_while, option_map, IfSome, ◌⊎◌}
 use Rattle.std.specs.List.{prefix_len}

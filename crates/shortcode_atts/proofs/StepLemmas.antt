@@ -1,9 +1,9 @@
--- What it says of each step that the last one found something.
+-- If the last step found something, so did each step before it.
 use Rattle.std.proofs.Common.{◌≡◌, Bool, true, false, Option, Some, None, refl}
 use Rattle.std.proofs.lemmas.Option.{none-some, same_Some}
 use Rattle.shortcode_atts.specs.Steps.{◌>>=◌, only_if}
 
--- the answer of several steps, step by step
+-- the result of several steps, step by step
 pub bind_some : {A B : Type 0} (o : Option A) (f : A → Option B) (y : B) → (o >>= f) ≡ Some y → (x : A) × (o ≡ Some x) × (f x ≡ Some y)
 bind_some None f y e = absurd (none-some y e)
 bind_some (Some x) f y e = (x, refl, e)

@@ -22,7 +22,7 @@ abbrev pub begins_blank : List ℕ → Bool
 begins_blank [] = false
 begins_blank (c ∷ cs) = is_blank c
 
--- each run of blanks as one space, which its last blank gives (shortcode_parse_atts)
+-- each run of blanks as one space, put where its last blank is (shortcode_parse_atts)
 abbrev pub spaced : List ℕ → List ℕ
 spaced [] = []
 spaced (c ∷ cs) = if is_blank c then (if begins_blank cs then spaced cs else 32 ∷ spaced cs) else c ∷ spaced cs
@@ -57,7 +57,7 @@ is_ended (c ∷ cs) = is_white c
 unfoldable pub run_at : (ℕ → Bool) → List ℕ → Option (List ℕ × List ℕ)
 run_at p cs = only_if (nat_lt 0 (prefix_len p cs)) (take_while p cs, after_run p cs)
 
--- what stands between the quote q and the next q, and what follows (get_shortcode_atts_regex)
+-- what is between the quote q and the next q, and what follows (get_shortcode_atts_regex)
 unfoldable pub quoted_at : ℕ → List ℕ → Option (List ℕ × List ℕ)
 quoted_at q cs = do
   body ← after_char q cs
@@ -104,7 +104,7 @@ item_at cs =
     (option_or (named_at Bare cs)
     (option_or (single_at (Quoted 34) cs) (option_or (single_at (Quoted 39) cs) (single_at Word cs)))))
 
--- The items stand in the text in order, with nothing but white space outside them (shortcode_parse_atts).
+-- The items are in the text in order, with nothing but white space outside them (shortcode_parse_atts).
 abbrev pub IsItems : List ℕ → List Item → Type 0
 IsItems cs [] = skip_white cs ≡ []
 IsItems cs (it ∷ its) = (item_at (skip_white cs) ≡ Some it) × IsItems it.rest its

@@ -14,7 +14,7 @@ use crate::name_byte::is_name_byte;
 /// How a value is written.
 #[derive(Clone, Copy)]
 pub(crate) enum Form {
-    /// Between two of this byte.
+    /// Between two of this quote.
     Quoted(u8),
     /// With no white space and no quote.
     Bare,
@@ -50,21 +50,21 @@ pub(crate) struct Found<'t> {
     pub(crate) rest: &'t [u8],
 }
 
-/// White space: a tab, a line break of any kind, or a space.
+/// Returns whether a byte is white space: a tab, a line break of any kind, or a space.
 fn is_white(byte: u8) -> bool
     ensures { result ≡ is_white byte }
 {
     matches!(byte, b'\t'..=b'\r' | b' ')
 }
 
-/// A byte of a value without quotes.
+/// Returns whether a byte may be in a value without quotes.
 fn is_bare_char(byte: u8) -> bool
     ensures { result ≡ is_bare_char byte }
 {
     !(is_white(byte) || byte == b'"' || byte == b'\'')
 }
 
-/// Whether a byte belongs to a run.
+/// Returns whether a byte belongs to a run.
 fn belongs(run: Run, byte: u8) -> bool
     ensures { result ≡ belongs run byte }
 {
@@ -77,7 +77,7 @@ fn belongs(run: Run, byte: u8) -> bool
     }
 }
 
-/// How many bytes of a run stand at the front.
+/// Returns how many bytes at the front of a text belong to a run.
 fn run_len(run: Run, text: &[u8]) -> usize
     ensures value { result ≡ prefix_len (belongs run) text.now }
     ensures within { result ≤ length text.now }
@@ -90,7 +90,7 @@ fn run_len(run: Run, text: &[u8]) -> usize
     text.len()
 }
 
-/// What follows the white space at the front.
+/// Returns what follows the white space at the front.
 pub(crate) fn skip_white(text: &[u8]) -> &[u8]
     ensures value { result.now ≡ skip_white text.now }
     ensures within { length result.now ≤ length text.now }
@@ -98,7 +98,7 @@ pub(crate) fn skip_white(text: &[u8]) -> &[u8]
     &text[run_len(Run::White, text)..]
 }
 
-/// What follows this byte at the front.
+/// Returns what follows this byte at the front, or `None` if the text doesn't begin with it.
 fn after_char(c: u8, text: &[u8]) -> Option<&[u8]>
     ensures value { option_map (λ x. x.now) result ≡ after_char c text.now }
     ensures shorter { IfSome result (λ rest. length rest.now < length text.now) }
@@ -109,7 +109,7 @@ fn after_char(c: u8, text: &[u8]) -> Option<&[u8]>
     }
 }
 
-/// Whether the end or white space comes next.
+/// Returns whether the end or white space comes next.
 fn is_ended(text: &[u8]) -> bool
     ensures { result ≡ is_ended text.now }
 {
@@ -119,7 +119,7 @@ fn is_ended(text: &[u8]) -> bool
     }
 }
 
-/// The front of this length and what follows, unless the length is 0.
+/// Splits a text after `len` bytes; `None` if `len` is 0.
 fn split(text: &[u8], len: usize) -> Option<(&[u8], &[u8])>
     requires { len ≤ length text.now }
     ensures value { option_map pair_now result
@@ -132,7 +132,7 @@ fn split(text: &[u8], len: usize) -> Option<(&[u8], &[u8])>
     Some((&text[..len], &text[len..]))
 }
 
-/// What stands between two quotes at the front, and what follows.
+/// Returns what is between two quotes at the front, and what follows.
 #[tactic(auto, unfolding(crate::specs::Items::quoted_at))]
 fn quoted_at(quote: u8, text: &[u8]) -> Option<(&[u8], &[u8])>
     ensures value { option_map pair_now result ≡ quoted_at quote text.now }
@@ -144,7 +144,7 @@ fn quoted_at(quote: u8, text: &[u8]) -> Option<(&[u8], &[u8])>
     Some((&body[..len], rest))
 }
 
-/// A value of the form at the front, and what follows.
+/// Returns a value of the form at the front, and what follows.
 #[tactic(auto, unfolding(crate::specs::Items::run_at))]
 fn spelled_at(form: Form, text: &[u8]) -> Option<(&[u8], &[u8])>
     ensures value { option_map pair_now result ≡ spelled_at form text.now }
@@ -157,7 +157,7 @@ fn spelled_at(form: Form, text: &[u8]) -> Option<(&[u8], &[u8])>
     }
 }
 
-/// The same, with the end or white space after it.
+/// Returns the same, if the end or white space comes after it.
 #[tactic(auto, unfolding(crate::specs::Items::value_at))]
 fn value_at(form: Form, text: &[u8]) -> Option<(&[u8], &[u8])>
     ensures value { option_map pair_now result ≡ value_at form text.now }
@@ -171,7 +171,7 @@ fn value_at(form: Form, text: &[u8]) -> Option<(&[u8], &[u8])>
     }
 }
 
-/// A value alone at the front.
+/// Reads a value alone at the front.
 #[tactic(auto, unfolding(crate::specs::Items::single_at))]
 fn single_at(form: Form, text: &[u8]) -> Option<Found<'_>>
     ensures value { option_map item_now result ≡ single_at form text.now }
@@ -185,7 +185,7 @@ fn single_at(form: Form, text: &[u8]) -> Option<Found<'_>>
     })
 }
 
-/// A value of this name at the front, in the first of the forms that fits.
+/// Reads the value of this name at the front, in the first of the forms that fits.
 fn first_valued<'t>(name: &'t [u8], forms: &[Form], text: &'t [u8]) -> Option<Found<'t>>
     ensures value { option_map item_now result ≡ first_of (λ form. option_map
         (λ v. record { name = Some name.now; value = v.0; rest = v.1 }) (value_at form text.now)) forms.now }
@@ -203,7 +203,7 @@ fn first_valued<'t>(name: &'t [u8], forms: &[Form], text: &'t [u8]) -> Option<Fo
     None
 }
 
-/// A name at the front, and what follows.
+/// Returns a name at the front, and what follows.
 #[tactic(auto, unfolding(crate::specs::Items::run_at))]
 fn name_at(text: &[u8]) -> Option<(&[u8], &[u8])>
     ensures value { option_map pair_now result ≡ run_at is_name_byte text.now }
@@ -212,7 +212,7 @@ fn name_at(text: &[u8]) -> Option<(&[u8], &[u8])>
     split(text, run_len(Run::Name, text))
 }
 
-/// `name = value` at the front, in the first of the forms that fits. The name is read once for all forms.
+/// Reads `name = value` at the front, in the first of the forms that fits. The name is read once for all forms.
 fn first_named<'t>(forms: &[Form], text: &'t [u8]) -> Option<Found<'t>>
     ensures value { option_map item_now result ≡ first_of (λ form. named_at form text.now) forms.now }
     ensures shorter { IfSome result (λ it. length it.rest.now < length text.now) }
@@ -222,7 +222,7 @@ fn first_named<'t>(forms: &[Form], text: &'t [u8]) -> Option<Found<'t>>
     first_valued(name, forms, skip_white(rest))
 }
 
-/// A value alone at the front, in the first of the forms that fits.
+/// Reads a value alone at the front, in the first of the forms that fits.
 fn first_single<'t>(forms: &[Form], text: &'t [u8]) -> Option<Found<'t>>
     ensures value { option_map item_now result ≡ first_of (λ form. single_at form text.now) forms.now }
     ensures shorter { IfSome result (λ it. length it.rest.now < length text.now) }
@@ -235,7 +235,7 @@ fn first_single<'t>(forms: &[Form], text: &'t [u8]) -> Option<Found<'t>>
     None
 }
 
-/// The item at the front of a text: the first of the six forms that fits.
+/// Reads the item at the front of a text, in the first of the six forms that fits.
 #[tactic(auto, unfolding(crate::specs::Items::item_at))]
 pub(crate) fn item_at(text: &[u8]) -> Option<Found<'_>>
     ensures value { option_map item_now result ≡ item_at text.now }

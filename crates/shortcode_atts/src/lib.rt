@@ -54,7 +54,7 @@ impl Clone for Atts {
 }
 
 impl Atts {
-    /// No attributes, as a hook's callback has them. Takes no memory.
+    /// Makes empty attributes, as in the call of a hook's callback. Does not allocate.
     pub fn new(alloc: Global) -> Atts
         ensures { result ≡ no_attributes }
     {
@@ -64,7 +64,7 @@ impl Atts {
         }
     }
 
-    /// Puts a value under a name: a name that is there keeps its place and takes the value.
+    /// Puts a value under a name. A name that is there keeps its place, and its value is replaced.
     fn put(&mut self, alloc: Global, name: &[u8], value: &[u8]) -> Result<(), AllocError>
         requires name { IsUtf8 name.now }
         requires value { IsUtf8 value.now }
@@ -76,7 +76,7 @@ impl Atts {
         Ok(())
     }
 
-    /// Adds a value without a name, unless nothing is written.
+    /// Adds a value without a name, unless nothing is written, as in `""`.
     fn push(&mut self, alloc: Global, value: &[u8]) -> Result<(), AllocError>
         requires { IsUtf8 value.now }
         ensures { OnOk result (self.new ≡ add_under None (chars value.now) self.old) }
@@ -98,7 +98,7 @@ impl Atts {
         }
     }
 
-    /// The value under a name, which is compared byte by byte; the names of attributes are in lower case.
+    /// Returns the value under a name, which is compared byte by byte; the names of attributes are in lower case.
     pub fn named(&self, name: &str) -> Option<&str>
         ensures { option_map (λ value. value.now) result ≡ value_of self.now name.now }
     {
@@ -108,7 +108,7 @@ impl Atts {
         }
     }
 
-    /// The name and the value at a place among those with a name, counted from 0.
+    /// Returns the name and the value at a place among those with a name, counted from 0.
     pub fn pair(&self, at: usize) -> Option<(&str, &str)>
         ensures { option_map pair_now result ≡ slice_get self.now.named at }
     {
@@ -118,14 +118,14 @@ impl Atts {
         }
     }
 
-    /// The values without a name, in the order of the text.
+    /// Returns the values without a name, in the order of the text.
     pub fn positional(&self) -> &[String]
         ensures { map string_bytes result.now ≡ self.now.positional }
     {
         self.values.as_slice()
     }
 
-    /// The value under a name, or else the default.
+    /// Returns the value under a name, or else the default.
     fn value_or<'a>(&'a self, name: &str, default: &'a str) -> &'a str
         ensures { result.now ≡ unwrap_or (value_of self.entry.now name.now) default.entry.now }
     {
@@ -135,7 +135,7 @@ impl Atts {
         }
     }
 
-    /// A default's name, with the value here or else the default's.
+    /// Returns a default's name, with the value here or else the default's.
     fn pair_or(&self, default: &(String, String)) -> Result<(String, String), AllocError>
         ensures { IfOk result (λ pair. pair_bytes pair ≡ pair_or self.now (pair_bytes default.now)) }
     {
@@ -145,7 +145,7 @@ impl Atts {
         Ok((name, value))
     }
 
-    /// Each default name, in order, with its value here, or else the default (Shortcode API, shortcode_atts).
+    /// Returns each default name, in order, with its value here, or else the default (Shortcode API, shortcode_atts).
     /// Attributes under other names, and those without a name, are left out.
     ///
     /// It fails only if memory runs out.
@@ -164,7 +164,7 @@ impl Atts {
     }
 }
 
-/// The attributes that a text without blanks spells.
+/// Returns the attributes that a text without blanks spells.
 fn of_plain(alloc: Global, text: &str) -> Result<Atts, AllocError>
     ensures { IfOk result (λ atts. atts ≡ fold add no_attributes (items_of (chars text.now))) }
 {
@@ -177,7 +177,7 @@ fn of_plain(alloc: Global, text: &str) -> Result<Atts, AllocError>
     Ok(atts)
 }
 
-/// The attributes that a text spells, the part of a shortcode between its name and its end (Shortcode API,
+/// Reads the attributes that a text spells, the part of a shortcode between its name and its end (Shortcode API,
 /// shortcode_parse_atts): `name="value"`, `name='value'`, `name=value`, `"value"`, `'value'` and `value`.
 ///
 /// Every text has attributes; it fails only if memory runs out.
@@ -192,14 +192,14 @@ pub fn parse(alloc: Global, text: &str) -> Result<Atts, AllocError>
     }
 }
 
-/// A law: a text has one list of items, and one alone (Shortcode API, get_shortcode_atts_regex).
+/// A law: a text has exactly one list of items (Shortcode API, get_shortcode_atts_regex).
 pub fn one_list_of_items()
     ensures items { (text : List ℕ) → IsItems text (items_of text) }
     ensures only { (text : List ℕ) (items : List Item) → IsItems text items → items ≡ items_of text }
 {}
 
-/// A law: a run of blanks becomes one space, however many they are and whichever of the two, and every other character
-/// stays as it is (Code Reference, shortcode_parse_atts). The call does nothing: it carries these equations.
+/// A law: a run of blanks becomes one space, however many and of whichever of the two kinds they are, and every other
+/// character stays as it is (Code Reference, shortcode_parse_atts). The call does nothing: it carries these equations.
 pub fn a_run_of_blanks_is_one_space()
     ensures run { (blank : ℕ) (blanks rest : List ℕ) → All (λ c. is_blank c ≡ true) (blank ∷ blanks)
         → begins_blank rest ≡ false → spaced (blank ∷ blanks ++ rest) ≡ 32 ∷ spaced rest }

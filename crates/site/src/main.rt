@@ -19,7 +19,7 @@ fn main(rt: HostRuntime) -> ExitCode {
     let mut callbacks = Vec::new(alloc);
     for number in NUMBERS {
         let id = CallbackId::new(number);
-        // Each callback passes its call on. The closures stand in `main`, where they are made.
+        // Each callback passes its call on. The closures are in `main` itself, where they are made.
         let Ok(function) = Box::new(
             alloc,
             move |alloc: Global, call: &Call| -> Result<Reply, AllocError> {
@@ -84,7 +84,7 @@ fn serve(rt: &HostRuntime, callbacks: Listed<Stored>, calls: u32, cache: u32) ->
     }
 }
 
-/// The command-line arguments.
+/// Returns the command-line arguments.
 fn words(rt: &HostRuntime) -> io::Result<Vec<String>> {
     let mut words = Vec::new(rt.alloc());
     for word in env::args(rt)?.skip(1) {
@@ -93,7 +93,7 @@ fn words(rt: &HostRuntime) -> io::Result<Vec<String>> {
     Ok(words)
 }
 
-/// The bundle, over its callbacks.
+/// Makes the bundle, over its callbacks.
 fn plugins(alloc: Global, callbacks: Listed<Stored>) -> Result<Plugins<Stored>, PluginFault>
     requires { map ⟦<Stored as Stated>⟧.number callbacks ≡ numbers }
 {
@@ -103,7 +103,7 @@ fn plugins(alloc: Global, callbacks: Listed<Stored>) -> Result<Plugins<Stored>, 
     Plugins::new(alloc, list)
 }
 
-/// Says on standard error why nothing is served any more.
+/// Says on standard error why nothing more is served.
 fn failed(rt: &HostRuntime, fault: impl Display + Drop) -> ExitCode {
     let _ = eprintln!(rt; "site: {fault}");
     ExitCode::from(1)

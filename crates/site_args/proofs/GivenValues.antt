@@ -1,4 +1,4 @@
--- What the words give an option that reads a number.
+-- The value that the arguments give an option that reads a number.
 use Rattle.std.proofs.Common.{◌≡◌, ◌⊎◌, ◌∙◌, ◌<◌, ℕ, pos, true, List, [], ◌∷◌, map, length, zero, suc, Option, Some, None, codes, refl, sym, ap, subst, inl, inr, arith, ◌≤◌, ◌^◌, Result, Ok}
 use Rattle.std.specs.Prelude.{option_map, option_and_then, slice_get, unwrap_or}
 use Rattle.std.specs.List.{All, slice_index_or}

@@ -16,7 +16,7 @@ pub simple_and_free : is_simple_and_free site_app ≡ true
 unfolding clap_on_literals site_app
 simple_and_free = refl
 
--- a command line of words that stand after the program's name
+-- a command line of the arguments after the program's name
 abbrev pub without_name : App → App
 without_name a = on_top (λ s. record s { no_binary_name = true }) a
 

@@ -1,4 +1,4 @@
--- What the words are answered.
+-- What the program makes of its arguments.
 use Rattle.std.specs.Prelude.{◌≡◌, ◌≢◌, ◌≤◌, List, []}
 use Rattle.clap.specs.Words.{IsAmong, Kinds, Text}
 use Rattle.clap.specs.declared.error.kind.ErrorKind.{ErrorKind}
@@ -12,12 +12,12 @@ abbrev pub HasRanges : ArgsAnswer → Type 0
 HasRanges (Run calls cache) = ((1 ≤ calls) × (calls ≤ 100000)) × ((1 ≤ cache) × (cache ≤ 4096))
 HasRanges _ = Unit {0}
 
--- the numbers are those of the words
+-- the numbers are those of the arguments
 abbrev pub HasNumbers : List Text → ArgsAnswer → Type 0
 HasNumbers words (Run calls cache) = (calls ≡ calls_of words) × (cache ≡ cache_of words)
 HasNumbers words _ = Unit {0}
 
--- clap accepts the arguments, or asks to show help, or refuses them; of an allocation failure nothing is said
+-- clap accepts the arguments, or asks to show help, or refuses them; on allocation failure nothing else is stated
 abbrev pub IsOutcome : Kinds → ArgsAnswer → Type 0
 IsOutcome kinds (Run calls cache) = kinds ≡ []
 IsOutcome kinds (Help text) = IsAmong DisplayHelp kinds

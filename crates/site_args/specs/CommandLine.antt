@@ -30,10 +30,10 @@ abbrev pub number_or : ℕ → Option Text → ℕ
 number_or default None = default
 number_or default (Some text) = digits_value 10 (without_leading_plus text)
 
--- how many calls each page has: 10,000 unless the words say another number
+-- how many calls each page has: 10,000 unless the arguments say another number
 abbrev pub calls_of : List Text → ℕ
 calls_of words = number_or 10000 (one_of (codes "calls") (matches_of site_app words))
 
--- how many texts are kept: 64 unless the words say another number
+-- how many texts are kept: 64 unless the arguments say another number
 abbrev pub cache_of : List Text → ℕ
 cache_of words = number_or 64 (one_of (codes "cache") (matches_of site_app words))

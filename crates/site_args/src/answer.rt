@@ -1,4 +1,4 @@
-//! What the words say.
+//! What the command-line arguments ask for.
 ghost use Rattle.std.specs.Prelude.{◌≡◌, ◌≤◌, IfOk, map, string_bytes};
 ghost use Rattle.clap.specs.Words.{FailsBy, HasKind, Kinds};
 ghost use Rattle.site_args.specs.CommandLine.{calls_of, cache_of, reasons};
@@ -14,22 +14,23 @@ use std::alloc::Global;
 pub enum ArgsAnswer {
     /// Serve.
     Run {
-        /// How many callbacks each page may call: 1 to 100,000, and 10,000 if no argument says it.
+        /// How many callbacks each page may call: 1 to 100,000, and 10,000 if no argument says
+        /// otherwise.
         calls: u32,
-        /// How many texts keep their pieces: 1 to 4,096, and 64 if no argument says it.
+        /// How many texts keep their pieces: 1 to 4,096, and 64 if no argument says otherwise.
         cache: u32,
     },
     /// Show this help, and serve nothing.
     Help(String),
-    /// The words are no options of the program; the text says which and why.
+    /// The arguments are not those of the program; the text says which one and why.
     Bad(String),
-    /// There was no memory to read the words, or to write the text.
+    /// Memory for the arguments or for the text ran out.
     OutOfMemory,
 }
 
-/// Parses the command-line arguments: `--calls N`, `--cache N` (also as `--calls=N`) and
-/// `--help`. An option given twice, a number out of its range, any other option and any other word
-/// are [`ArgsAnswer::Bad`]. The last clause says in clap's terms which answer it is.
+/// Parses the command-line arguments: `--calls N`, `--cache N` (also as `--calls=N`) and `--help`.
+/// An option given twice, a number out of its range, and any other argument are
+/// [`ArgsAnswer::Bad`]. The last clause says in clap's terms which answer it is.
 pub fn read_args(alloc: Global, words: &[String]) -> ArgsAnswer
     ensures ranges { HasRanges result }
     ensures numbers { HasNumbers (map string_bytes words.now) result }
@@ -41,7 +42,7 @@ pub fn read_args(alloc: Global, words: &[String]) -> ArgsAnswer
     }
 }
 
-/// The two numbers of the words, or clap's error.
+/// Returns the two numbers that the arguments give, or clap's error.
 fn read_numbers(alloc: Global, words: &[String]) -> Result<(u32, u32), Error>
     ensures calls { IfOk result (λ n.
         (1 ≤ n.0) × (n.0 ≤ 100000) × (n.0 ≡ calls_of (map string_bytes words.now))) }
@@ -56,7 +57,8 @@ fn read_numbers(alloc: Global, words: &[String]) -> Result<(u32, u32), Error>
     Ok((calls, cache))
 }
 
-/// What an error of clap's means. If its text has no memory, that is all that is said.
+/// Returns the answer for an error of clap's. If memory for its text runs out, that is
+/// `OutOfMemory`.
 fn refusal(alloc: Global, error: &Error) -> ArgsAnswer
     ensures outcome { (kinds : Kinds) → HasKind kinds error.now → IsOutcome kinds result }
     ensures refusal { IsRefusal result }

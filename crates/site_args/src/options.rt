@@ -6,7 +6,7 @@ ghost use Rattle.site_args.specs.CommandLine.{number_rule, site_app};
 use clap::{Arg, ArgAction, Command, value_parser};
 use std::alloc::{AllocError, Global};
 
-/// `--calls N`.
+/// Makes the option `--calls N`.
 fn calls_option<'a>(alloc: Global) -> Arg<'a>
     ensures rule { rule_of result ≡ number_rule (codes "calls") 100000 }
     ensures local { result.global ≡ false }
@@ -19,7 +19,7 @@ fn calls_option<'a>(alloc: Global) -> Arg<'a>
         .value_parser(value_parser!(u32).range(1..=100_000))
 }
 
-/// `--cache N`.
+/// Makes the option `--cache N`.
 fn cache_option<'a>(alloc: Global) -> Arg<'a>
     ensures rule { rule_of result ≡ number_rule (codes "cache") 4096 }
     ensures local { result.global ≡ false }
@@ -32,7 +32,7 @@ fn cache_option<'a>(alloc: Global) -> Arg<'a>
         .value_parser(value_parser!(u32).range(1..=4_096))
 }
 
-/// The whole command line, for arguments that begin after the program's name.
+/// Makes the whole command line, for arguments that begin after the program's name.
 pub(crate) fn site_command<'a>(alloc: Global) -> Result<Command<'a>, AllocError>
     ensures { IfOk result (λ command. app_of command ≡ site_app) }
 {

@@ -4,7 +4,7 @@ ghost use Rattle.site_args.specs.CommandLine.{calls_of, cache_of, reasons};
 
 use clap::error::ErrorKind;
 
-/// What some words mean. The call itself does nothing: it carries these facts.
+/// States what some command-line arguments mean. The call itself does nothing: it carries these facts.
 pub fn worked_args()
     ensures no_words { reasons [] ≡ [] }
     ensures default_calls { calls_of [] ≡ 10000 }
@@ -18,7 +18,7 @@ pub fn worked_args()
         (codes "--calls" ∷ codes "100000" ∷ codes "--cache" ∷ codes "1" ∷ []) ≡ 1 }
     ensures one_word { cache_of (codes "--cache=4096" ∷ []) ≡ 4096 }
 
-    // What clap turns down, and why.
+    // What clap refuses, and why.
     ensures no_calls { reasons (codes "--calls" ∷ codes "0" ∷ [])
         ≡ ErrorKind.ValueValidation ∷ [] }
     ensures too_many_calls { reasons (codes "--calls" ∷ codes "100001" ∷ [])
@@ -36,6 +36,6 @@ pub fn worked_args()
     ensures no_option { reasons (codes "--pages" ∷ []) ≡ ErrorKind.UnknownArgument ∷ [] }
     ensures stray_word { reasons (codes "x" ∷ []) ≡ ErrorKind.UnknownArgument ∷ [] }
 
-    // It asks for the help.
+    // The help is asked for.
     ensures help { reasons (codes "--help" ∷ []) ≡ ErrorKind.DisplayHelp ∷ [] }
 {}

@@ -24,7 +24,8 @@ use site_values::{
 };
 
 /// A command, over the texts of its tree. Sizes of texts and paths, dates, and whether a post or a
-/// plugin is there, aren't looked at: whoever carries the command out refuses those by name.
+/// plugin is there, aren't checked here: the function that carries the command out refuses them by
+/// name.
 #[derive(Clone, Copy)]
 pub enum Command<'v> {
     /// Store one more post or page.
@@ -86,10 +87,10 @@ pub enum Command<'v> {
     },
 }
 
-/// The command of a tree, or `None` if it isn't one: if the tree is no object, its `cmd` is no
-/// text that names a command, or a key of that command is missing and has no default, is of another
-/// kind or out of its range. `null` is of another kind than any. Other keys are ignored.
-/// It does not allocate.
+/// Reads the command that a tree is, or returns `None` if it isn't one: the tree isn't an object,
+/// its `cmd` isn't a text that names a command, or a key of that command is missing and has no
+/// default, is of the wrong kind or out of its range. `null` is of the wrong kind for every such
+/// key. Other keys are ignored. Does not allocate.
 #[tactic(auto, unfolding(crate::specs::Asked::command_of))]
 pub fn read_command(value: &Value) -> Option<Command<'_>>
     ensures { option_map asked_by result ≡ command_of (view value.now) }
@@ -117,7 +118,7 @@ fn read_put(value: &Value) -> Option<Command<'_>>
     read_put_of(value, kind, status)
 }
 
-// The texts of such a post or page.
+// Reads the texts of a post or page of that kind and status.
 fn read_put_of(value: &Value, kind: PostKind, status: PostStatus) -> Option<Command<'_>>
     ensures { option_map asked_by result
         ≡ with_found (text_or (codes "title") (codes "") (view value.now)) (λ title.

@@ -1,5 +1,5 @@
 //! The commands of a site, read from lines of JSON: which command a line is, and what it names.
-//! Lengths of texts and paths, dates, posts and plugins that may not exist are looked at where a
+//! Lengths of texts and paths, dates, and posts and plugins that may not exist are checked where a
 //! command is carried out.
 #![tactic(auto)]
 

@@ -17,7 +17,7 @@ ghost use Rattle.site_commands.specs.Asked.{
 ghost use Rattle.site_values.specs.Named.{option_named};
 ghost use Rattle.site_commands.specs.Worked.{line_command};
 
-/// Which commands some lines are. The call itself does nothing: it carries these facts.
+/// States which commands some lines are. The call itself does nothing: it carries these facts.
 pub fn worked_commands()
     // Only the date has to be there in `put`.
     ensures defaults { line_command (codes "{\"cmd\":\"put\",\"date\":\"2024-05-01 10:00:00\"}")
@@ -40,7 +40,7 @@ pub fn worked_commands()
         (codes "{\"cmd\":\"put\",\"status\":\"private\",\"date\":\"D\"}")
         ≡ None }
 
-    // What `edit` names is changed; a key that it doesn't have is ignored, whatever stands there.
+    // What `edit` names is changed; a key that it doesn't have is ignored, whatever its value.
     ensures edited { line_command (codes "{\"cmd\":\"edit\",\"id\":1,\"title\":\"U\"}")
         ≡ Some (edit 1 None (Some (codes "U")) None None) }
     ensures ignored_kind { line_command

@@ -39,7 +39,7 @@ edited rows id given =
     then (record rows { posts = edited_posts id given rows.posts }, done)
     else (rows, refused NoSuchPost)
 
--- `edit`: what is given stands in place of what the post had (wp_update_post)
+-- `edit`: what is given replaces what the post had (wp_update_post)
 unfoldable pub edit : Rows → ℕ → PostEdit → Rows × ReplyData
 edit rows id given =
     if not (if_given (fits max_title) given.title && if_given (fits max_content) given.content) then (rows, refused TooLarge)
@@ -59,7 +59,7 @@ set_option rows name value =
     then (record rows { options = insert rows.options name value }, done)
     else (rows, refused TooLarge)
 
--- `activate` and `deactivate`: a plugin that there is becomes active, or inactive (activate_plugin, deactivate_plugins)
+-- `activate` and `deactivate`: a plugin of the bundle becomes active, or inactive (activate_plugin, deactivate_plugins)
 unfoldable pub set_active : List Shape → Rows → Text → Bool → Rows × ReplyData
 set_active plugins rows name active =
     if is_some (load_of plugins name)

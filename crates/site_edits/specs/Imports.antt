@@ -22,14 +22,14 @@ import_refusal fault.OutOfMemory = refused OutOfMemory
 abbrev pub are_known : List Shape → List Text → Bool
 are_known plugins names = list_all (λ name. is_some (load_of plugins name)) names
 
--- the records are added, if no ID of theirs stands twice or is there already
+-- the records are added, if no two of their posts have the same ID and no stored post has one of them
 abbrev pub added : Rows → SiteRecords → Rows × ReplyData
 added rows records =
     if are_new records.posts rows.posts
     then (with_records records rows, done)
     else (rows, refused DuplicateId)
 
--- all of a site file's records are added, or none: its active plugins have to be there
+-- all of a site file's records are added, or none: each plugin that is active in it has to exist
 abbrev pub imported : List Shape → Rows → Read SiteRecords → Rows × ReplyData
 imported plugins rows (Err why) = (rows, import_refusal why)
 imported plugins rows (Ok records) =

@@ -1,4 +1,4 @@
--- Which replies a refusal of the database may stand in place of.
+-- Which replies a refusal of the database may replace.
 use Rattle.std.specs.Prelude.{Bool, true, false, ◌||◌, ◌&&◌, ℕ, Option, is_some}
 use Rattle.site_replies.specs.declared.reply.Refusal.TheVariants.{BadCommand, BadImport, BadDate, UnknownPlugin, BadTemplate, TooLarge}
 use Rattle.site_replies.specs.Reply.{ReplyData, done, done_id, refused}
@@ -19,7 +19,7 @@ rests_on_rows (refused BadTemplate) = false
 rests_on_rows (refused TooLarge) = false
 rests_on_rows _ = true
 
--- A refusal of the database stands in place of an edit that is carried out, and of no other reply. Only with a limit on the
--- steps of a statement may it stand in place of whatever rests on the rows.
+-- A refusal of the database may replace the reply to an edit that is carried out, and no other reply. Only with a limit
+-- on the steps of a statement may it replace any reply that rests on the rows.
 abbrev pub may_be_late : Option ℕ → ReplyData → Bool
 may_be_late limit reply = is_done reply || (is_some limit && rests_on_rows reply)

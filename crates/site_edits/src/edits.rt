@@ -51,7 +51,7 @@ pub fn put(
     }
 }
 
-/// Puts what is given in place of what the post had. Refused as `TooLarge`, `BadDate` or `NoSuchPost`.
+/// Replaces the given fields of a post, and keeps the others. Refused as `TooLarge`, `BadDate` or `NoSuchPost`.
 #[tactic(auto, unfolding(crate::specs::Edits::edit))]
 pub fn edit(
     tables: &mut Tables,
@@ -79,7 +79,7 @@ pub fn edit(
     }
 }
 
-/// The post with the ID, edited.
+/// Replaces the given fields of the post with the ID, and replies.
 #[tactic(auto, unfolding(crate::specs::Edits::edited))]
 fn edit_post(
     tables: &mut Tables,
@@ -133,7 +133,7 @@ pub fn set_option(tables: &mut Tables, name: &str, value: &str) -> Result<SiteRe
     Ok(SiteReply::Ok)
 }
 
-/// Makes a plugin active, or inactive. Refused as `UnknownPlugin`.
+/// Activates or deactivates a plugin. Refused as `UnknownPlugin`.
 #[tactic(auto, unfolding(crate::specs::Edits::set_active))]
 pub fn set_active<S: Stated>(
     plugins: &Plugins<S>,

@@ -8,10 +8,10 @@ use thiserror::Error;
 /// Why a site's tables can't be used. No row has changed.
 #[derive(Clone, Copy, Debug, PartialEq, Eq, Drop, Error)]
 pub enum StoreFault {
-    /// There was no memory.
+    /// Memory ran out.
     #[error("out of memory")]
     OutOfMemory,
-    /// The database refused in another way.
+    /// The database refused for another reason.
     #[error("store failed")]
     Store,
 }

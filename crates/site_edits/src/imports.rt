@@ -37,7 +37,7 @@ pub fn import<S: Stated>(
     }
 }
 
-/// The records of a site file are added, if there is each plugin that is active in it.
+/// Adds the records of a site file, if each plugin that is active in it exists.
 fn add_known<S: Stated>(
     plugins: &Plugins<S>,
     tables: &mut Tables,
@@ -64,7 +64,7 @@ fn are_known<S: Stated>(plugins: &Plugins<S>, names: &[Text]) -> bool
         .all(|name| plugins.load_of(name.as_str()).is_some())
 }
 
-/// The reply for a site file that is refused.
+/// Returns the reply to a site file that is refused.
 fn refused_import(fault: ImportFault) -> Result<SiteReply, StoreFault>
     ensures ok { IfOk result (λ reply. reply_data reply ≡ import_refusal fault) }
     ensures err { IfErr result (λ e. (e ≡ StoreFault.OutOfMemory) × (fault ≡ ImportFault.OutOfMemory)) }

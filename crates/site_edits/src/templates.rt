@@ -12,8 +12,8 @@ use site_replies::{Refusal, SiteReply};
 use std::alloc::Global;
 use template_trees::{TemplateFault, is_template_name, read_template, template_text};
 
-/// Stores a body in place of the one before under its name; `null` removes that. Refused as `BadTemplate` or
-/// `TooLarge`.
+/// Stores a template's body under its name, in place of any before; `null` removes the template. Refused as
+/// `BadTemplate` or `TooLarge`.
 #[tactic(auto, unfolding(crate::specs::Templates::set_template))]
 pub fn set_template(
     alloc: Global,

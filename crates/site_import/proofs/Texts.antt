@@ -15,7 +15,7 @@ pub of_tree : (bytes : List ℕ) (tree : Data) → IsUtf8 bytes → read bytes �
 unfolding site_file_in
 of_tree bytes tree utf8 e = rw (is_utf8-from_IsUtf8 bytes utf8, e)
 
--- no UTF-8, or none that reads as a tree
+-- bytes that are not UTF-8, or don't read as a tree
 pub of_no_tree : (bytes : List ℕ) → (IsUtf8 bytes → read bytes ≡ None) → site_file_in bytes ≡ Err (BadImport (whole Text))
 unfolding site_file_in
 of_no_tree bytes h = elim (cases_Bool (is_utf8 bytes)) [ inl e ↦ rw (e, h (IsUtf8-from_is_utf8 bytes e)) | inr e ↦ rw e ]

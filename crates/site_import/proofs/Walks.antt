@@ -7,7 +7,7 @@ use Rattle.serde_json.specs.View.{view, items_view, members_view}
 use Rattle.serde_json.specs.declared.value.Value.{Value}
 use Rattle.site_import.specs.Walks.{Read, and_read, each_from, list_of, members_of}
 
--- what a walk gives after what was read before it
+-- what a walk reads, after what was read before it
 abbrev pub in_front : {B : Type 0} → List B → Read (List B) → Read (List B)
 in_front before (Ok rest) = Ok (before ++ rest)
 in_front before (Err fault) = Err fault

@@ -44,7 +44,7 @@ fn read_section(alloc: Global, value: &Value) -> Result<Listed<Text>, ImportFaul
     read_each(alloc, values.as_slice())
 }
 
-/// The section of a site file's object, which may be missing.
+/// Reads the section `active` of a site file, which may be missing.
 pub(crate) fn read_active(alloc: Global, found: Option<&Value>) -> Result<Listed<Text>, ImportFault>
     ensures ok { IfOk result (λ names. section_of active_of (option_map (λ v. view v.now) found.entry) ≡ Ok names) }
     ensures err { IfErr result (λ fault. fault ≢ ImportFault.OutOfMemory

@@ -9,9 +9,9 @@ use thiserror::Error;
 /// A part of a site file.
 #[derive(Clone, Copy, Debug, PartialEq, Eq)]
 pub enum Section {
-    /// The bytes, which are no JSON text.
+    /// The bytes, which are not a JSON text.
     Text,
-    /// The whole value, which is no object.
+    /// The whole value, which is not an object.
     Root,
     Version,
     Posts,
@@ -32,7 +32,7 @@ pub struct Place {
 }
 
 impl Place {
-    /// A section itself.
+    /// Makes the place of a section itself.
     pub(crate) fn whole(section: Section) -> Self
         ensures { result ≡ whole section }
     {
@@ -42,7 +42,7 @@ impl Place {
         }
     }
 
-    /// An entry of a section.
+    /// Makes the place of an entry of a section.
     pub(crate) fn entry_of(section: Section, entry: usize) -> Self
         ensures { result ≡ entry_of section entry }
     {
@@ -66,10 +66,10 @@ impl fmt::Display for Place {
 /// Why a site file is refused: its first fault, or an allocation failure.
 #[derive(Clone, Copy, Debug, PartialEq, Eq, Drop, Error)]
 pub enum ImportFault {
-    /// Something is missing, of another kind than it should be, or out of its range.
+    /// Something is missing, of the wrong kind, or out of its range.
     #[error("no site file: {0}")]
     BadImport(Place),
-    /// A text is no date of a post.
+    /// A text isn't the date of a post.
     #[error("no date: {0}")]
     BadDate(Place),
     /// A name or a tree isn't that of a template.
@@ -78,7 +78,7 @@ pub enum ImportFault {
     /// There are more than 10,000 posts, or a title, content, value or template is too large.
     #[error("too large: {0}")]
     TooLarge(Place),
-    /// There was not enough memory.
+    /// Memory ran out.
     #[error("out of memory")]
     OutOfMemory,
 }

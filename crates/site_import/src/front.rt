@@ -1,4 +1,4 @@
-//! What a site file says of the front.
+//! What a site file says about the front.
 ghost use Rattle.std.specs.Prelude.{◌≡◌, ◌≢◌, Ok, Err, IfOk, IfErr, option_map};
 ghost use Rattle.serde_json.specs.View.{view};
 ghost use Rattle.site_import.specs.Walks.{section_of};
@@ -28,7 +28,7 @@ fn read_shown(value: &Value) -> Option<Shown>
     }
 }
 
-/// The options that say what the front shows.
+/// Returns the options that say what the front shows.
 fn options_for(alloc: Global, shown: Shown) -> Result<Listed<(Text, Text)>, ImportFault>
     ensures ok { IfOk result (λ options. options ≡ options_for shown) }
     ensures err { IfErr result (λ fault. fault ≡ ImportFault.OutOfMemory) }
@@ -62,7 +62,7 @@ fn read_section(alloc: Global, value: &Value) -> Result<Listed<(Text, Text)>, Im
     options_for(alloc, shown)
 }
 
-/// The section of a site file's object, which may be missing, as the options that it sets.
+/// Reads the section `front` of a site file, which may be missing, as the options that it sets.
 pub(crate) fn read_front(
     alloc: Global,
     found: Option<&Value>,

@@ -65,7 +65,7 @@ fn read_section(alloc: Global, value: &Value) -> Result<Listed<(Text, Text)>, Im
     read_each(alloc, members)
 }
 
-/// The section of a site file's object, which may be missing.
+/// Reads the section `options` of a site file, which may be missing.
 pub(crate) fn read_options(
     alloc: Global,
     found: Option<&Value>,

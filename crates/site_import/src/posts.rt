@@ -35,7 +35,7 @@ fn read_row(value: &Value) -> Option<PostRow<'_>>
     read_texts(value, id, kind, status)
 }
 
-// The texts of such a post.
+// Reads the texts of a post with that ID, kind and status.
 fn read_texts(value: &Value, id: u32, kind: PostKind, status: PostStatus) -> Option<PostRow<'_>>
     ensures { option_map post_by result
         ≡ with_found (text_at (codes "title") (view value.now)) (λ title.
@@ -56,7 +56,7 @@ fn read_texts(value: &Value, id: u32, kind: PostKind, status: PostStatus) -> Opt
     })
 }
 
-// The post of a row, its texts copied.
+// Makes the post of a row, its texts copied.
 fn copied(alloc: Global, row: &PostRow<'_>, date: PostDate) -> Result<Post, AllocError>
     requires { date ≡ row.now.date.now }
     ensures { IfOk result (λ post. post ≡ post_by row.now) }
@@ -124,7 +124,7 @@ fn read_section(alloc: Global, value: &Value) -> Result<Listed<Post>, ImportFaul
     read_list(alloc, values.as_slice())
 }
 
-/// The section of a site file's object, which may be missing.
+/// Reads the section `posts` of a site file, which may be missing.
 pub(crate) fn read_posts(alloc: Global, found: Option<&Value>) -> Result<Listed<Post>, ImportFault>
     ensures ok { IfOk result (λ posts. section_of posts_of (option_map (λ v. view v.now) found.entry) ≡ Ok posts) }
     ensures err { IfErr result (λ fault. fault ≢ ImportFault.OutOfMemory

@@ -32,7 +32,7 @@ fn version_of(value: &Value) -> Option<u64>
     }
 }
 
-/// The value of `front`, which is a section from version 2 on.
+/// Returns the value of `front`, which is a section from version 2 on.
 fn front_in(value: &Value, version: u64) -> Option<&Value>
     ensures { option_map (λ v. view v.now) result ≡ front_in version (view value.now) }
 {
@@ -42,7 +42,7 @@ fn front_in(value: &Value, version: u64) -> Option<&Value>
     value.get("front")
 }
 
-/// All options of a site file. Of one name the later value counts, so `front` wins.
+/// Reads all options of a site file. If a name is repeated the later value counts, so `front` wins.
 fn read_all_options(
     alloc: Global,
     value: &Value,
@@ -97,9 +97,9 @@ fn read_records(alloc: Global, value: &Value) -> Result<SiteRecords, ImportFault
     read_sections(alloc, value, version)
 }
 
-/// The records of a tree of version 1 or 2. Other keys than `version`, `posts`, `options`, `templates`, `active` and,
-/// in version 2, `front` are ignored. What `front` says becomes options after the others. Whether the IDs are new and
-/// the plugins are there isn't looked at.
+/// Reads the records of a tree of version 1 or 2. Keys other than `version`, `posts`, `options`, `templates`, `active`
+/// and, in version 2, `front` are ignored. What `front` says becomes options after the others. Whether the IDs are new
+/// and the plugins exist isn't checked.
 pub fn read_site_value(alloc: Global, value: &Value) -> Result<SiteFile, ImportFault>
     ensures ok { IfOk result (λ file. site_file_of (view value.now) ≡ Ok file.records) }
     ensures err { IfErr result (λ fault. fault ≢ ImportFault.OutOfMemory
@@ -123,7 +123,7 @@ fn read_tree(alloc: Global, bytes: &[u8]) -> Result<Value, ImportFault>
     }
 }
 
-/// The records of a site file, given as its bytes.
+/// Reads the records of a site file, given as its bytes.
 pub fn read_site(alloc: Global, bytes: &[u8]) -> Result<SiteFile, ImportFault>
     ensures ok { IfOk result (λ file. site_file_in bytes.now ≡ Ok file.records) }
     ensures err { IfErr result (λ fault. fault ≢ ImportFault.OutOfMemory

@@ -77,7 +77,7 @@ fn read_section(alloc: Global, value: &Value) -> Result<Listed<(Text, Text)>, Im
     read_each(alloc, members)
 }
 
-/// The section of a site file's object, which may be missing.
+/// Reads the section `templates` of a site file, which may be missing.
 pub(crate) fn read_templates(
     alloc: Global,
     found: Option<&Value>,

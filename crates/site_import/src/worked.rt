@@ -8,10 +8,10 @@ ghost use Rattle.site_import.specs.Walks.{whole, entry_of};
 ghost use Rattle.site_import.specs.Site.{site_file_in};
 ghost use Rattle.site_import.specs.Worked.{no_records};
 
-/// What some site files hold, and which is the first fault of others. The call itself does nothing: it carries these
-/// facts.
+/// States what some site files hold, and what the first fault of others is. The call itself does nothing: it carries
+/// these facts.
 pub fn worked_site_files()
-    // Bytes that are no JSON text, a value that is no object, and a version that is not known.
+    // Bytes that are not a JSON text, a value that is not an object, and a version that is not known.
     ensures no_text { site_file_in (codes "{\"version\":1")
         ≡ Err (ImportFault.BadImport (whole Section.Text)) }
     ensures no_object { site_file_in (codes "[]")
@@ -87,7 +87,7 @@ pub fn worked_site_files()
     ensures null_front { site_file_in (codes "{\"version\":2,\"front\":null}")
         ≡ Err (ImportFault.BadImport (whole Section.Front)) }
 
-    // The first fault is that of the first section, wherever its key stands.
+    // The first fault is that of the first section, wherever its key is.
     ensures posts_before_options { site_file_in (codes "{\"version\":1,\"options\":0,\"posts\":0}")
         ≡ Err (ImportFault.BadImport (whole Section.Posts)) }
     ensures options_before_templates { site_file_in (codes "{\"version\":1,\"templates\":0,\"options\":0}")

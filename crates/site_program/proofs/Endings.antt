@@ -1,4 +1,4 @@
--- From what was taken of the input to what stands when serving ends.
+-- From what was taken of the input to what holds when serving ends.
 use Rattle.std.proofs.Common.{arith, ◌≡◌, ◌⊎◌, inl, inr, ℕ, ◌+◌, ◌-◌, ◌*◌, ◌<◌, ◌≤◌, List, [], ◌∷◌, ◌++◌, ◌∙◌, Option, Some, None, Err, Bool, false, sym, subst, ap, take, length, append_assoc, append-nil, length-append, flat_map}
 use Rattle.std.specs.Prelude.{IfSome}
 use Rattle.std.proofs.lemmas.Grind.{flat_map-append}
@@ -103,7 +103,7 @@ module _ (steps : Rows → List ℕ → Rows × ReplyData) where
   lines_of-taken old new limit left stretch rest more before after t =
       ap lines_of (ap (λ l. l ++ more) t.whole ∙ append_assoc (flat_map ended t.lines) rest more) ∙ lines_of-ended t.lines (rest ++ more) t.each
 
-  -- what holds of an input that begins with the stretch holds of what the source gave
+  -- what holds of an input that begins with the stretch holds of what the source had
   at_given : (P : List ℕ → Type 0) (given left : Option (List ℕ)) (stretch : List ℕ) → Consumes given left stretch → ((more : List ℕ) → P (stretch ++ more))
       → IfSome given P
   at_given P None left stretch c h = tt
@@ -132,7 +132,7 @@ module _ (steps : Rows → List ℕ → Rows × ReplyData) where
     each = t.each;
   }
 
-  -- what stands after a fault in a stretch of what was read
+  -- what holds after a fault in a stretch of what was read
   pub Stops-from_faults : (old new : Rows) (stretch : List ℕ) (given left before after : Option (List ℕ)) (fault : ServeFault) → Consumes given left stretch
       → Faults steps old max_lines stretch before after new fault → Stops steps old given left before after new fault
   Stops-from_faults old new stretch given left before after fault_of.Read read f = absurd f.faults
@@ -177,7 +177,7 @@ module _ (steps : Rows → List ℕ → Rows × ReplyData) where
             )),
       )
 
-  -- what stands after a read that failed
+  -- what holds after a read that failed
   pub Stops-from_read : (old new : Rows) (left : ℕ) (stretch held : List ℕ) (given mid last before after : Option (List ℕ)) → Consumes given mid stretch
       → Keeps mid last → Takes steps old max_lines stretch before after new left held → IsLine held
       → (0 < length held → 0 < left) → Stops steps old given last before after new fault_of.Read
@@ -191,7 +191,7 @@ module _ (steps : Rows → List ℕ → Rows × ReplyData) where
         (subst (Consumes given mid) t.whole read) kept,
   )
 
-  -- a fault in a stretch is none of reading
+  -- a fault in a stretch isn't a read that failed
   pub faults_but_read : (old new : Rows) (limit : ℕ) (stretch : List ℕ) (before after : Option (List ℕ)) (fault : ServeFault) (failed : Bool)
       → Faults steps old limit stretch before after new fault → failed ≡ false → failed ≡ is_read (Err fault)
   faults_but_read old new limit stretch before after fault_of.Read failed f sound = absurd f.faults
@@ -205,7 +205,7 @@ module _ (steps : Rows → List ℕ → Rows × ReplyData) where
   told_after written None out h = absurd h
   told_after written (Some all) out h = ap Some h
 
-  -- what holds of the stretch that was read to the end holds of what the source gave
+  -- what holds of the stretch that was read to the end holds of what the source had
   at_end : (P : List ℕ → Type 0) (given left : Option (List ℕ)) (stretch : List ℕ) → Consumes given left stretch → IsAtEnd left → P stretch → IfSome given P
   at_end P None left stretch c e h = tt
   at_end P (Some xs) None stretch c e h = absurd c

@@ -74,7 +74,7 @@ some_line : (b : ℕ) (bytes : List ℕ) → 0 < length (lines_of (b ∷ bytes))
 unfolding lines_of
 some_line b bytes = elim (cases_Bool (b == 10)) [ inl e ↦ rw e (omega arith) | inr e ↦ rw e (length-onto_first b (lines_of bytes)) ]
 
--- if a byte stands there is a line
+-- if there is a byte, there is a line
 pub lines_of-some : (bytes : List ℕ) → 0 < length bytes → 0 < length (lines_of bytes)
 lines_of-some [] h = absurd (omega arith)
 lines_of-some (b ∷ bytes) h = some_line b bytes

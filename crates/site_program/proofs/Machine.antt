@@ -1,4 +1,4 @@
--- What the machine's contracts say of how a call ended.
+-- How a call ended, by the contracts of the machine.
 use Rattle.std.proofs.Common.{Err, refl}
 use Rattle.hook_machine.specs.World.{World}
 use Rattle.hook_machine.specs.declared.fault.RunFault.{RunFault}

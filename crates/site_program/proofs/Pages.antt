@@ -30,7 +30,7 @@ module _ (engine : Engine) (calls : ℕ) (found : Found) (options templates : Te
   unfolding page_pass
   work_is e settings f world e_is settings_are f_is world_is = rw (e_is, settings_are, f_is, world_is) refl
 
-  -- want of memory is no refusal of the page
+  -- an allocation failure isn't a refusal of the page
   pub page_forgone : (why : RunFault) → why ≡ fault.OutOfMemory → IsRefusedBy (page_pass engine calls found options templates active) why
   page_forgone why is = λ other. absurd (other is)
 

@@ -19,7 +19,7 @@ use Rattle.post_tables.specs.Rows.{Rows}
 
 -- ---- newlines
 
--- what comes before the first newline has none
+-- what comes before the first newline has no newline
 pub no_newline_before : (hay : List ℕ) (end : ℕ) → IsFirstByte (is_byte 10) hay (Some end) → HasNoNewline (take end hay)
 no_newline_before hay end found = All-from_get_or (λ b. b ≢ 10) (take end hay) 0 (λ i h e.
     let inside : i < end = let high = found.0.high in omega (arith, length-take-le end hay) in
@@ -101,7 +101,7 @@ pub failed_by_write : (r : Result (Unit {0}) ServeFault) (failed : Bool) → fai
 failed_by_write (Ok nothing) failed same is = same
 failed_by_write (Err e) failed same is = rw is same
 
--- want of memory is no failed write
+-- an allocation failure isn't a failed write
 pub sound_without_memory : (r : Result (Unit {0}) ServeFault) (failed : Bool) → failed ≡ false → IfErr r (λ e. e ≡ fault_of.OutOfMemory) → failed ≡ is_write r
 sound_without_memory (Ok nothing) failed same is = same
 sound_without_memory (Err e) failed same is = rw is same
@@ -212,7 +212,7 @@ module _ (steps : Rows → List ℕ → Rows × ReplyData) where
       ap (λ l. held ++ l) cut ∙ sym (append_assoc held part (10 ∷ drop (end + 1) rest)) ∙ sym (append_assoc (held ++ part) (10 ∷ []) (drop (end + 1) rest)) in
       (held ++ part, drop (end + 1) rest, whole, line, fails, room)
 
-  -- the line that ends with this part found no memory, or its reply was not written
+  -- memory ran out at the line that ends with this part, or its reply was not written
   pub FaultsAt-finish : (old new : Rows) (left : ℕ) (held rest part : List ℕ) (end : ℕ) (before after : Option (List ℕ)) (fault : ServeFault)
       → part ≡ take end rest → IsFirstByte (is_byte 10) rest (Some end) → IsLine (held ++ part) → 0 < left
       → (fault ≡ fault_of.Write) ⊎ (fault ≡ fault_of.OutOfMemory)

@@ -1,4 +1,4 @@
--- What a site keeps of its rows from one request to the next: the words of private clauses.
+-- What a site keeps of its rows from one request to the next: definitions for private clauses.
 use Rattle.std.specs.Prelude.{◌≡◌, List, Option, IfSome, All}
 use Rattle.hook_machine.specs.World.{Text}
 use Rattle.post_tables.specs.Rows.{Rows}

@@ -58,7 +58,7 @@ abbrev pub template_for : FoundKind → Texts → Template
 template_for kind templates =
     unwrap_or (template_named (template_choice kind (map (λ t. t.0) templates)) templates) (record { nodes = default_index })
 
--- what a site says of its pages (get_bloginfo, get_header, get_footer, get_template_part)
+-- what the pages of a site need of its options and templates (get_bloginfo, get_header, get_footer, get_template_part)
 abbrev pub settings_for : FoundKind → (options templates : Texts) → Settings
 settings_for kind options templates =
     record {

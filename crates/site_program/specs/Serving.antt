@@ -25,9 +25,9 @@ abbrev pub GoesPast : List (List ℕ) → List (List ℕ) → Type 0
 GoesPast done [] = ⊥
 GoesPast done (line ∷ lines) = (length done ≡ max_lines) ⊎ (max_line < length line)
 
--- Everything below is told for any meaning of a line: `steps` gives the rows after it, and the reply.
+-- Everything below is stated for any meaning of a line: `steps` gives the rows after it, and the reply.
 module _ (steps : Rows → List ℕ → Rows × ReplyData) where
-  -- each line in order gives the bytes of its reply and the next rows
+  -- the bytes of the replies to the lines, one after another, and the rows after the last
   abbrev pub IsReplies : Rows → List (List ℕ) → List ℕ → Rows → Type 0
   IsReplies old [] out new = (out ≡ []) × (new ≡ old)
   IsReplies old (line ∷ lines) out new =
@@ -58,7 +58,7 @@ module _ (steps : Rows → List ℕ → Rows × ReplyData) where
   Stops old given left before after new fault.TooMuchInput =
       (lines : List (List ℕ)) × RepliesToAll old lines before after new
       × IfSome given (λ input. (further : List (List ℕ)) × (lines_of input ≡ lines ++ further) × GoesPast lines further)
-  -- the lines before one that found no memory were replied to
+  -- the lines before the one at which memory ran out were replied to
   Stops old given left before after new fault.OutOfMemory =
       (lines : List (List ℕ)) × RepliesToAll old lines before after new
       × IfSome given (λ input. (further : List (List ℕ)) × (lines_of input ≡ lines ++ further) × (0 < length further))

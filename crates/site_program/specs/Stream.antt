@@ -1,4 +1,4 @@
--- What carrying out the lines in a stretch of the input does: the words of private clauses.
+-- What carrying out the lines in a stretch of the input does: definitions for private clauses.
 use Rattle.std.specs.Prelude.{◌≡◌, ◌⊎◌, ℕ, ◌+◌, ◌<◌, List, [], ◌++◌, length, Option, All, flat_map}
 use Rattle.std.specs.Io.KnownBytes.{Appends}
 use Rattle.site_replies.specs.Reply.{ReplyData}

@@ -36,7 +36,7 @@ impl Stored {
         put(&mut self.tables, kind, status, title, content, date)
     }
 
-    /// Puts what is given in place of what the post had.
+    /// Replaces the given fields of a post, and keeps the others.
     pub(crate) fn edit(
         &mut self,
         id: u32,
@@ -76,7 +76,7 @@ impl Stored {
         set_option(&mut self.tables, name, value)
     }
 
-    /// Makes a plugin active, or inactive.
+    /// Activates or deactivates a plugin.
     pub(crate) fn set_active<S: Stated>(
         &mut self,
         plugins: &Plugins<S>,
@@ -93,7 +93,7 @@ impl Stored {
         set_active(plugins, &mut self.tables, plugin, active)
     }
 
-    /// Stores a template in place of the one before under its name, or removes that.
+    /// Stores a template under its name, in place of any before, or removes it.
     pub(crate) fn set_template(
         &mut self,
         alloc: Global,

@@ -32,7 +32,7 @@ impl<'p, S: Stated> Setup<'p, S> {
     ghost use Rattle.site_program.specs.Site.{engine_of, calls_of};
     ghost use Rattle.site_program.specs.Step.{got};
 
-    /// The page of a path, over the site as it now is.
+    /// Replies to a request with the page of a path, over the site as it now is.
     #[tactic(auto, unfolding(crate::specs::Step::got))]
     pub(crate) fn get(
         &self,
@@ -53,7 +53,7 @@ impl<'p, S: Stated> Setup<'p, S> {
         self.page_at(stored, path, cache)
     }
 
-    /// The page of a path that is not too long.
+    /// Replies to a request with the page of a path that is not too long.
     fn page_at(
         &self,
         stored: &mut Stored,
@@ -80,7 +80,7 @@ impl<'p, S: Stated> Setup<'p, S> {
         reply
     }
 
-    /// The reply to a request that found this.
+    /// Replies to a request, given what its path found.
     fn page_reply(
         &self,
         found: Found,
@@ -102,7 +102,7 @@ impl<'p, S: Stated> Setup<'p, S> {
         }
     }
 
-    /// The page of a request that found this: its status and its bytes.
+    /// Makes the page of a request, given what its path found: its status and its bytes.
     fn page(
         &self,
         found: Found,
@@ -127,7 +127,7 @@ impl<'p, S: Stated> Setup<'p, S> {
     }
 }
 
-/// The run of a request, with the plugins loaded.
+/// Makes the run of a request, with the plugins loaded.
 fn loaded_run<'p, S: Stated>(
     alloc: Global,
     plugins: &'p Plugins<S>,

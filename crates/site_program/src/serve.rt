@@ -29,8 +29,8 @@ impl<'p, S: Stated> Site<'p, S> {
     /// Carries out each line of the input, and writes its reply before the next line is carried out.
     ///
     /// A last line without a newline counts if it has a byte. At most 1,000,000 lines of at most 1,048,576 bytes are
-    /// served. At `Read`, `TooMuchInput` and `OutOfMemory` the lines before the fault are carried out and replied to;
-    /// at `Write` the line whose reply could not be written is carried out too.
+    /// served. On `Read`, `TooMuchInput` and `OutOfMemory` the lines before the fault are carried out and replied to;
+    /// on `Write` the line whose reply could not be written is carried out too.
     pub fn serve<R: Source, W: Sink>(
         &mut self,
         reader: &mut R,
@@ -49,7 +49,7 @@ impl<'p, S: Stated> Site<'p, S> {
             (rows_of self.old) (R.remaining reader.old) (R.remaining reader.new)
             (W.contents writer.old) (W.contents writer.new) (rows_of self.new)) }
 
-        // What stands after each fault.
+        // What holds after each fault.
         ensures stopped { IfErr result (Stops (steps_of S.says S.number (setup_of self.old))
             (rows_of self.old) (R.remaining reader.old) (R.remaining reader.new)
             (W.contents writer.old) (W.contents writer.new) (rows_of self.new)) }
@@ -96,8 +96,8 @@ impl<'p, S: Stated> Setup<'p, S> {
     ghost use Rattle.site_program.specs.Serving.{is_write, FailsAt};
     ghost use Rattle.site_program.specs.Stream.{Takes, Faults};
 
-    // Carries out the lines that end in the chunk, the first of which begins with what is held, and holds what follows
-    // them.
+    // Carries out the lines that end in the chunk, the first of which begins with the held bytes, and holds what
+    // follows them.
     fn take_chunk<W: Sink>(
         &self,
         stored: &mut Stored,
@@ -139,7 +139,7 @@ impl<'p, S: Stated> Setup<'p, S> {
         hold(held, rest)
     }
 
-    // Carries out the line that ends with this part, and holds nothing more.
+    // Carries out the line that ends with this part, and then holds nothing.
     fn finish_line<W: Sink>(
         &self,
         stored: &mut Stored,
@@ -196,7 +196,7 @@ impl<'p, S: Stated> Setup<'p, S> {
     }
 }
 
-// Holds these bytes after those that are held.
+// Appends these bytes to those that are held.
 fn hold(held: &mut Vec<u8>, part: &[u8]) -> Result<(), ServeFault>
     ensures ok { OnOk result (held.new.items ≡ held.old.items ++ part.now) }
     ensures err { IfErr result (λ e. e ≡ ServeFault.OutOfMemory) }

@@ -1,4 +1,4 @@
-//! What a site says of its pages.
+//! What the pages of a site need of its options and templates.
 ghost use Rattle.std.specs.Prelude.{◌≡◌, [], codes, IfOk, map, unwrap_or};
 ghost use Rattle.site_records.specs.Texts.{text_named};
 ghost use Rattle.template_parts.specs.Choice.{template_choice};
@@ -11,7 +11,7 @@ use std::alloc::{AllocError, Global};
 use template_parts::{Settings, choose};
 use template_trees::{SharedTemplate, default_index};
 
-/// What a site with these options and templates says of a page of what was found.
+/// Makes the settings of a page for what was found, from these options and templates.
 pub(crate) fn settings_for(
     alloc: Global,
     kind: FoundKind,
@@ -30,7 +30,7 @@ pub(crate) fn settings_for(
     })
 }
 
-/// The option `blogname`, empty if it isn't set.
+/// Returns the option `blogname`, empty if it isn't set.
 fn site_name(alloc: Global, options: &[(Text, Text)]) -> Result<Text, AllocError>
     ensures { IfOk result (λ name. name ≡ unwrap_or (text_named (codes "blogname") options.now) []) }
 {
@@ -40,7 +40,7 @@ fn site_name(alloc: Global, options: &[(Text, Text)]) -> Result<Text, AllocError
     }
 }
 
-/// The template for what was found, or the default if none is stored.
+/// Returns the template for what was found, or the default if none is stored.
 fn template_for(
     alloc: Global,
     kind: FoundKind,

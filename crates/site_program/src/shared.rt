@@ -31,7 +31,7 @@ impl<T: Drop> SharedList<T> {
         })
     }
 
-    /// The same list for another owner. It does not allocate; an `Err` says that it has too many owners to count.
+    /// Returns the same list for another owner. Does not allocate; an `Err` says that it has too many owners to count.
     pub(crate) fn share(&self) -> Result<Self, AllocError>
         ensures { IfOk result (λ shared. shared ≡ self.now) }
     {

@@ -21,7 +21,7 @@ use std::alloc::Global;
 pub struct Site<'p, S> {
     pub(crate) setup: Setup<'p, S>,
     pub(crate) stored: Stored,
-    /// The pieces of the texts that its pages replaced last. It shows in no contract.
+    /// The pieces of the texts whose shortcodes its pages replaced last. No contract speaks of it.
     pub(crate) cache: PieceCache,
 }
 
@@ -33,7 +33,7 @@ impl<'p, S: Stated> Site<'p, S> {
     ghost use Rattle.site_program.specs.Site.{engine_of, calls_of, setup_of, rows_of};
     ghost use Rattle.site_program.specs.Step.{IsReply, steps_of};
 
-    /// An empty site: nothing is stored and no plugin is active. Each page may make up to `calls` calls of its
+    /// Makes an empty site: nothing is stored and no plugin is active. Each page may make up to `calls` calls of its
     /// callbacks, and the pieces of up to `cache` texts are kept for later pages.
     pub fn new(
         alloc: Global,
@@ -71,9 +71,11 @@ impl<'p, S: Stated> Site<'p, S> {
         self.stored.limit_steps(limit);
     }
 
-    /// Carries out one line, given without its newline. A line that is no command is refused as such, and a refused
-    /// command leaves the rows as they were. On allocation failure any command may be refused, and by the database any
-    /// that would change rows; if the steps of a statement are limited, any that needs one.
+    /// Carries out one line, given without its newline. A line that isn't a command is refused as such, and a refused
+    /// command leaves the rows as they were.
+    ///
+    /// Any command may be refused on allocation failure. The database may refuse any that would change rows and, if the
+    /// steps of a statement are limited, any that needs a statement.
     pub fn command(&mut self, line: &[u8]) -> SiteReply
         ensures replies { IsReply (steps_of S.says S.number (setup_of self.old))
             (rows_of self.old) line.now (reply_data result) (rows_of self.new) }

@@ -16,7 +16,7 @@ use std::marker::Model;
 
 /// The tables of a site, and the options, templates and active names that were read from them since each last changed.
 ///
-/// Contracts see the rows of the tables. What is kept shows in none: it is always what the tables hold.
+/// Contracts see the rows of the tables, and not what is kept: that is always what the tables hold.
 #[derive(Drop)]
 pub struct Stored {
     pub(crate) tables: Tables,
@@ -39,7 +39,7 @@ impl Model for Stored {
 }
 
 impl Stored {
-    /// Of these tables nothing is kept yet.
+    /// Takes over the tables. Nothing is kept of them yet.
     pub(crate) fn new(tables: Tables) -> Self
         ensures { result ≡ tables }
     {
@@ -58,7 +58,7 @@ impl Stored {
         self.tables.limit_steps(limit);
     }
 
-    /// The options, read from the tables if they are not kept.
+    /// Returns the options, read from the tables if they are not kept.
     pub(crate) fn options(&mut self) -> Result<SharedList<(Text, Text)>, StoreFault>
         ensures ok { IfOk result (λ options. options ≡ options_of self.old) }
         ensures same { self.new ≡ self.old }
@@ -72,7 +72,7 @@ impl Stored {
         Ok(options)
     }
 
-    /// The names of the active plugins, read from the tables if they are not kept.
+    /// Returns the names of the active plugins, read from the tables if they are not kept.
     pub(crate) fn active(&mut self) -> Result<SharedList<Text>, StoreFault>
         ensures ok { IfOk result (λ names. names ≡ active_of self.old) }
         ensures same { self.new ≡ self.old }
@@ -86,7 +86,7 @@ impl Stored {
         Ok(active)
     }
 
-    /// The templates, read from the tables if they are not kept. They are the caller's now, to give back by
+    /// Takes the templates, read from the tables if they are not kept. The caller owns them until it hands them to
     /// `keep_templates`.
     pub(crate) fn take_templates(&mut self, alloc: Global) -> Result<Templates, StoreFault>
         ensures ok { IfOk result (λ templates. templates ≡ templates_of self.old) }
@@ -107,7 +107,7 @@ impl Stored {
         self.templates = Some(templates);
     }
 
-    /// What a path finds in a site with these options.
+    /// Finds what a path asks for, in a site with these options.
     pub(crate) fn found(
         &mut self,
         alloc: Global,
@@ -123,7 +123,7 @@ impl Stored {
     }
 }
 
-/// What a path finds in a site with these options.
+/// Finds what a path asks for, in a site with these options.
 fn found_by(
     alloc: Global,
     tables: &mut Tables,

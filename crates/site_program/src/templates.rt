@@ -32,7 +32,7 @@ impl Model for Templates {
 }
 
 impl Templates {
-    /// The templates of these names and texts, none of which is read yet.
+    /// Makes the templates of these names and texts, none of which is read yet.
     pub(crate) fn new(alloc: Global, texts: Listed<(Text, Text)>) -> Result<Self, AllocError>
         ensures { IfOk result (λ templates. templates ≡ texts) }
     {
@@ -44,14 +44,14 @@ impl Templates {
         })
     }
 
-    /// The names under which a template is stored.
+    /// Returns the names under which a template is stored.
     pub(crate) fn names(&self) -> &[Text]
         ensures { result.now ≡ map (λ text. text.0) self.now }
     {
         self.names.as_slice()
     }
 
-    /// The template of that name, if one is stored.
+    /// Returns the template of that name, if one is stored.
     pub(crate) fn named(
         &mut self,
         alloc: Global,
@@ -70,7 +70,7 @@ impl Templates {
     }
 }
 
-/// The names of texts.
+/// Copies the names of texts.
 fn names_of(alloc: Global, texts: &[(Text, Text)]) -> Result<Listed<Text>, AllocError>
     ensures { IfOk result (λ names. names ≡ map (λ text. text.0) texts.now) }
 {
@@ -81,7 +81,7 @@ fn names_of(alloc: Global, texts: &[(Text, Text)]) -> Result<Listed<Text>, Alloc
     Ok(names)
 }
 
-/// What is kept for a name, if anything is.
+/// Returns what is kept for a name, if anything is.
 fn tree_named<'t>(
     trees: &'t [(Text, Option<SharedTemplate>)],
     name: &str,
@@ -93,7 +93,7 @@ fn tree_named<'t>(
     Some(tree)
 }
 
-/// The same template for another owner.
+/// Returns the same template for another owner.
 fn shared(tree: &Option<SharedTemplate>) -> Result<Option<SharedTemplate>, AllocError>
     ensures { IfOk result (λ shared. shared ≡ tree.now) }
 {
@@ -103,7 +103,7 @@ fn shared(tree: &Option<SharedTemplate>) -> Result<Option<SharedTemplate>, Alloc
     }
 }
 
-/// The template of that name among these texts, if one is stored.
+/// Reads the template of that name among these texts, if one is stored.
 fn template_named(
     alloc: Global,
     name: &str,

@@ -10,7 +10,7 @@ use std::alloc::AllocError;
 use std::marker::Model;
 use std::str;
 
-/// Whether the calendar has this day, counted from year 1 on.
+/// Returns whether the calendar has this day, counted from year 1 on.
 fn is_real(year: u64, month: u64, day: u64) -> bool
     requires year { year < 10 ^ 4 }
     requires month { month < 10 ^ 2 }
@@ -20,14 +20,14 @@ fn is_real(year: u64, month: u64, day: u64) -> bool
     year > 0 && Date::new(year as i16, month as i8, day as i8).is_ok()
 }
 
-/// Whether a clock shows this time. Leap seconds are no times here.
+/// Returns whether a clock shows this time. A leap second is not a time here.
 fn is_clock(hour: u64, minute: u64, second: u64) -> bool
     ensures { result ≡ is_clock hour minute second }
 {
     hour < 24 && minute < 60 && second < 60
 }
 
-/// Whether the marks of a date stand in their places.
+/// Returns whether the marks of a date are in their places.
 fn has_marks(t: &[u8]) -> bool
     requires { length t.now ≡ 19 }
     ensures { result ≡ has_marks t.now }
@@ -35,7 +35,7 @@ fn has_marks(t: &[u8]) -> bool
     t[4] == b'-' && t[7] == b'-' && t[10] == b' ' && t[13] == b':' && t[16] == b':'
 }
 
-/// Whether the numbers between the marks are those of a day and a time.
+/// Returns whether the numbers between the marks are those of a day and a time.
 fn has_moment(t: &[u8]) -> bool
     requires { length t.now ≡ 19 }
     ensures { result ≡ is_moment
@@ -57,7 +57,7 @@ fn has_moment(t: &[u8]) -> bool
     }
 }
 
-/// Whether the text is the date of a post.
+/// Returns whether the text is the date of a post.
 #[tactic(auto, unfolding(crate::specs::Dates::is_post_date))]
 fn is_post_date(text: &str) -> bool
     ensures value { result ≡ is_post_date text.now }
@@ -87,8 +87,8 @@ impl Model for PostDate {
 }
 
 impl PostDate {
-    /// Reads a text as a date, and returns `None` if it isn't one: another length, another byte in place of a digit
-    /// or a mark, or a day or a time that there is not. It does not allocate.
+    /// Reads a text as a date, and returns `None` if it isn't one: another length, another byte in place of a digit or
+    /// a mark, or a day or a time that doesn't exist. Does not allocate.
     pub fn read(text: &str) -> Option<PostDate>
         ensures some { is_some result ≡ is_post_date text.now }
         ensures text { IfSome result (λ d. d ≡ text.now) }
@@ -101,7 +101,7 @@ impl PostDate {
         Some(PostDate { bytes })
     }
 
-    /// The text that was read, which is a date.
+    /// Returns the text that was read, which is a date.
     pub fn as_str(&self) -> &str
         ensures text { result.now ≡ self.now }
         ensures date { is_post_date result.now ≡ true }
@@ -113,7 +113,7 @@ impl PostDate {
     }
 }
 
-/// A copy does not allocate and is never refused.
+/// Copying does not allocate and never fails.
 impl Clone for PostDate {
     ghost use Rattle.std.specs.Prelude.{⊤};
 

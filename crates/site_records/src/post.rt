@@ -5,7 +5,7 @@ use hook_changes::{Listed, Text};
 /// The largest ID that a post can have: clients with signed 32-bit numbers can name no larger one.
 pub const MAX_ID: u32 = 2_147_483_647;
 
-/// The kind of an entry (Theme Handbook, Post Types): posts are listed by date, a page stands on its own.
+/// The kind of an entry (Theme Handbook, Post Types): posts are listed by date, a page is shown by itself.
 #[derive(Clone, Copy, PartialEq, Eq)]
 pub enum PostKind {
     Post,
@@ -38,9 +38,9 @@ pub struct Post {
 #[derive(Drop)]
 pub struct SiteRecords {
     pub posts: Listed<Post>,
-    /// Names and values. If a name stands twice, the later value counts.
+    /// Names and values. If a name is repeated, the later value counts.
     pub options: Listed<(Text, Text)>,
-    /// Names and compact JSON texts. If a name stands twice, the later text counts.
+    /// Names and compact JSON texts. If a name is repeated, the later text counts.
     pub templates: Listed<(Text, Text)>,
     /// The names of the plugins that become active.
     pub active: Listed<Text>,

@@ -4,7 +4,7 @@ ghost use Rattle.site_records.specs.Texts.{text_named};
 
 use hook_changes::Text;
 
-/// The first text of that name, as of an option or a template (get_option).
+/// Returns the first text of that name, as of an option or a template (get_option).
 pub fn text_named<'t>(texts: &'t [(Text, Text)], name: &str) -> Option<&'t str>
     ensures { option_map (λ text. text.now) result ≡ text_named name.now texts.now }
 {

@@ -2,7 +2,7 @@
 ghost use Rattle.std.specs.Prelude.{◌≡◌, codes, true, false};
 ghost use Rattle.site_records.specs.Dates.{is_post_date};
 
-/// Which texts are dates of posts. The call itself does nothing: it carries these facts.
+/// States which texts are dates of posts. The call itself does nothing: it carries these facts.
 #[tactic(auto, unfolding(crate::specs::Dates::is_post_date))]
 pub fn worked_dates()
     // The first and the last one.

@@ -1,4 +1,4 @@
--- What a site replies, and the bytes that stand for it.
+-- What a site replies, and the bytes that are written for it.
 use Rattle.std.specs.Prelude.{ℕ, List, [], ◌∷◌, ◌++◌, length, codes, decimal}
 use Rattle.site_replies.specs.declared.reply.Refusal.{Refusal}
 use Rattle.site_replies.specs.declared.reply.Refusal.TheVariants.{BadCommand, BadImport, NoSuchPost, DuplicateId, BadDate, UnknownPlugin, BadTemplate, TooLarge, TooManyCalls, TooDeep, OutOfMemory, Store, IdsUsedUp, NoSuchPage, TooManyPages}

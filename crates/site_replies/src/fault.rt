@@ -1,7 +1,7 @@
 //! What stops serving.
 use thiserror::Error;
 
-/// Why `serve` stopped before the end of the input. What stands after each is said at `serve` of `site_program`.
+/// Why `serve` stopped before the end of the input. `serve` of `site_program` says what holds after each.
 #[derive(Clone, Copy, Debug, PartialEq, Eq, Drop, Error)]
 pub enum ServeFault {
     /// The source failed.
@@ -13,7 +13,7 @@ pub enum ServeFault {
     /// There are more than 1,000,000 lines, or one of more than 1,048,576 bytes.
     #[error("too much input")]
     TooMuchInput,
-    /// There was no memory for a line that came in several parts.
+    /// Memory ran out for a line that came in several parts.
     #[error("out of memory")]
     OutOfMemory,
 }

@@ -13,17 +13,17 @@ use itoa::Buffer;
 pub enum Refusal {
     /// The line isn't a JSON object that names a command with its keys, each of its kind and in its range.
     BadCommand,
-    /// An import isn't of the form that a site's data has.
+    /// An import doesn't have the form of a site's data.
     BadImport,
-    /// No post or page has that number.
+    /// No post or page has that ID.
     NoSuchPost,
-    /// An import has a number twice, or one that is taken.
+    /// An import has an ID twice, or one that a stored post has.
     DuplicateId,
     /// A date that isn't in the calendar, or isn't of the form `YYYY-MM-DD HH:MM:SS`.
     BadDate,
     /// The bundle has no plugin of that name.
     UnknownPlugin,
-    /// A template that isn't one, or under a name that no template has.
+    /// A body that isn't a template, or a name that no template has.
     BadTemplate,
     /// A text, a path, a template or an import that is longer than the limits allow.
     TooLarge,
@@ -31,11 +31,11 @@ pub enum Refusal {
     TooManyCalls,
     /// The page's callbacks asked within one another more than 32 times.
     TooDeep,
-    /// There was no memory to carry the command out.
+    /// Memory ran out while the command was carried out.
     OutOfMemory,
     /// The database refused.
     Store,
-    /// The largest number that a post can have was given.
+    /// The largest ID that a post can have was given.
     IdsUsedUp,
     /// No open page has that number.
     NoSuchPage,
@@ -46,7 +46,7 @@ pub enum Refusal {
 impl Refusal {
     ghost use Rattle.site_replies.specs.Reply.{number_of, name_of};
 
-    /// The number that replies give, from 1 to 15.
+    /// Returns the number that stands for the refusal in a reply, from 1 to 15.
     pub fn number(self) -> u8
         ensures { result ≡ number_of self }
     {
@@ -69,7 +69,7 @@ impl Refusal {
         }
     }
 
-    /// The name that replies give, as it is spelled here.
+    /// Returns the name that a reply shows, which is the variant's.
     pub fn name(self) -> &'static str
         ensures { result.now ≡ name_of self }
     {
@@ -98,7 +98,7 @@ impl Refusal {
 pub enum SiteReply {
     /// The command was carried out.
     Ok,
-    /// The command was carried out, and this is the number that it gave.
+    /// The command was carried out, and this is the new post's ID.
     OkId(u32),
     /// The command was refused.
     Refused(Refusal),
@@ -111,7 +111,7 @@ impl SiteReply {
     ghost use Rattle.site_replies.specs.Reply.{reply_data};
 
     /// Writes the reply's bytes: `ok`, `ok N` or `refused N Name` and a newline, or `page STATUS LENGTH`, a newline,
-    /// the page and a newline. It does not allocate, and writes a short reply in one piece, a long page in three. At an
+    /// the page and a newline. Does not allocate, and writes a short reply in one piece, a long page in three. On
     /// `Err`, which is always [`ServeFault::Write`], some of the bytes were written, from their front.
     pub fn write_to<W: Sink>(&self, writer: &mut W) -> Result<(), ServeFault>
         requires { W.has_failed writer.old ≡ false }

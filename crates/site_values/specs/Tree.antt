@@ -1,4 +1,4 @@
--- What stands at the keys of a JSON tree.
+-- The values at the keys of a JSON tree.
 use Rattle.std.specs.Prelude.{ℕ, List, Option, None, Some, option_and_then, option_map, nat_le, ◌&&◌, if◌then◌else◌}
 use Rattle.serde_json.specs.Data.{Data}
 use Rattle.serde_json.specs.Find.{get, as_str, as_number, as_u64}

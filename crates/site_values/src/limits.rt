@@ -1,10 +1,10 @@
 //! How long the texts of a site may be, in bytes.
 
-/// The most bytes of a title.
+/// The maximum length of a title.
 pub const MAX_TITLE: usize = 65_536;
 
-/// The most bytes of a content.
+/// The maximum length of a content.
 pub const MAX_CONTENT: usize = 524_288;
 
-/// The most bytes of an option's value.
+/// The maximum length of an option's value.
 pub const MAX_VALUE: usize = 65_536;

@@ -13,14 +13,14 @@ ghost use Rattle.site_values.specs.Named.{
 use serde_json::Value;
 use site_records::{MAX_ID, PostKind, PostStatus};
 
-/// The text at a key, if there is one.
+/// Returns the text at a key, if there is one.
 pub fn text_at<'v>(value: &'v Value, key: &str) -> Option<&'v str>
     ensures { option_map (λ s. s.now) result ≡ text_at key.now (view value.now) }
 {
     value.get(key).and_then(Value::as_str)
 }
 
-/// The text at a key, or a default if the key is missing.
+/// Returns the text at a key, or a default if the key is missing; `None` if the value isn't a text.
 pub fn text_or<'v>(value: &'v Value, key: &str, default: &'static str) -> Option<&'v str>
     ensures { option_map (λ s. s.now) result ≡ text_or key.now default.now (view value.now) }
 {
@@ -30,7 +30,7 @@ pub fn text_or<'v>(value: &'v Value, key: &str, default: &'static str) -> Option
     }
 }
 
-/// The text at a key that may be missing. A key with another value than a text is `None`.
+/// Returns the text at a key that may be missing: `Some(None)` if it is missing, and `None` if the value isn't a text.
 pub fn text_given<'v>(value: &'v Value, key: &str) -> Option<Option<&'v str>>
     ensures { option_map (λ given. option_map (λ s. s.now) given) result
         ≡ text_given key.now (view value.now) }
@@ -41,7 +41,7 @@ pub fn text_given<'v>(value: &'v Value, key: &str) -> Option<Option<&'v str>>
     }
 }
 
-/// The kind of that name (Theme Handbook, Post Types).
+/// Returns the kind of that name, if it is one (Theme Handbook, Post Types).
 pub fn kind_named(name: &str) -> Option<PostKind>
     ensures { result ≡ kind_named name.now }
 {
@@ -52,7 +52,7 @@ pub fn kind_named(name: &str) -> Option<PostKind>
     }
 }
 
-/// The status of that name (WordPress documentation, Post Status).
+/// Returns the status of that name, if it is one (WordPress documentation, Post Status).
 pub fn status_named(name: &str) -> Option<PostStatus>
     ensures { result ≡ status_named name.now }
 {
@@ -63,7 +63,8 @@ pub fn status_named(name: &str) -> Option<PostStatus>
     }
 }
 
-/// The status at the key `status`, which may be missing. If it stands and names none, the result is `None`.
+/// Returns the status at the key `status`: `Some(None)` if the key is missing, and `None` if its value doesn't name a
+/// status.
 pub fn status_given(value: &Value) -> Option<Option<PostStatus>>
     ensures { result ≡ status_given (view value.now) }
 {
@@ -73,7 +74,7 @@ pub fn status_given(value: &Value) -> Option<Option<PostStatus>>
     }
 }
 
-/// The ID at a key: a whole number from 1 to [`MAX_ID`], without fraction and exponent.
+/// Returns the ID at a key: a whole number from 1 to [`MAX_ID`], without fraction and exponent.
 pub fn id_at(value: &Value, key: &str) -> Option<u32>
     ensures { result ≡ id_at key.now (view value.now) }
 {
@@ -85,7 +86,7 @@ pub fn id_at(value: &Value, key: &str) -> Option<u32>
     }
 }
 
-/// The name of an option, if its length is one that names have, 1 to 64 bytes.
+/// Returns the name of an option, if it has 1 to 64 bytes.
 pub fn option_named(name: &str) -> Option<&str>
     ensures { option_map (λ s. s.now) result ≡ option_named name.entry.now }
 {

@@ -37,7 +37,7 @@ one_more is values i value before one whole h at read so_far =
     let e : is (view (get_or values i value)) ≡ Some one = cc in
     so_far ∙ rw (all_of-drop is values i value h, e) (in_front-more before one (all_of is (items_view (drop (i + 1) values))))
 
--- one is none of them, and so the whole is none
+-- one value isn't of the kind, and so the whole list isn't read
 pub none_there : {A : Type 0} → (is : Data → Option A) (values : List Value) (i : ℕ) (value : Value) (before : List A) (whole : Option (List A))
     → i < length values → value ≡ get_or values i value
     → None ≡ is (view value) → whole ≡ in_front before (all_of is (items_view (drop i values))) → None ≡ whole

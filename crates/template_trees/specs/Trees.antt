@@ -103,7 +103,7 @@ hook_named name = if is_hook_name name then Some name else None
 abbrev pub action_item : Data → Option Item
 action_item tree = option_map item.Action (option_and_then hook_named (text_alone (codes "action") tree))
 
--- what may stand anywhere in a template
+-- what may appear anywhere in a template
 unfoldable pub item_of : Data → Option Item
 item_of tree = or_else (text_item tree) (or_else (tag_item tree) (action_item tree))
 
@@ -111,7 +111,7 @@ item_of tree = or_else (text_item tree) (or_else (tag_item tree) (action_item tr
 abbrev pub part_element : Data → Option Element
 part_element tree = option_map element.Part (option_and_then part_named (text_alone (codes "part") tree))
 
--- what may stand in a loop
+-- what may appear in a loop
 unfoldable pub element_of : Data → Option Element
 element_of tree = or_else (option_map element.Item (item_of tree)) (part_element tree)
 
@@ -196,7 +196,7 @@ template_of name tree = of_size (tree_of name tree)
 unfoldable pub stored_template : List ℕ → List ℕ → Option Template
 stored_template name text = option_and_then (λ tree. result_ok (template_of name tree)) (read text)
 
--- what stands in place of a template `index` if none is stored
+-- the template `index` of a site that has stored none
 abbrev pub default_index : List Node
 default_index =
     node.Element (element.Item (item.Tag tag.WpHead))

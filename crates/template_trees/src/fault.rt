@@ -5,13 +5,13 @@ use thiserror::Error;
 /// Why a body is refused as a template.
 #[derive(Clone, Copy, Debug, PartialEq, Eq, Error)]
 pub enum TemplateFault {
-    /// The name is no template's, or somewhere in the body stands what no template has there.
+    /// The name isn't that of a template, or the body has something that a template doesn't have in that place.
     #[error("not a template")]
     BadTemplate,
     /// The template has more than 4,096 nodes or more than 262,144 bytes of texts.
     #[error("the template is too large")]
     TooLarge,
-    /// There was no memory for the template.
+    /// Memory for the template ran out.
     #[error("out of memory")]
     OutOfMemory,
 }

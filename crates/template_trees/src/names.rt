@@ -1,11 +1,11 @@
-//! Names of templates, and the names that stand in them.
+//! Names of templates, and the names that appear in them.
 ghost use Rattle.std.specs.Prelude.{◌≡◌};
 ghost use Rattle.hook_changes.specs.Names as spec;
 ghost use Rattle.template_trees.specs.Trees.{tag_named, part_named, is_part_name, is_template_name};
 
 use crate::tree::{Part, PostTag, Tag};
 
-/// Whether a site can store a template under that name: those of whole pages (Theme Handbook, Template
+/// Returns whether a site can store a template under that name: those of whole pages (Theme Handbook, Template
 /// Hierarchy) and those of the parts.
 #[tactic(auto, unfolding(crate::specs::Trees::is_template_name))]
 pub fn is_template_name(name: &str) -> bool
@@ -62,7 +62,7 @@ pub(crate) fn tag_named(name: &str) -> Option<Tag>
     }
 }
 
-/// Whether a text is the name of a hook.
+/// Returns whether a text is the name of a hook.
 pub(crate) fn is_hook_name(text: &str) -> bool
     ensures { result ≡ spec.is_hook_name text.now }
 {

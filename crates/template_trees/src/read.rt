@@ -25,8 +25,8 @@ use hook_changes::{Listed, Text};
 use serde_json::Value;
 use std::alloc::{AllocError, Global};
 
-/// The template of that name that a JSON tree is. A breach anywhere in the tree is refused as `BadTemplate`, and
-/// only a tree without one as `TooLarge`. Bytes of texts are counted once JSON's escapes are read.
+/// Reads a JSON tree as the template of that name. A fault anywhere in the tree is refused as `BadTemplate`; only a
+/// tree without one is refused as `TooLarge`. The bytes of texts are counted after JSON's escapes are read.
 #[tactic(auto, unfolding(crate::specs::Trees::template_of))]
 pub fn read_template(alloc: Global, name: &str, value: &Value) -> Result<Template, TemplateFault>
     ensures ok { IfOk result (λ template. template_of name.now (view value.now) ≡ Ok template) }
@@ -85,7 +85,7 @@ fn read_elements(alloc: Global, list: &[Value]) -> Result<Option<Listed<Element>
     Ok(Some(elements))
 }
 
-/// Reads what a template holds: in that of a part only items.
+/// Reads what a template holds: in a part only items.
 #[tactic(auto, unfolding(crate::specs::Trees::node_in))]
 fn read_node_in(alloc: Global, in_part: bool, value: &Value) -> Result<Option<Node>, AllocError>
     ensures { IfOk result (λ node. node ≡ node_in in_part (view value.now)) }
@@ -170,7 +170,7 @@ fn read_item(alloc: Global, value: &Value) -> Result<Option<Item>, AllocError>
     }
 }
 
-/// The text at the key that an object has alone.
+/// Returns the text at a key, if it is the only key of the object.
 #[tactic(auto, unfolding(crate::specs::Trees::text_alone))]
 fn text_alone<'v>(value: &'v Value, key: &str) -> Option<&'v str>
     ensures { option_map (λ s. s.now) result ≡ text_alone key.now (view value.now) }
@@ -191,7 +191,7 @@ fn alone_at<'v>(value: &'v Value, key: &str) -> Option<&'v Value>
     }
 }
 
-/// How many members an object has; 0 for what is no object.
+/// Returns how many members an object has; 0 if the value isn't an object.
 fn member_count(value: &Value) -> usize
     ensures { result ≡ member_count (view value.now) }
 {

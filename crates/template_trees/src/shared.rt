@@ -30,7 +30,8 @@ impl SharedTemplate {
         })
     }
 
-    /// The same template for another owner. It does not allocate; an `Err` says that it has too many owners to count.
+    /// Returns the same template for another owner. Does not allocate; an `Err` says that it has too many owners to
+    /// count.
     pub fn share(&self) -> Result<Self, AllocError>
         ensures { IfOk result (λ shared. shared ≡ self.now) }
     {

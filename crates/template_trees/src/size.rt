@@ -17,7 +17,8 @@ pub(crate) fn fits(nodes: &[Node]) -> bool
     count_of(nodes) <= MAX_NODES && text_bytes(nodes) <= MAX_TEXT_BYTES
 }
 
-// A count that doesn't fit counts as the largest that does: both are far over what a template may have.
+// Counts the nodes. A count that doesn't fit counts as the largest that does: both are far over what a template may
+// have.
 #[tactic(auto, unfolding(crate::specs::Trees::count_of))]
 fn count_of(nodes: &[Node]) -> usize
     ensures { result ≡ min (count_of nodes.now) (2 ^ 64 - 1) }

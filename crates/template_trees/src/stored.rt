@@ -13,7 +13,7 @@ use hook_changes::Text;
 use serde_json::Value;
 use std::alloc::{AllocError, Global};
 
-/// The compact JSON text of a body (RFC 8259), which is what a site stores of a template.
+/// Writes a body as compact JSON text (RFC 8259), which is what a site stores of a template.
 pub fn template_text(alloc: Global, value: &Value) -> Result<Text, AllocError>
     ensures compact { (name : List ℕ) → (template : Template)
         → template_of name (view value.now) ≡ Ok template
@@ -25,8 +25,8 @@ pub fn template_text(alloc: Global, value: &Value) -> Result<Text, AllocError>
     Ok(Text::new(value.to_string(alloc)?))
 }
 
-/// The template of that name that a stored text is, or `None` if the text isn't one. The one refusal is for
-/// want of memory.
+/// Reads a stored text as the template of that name, or returns `None` if it isn't one. It fails only if memory runs
+/// out.
 #[tactic(auto, unfolding(crate::specs::Trees::stored_template))]
 pub fn read_stored(alloc: Global, name: &str, text: &str) -> Result<Option<Template>, AllocError>
     ensures { IfOk result (λ template. template ≡ stored_template name.now text.now) }

@@ -1,10 +1,10 @@
 //! The tree of a template.
 use hook_changes::{Listed, Text};
 
-/// A template tag: a word for what a page prints in its place (Theme Handbook, Template Tags).
+/// A template tag: a page prints something in its place (Theme Handbook, Template Tags).
 #[derive(Clone, Copy, PartialEq, Eq)]
 pub enum Tag {
-    /// What it prints is that of the loop's post; outside a loop it prints nothing.
+    /// A tag that prints something of the loop's post; outside a loop it prints nothing.
     OfPost(PostTag),
     /// The option `blogname`, escaped.
     SiteName,
@@ -14,7 +14,7 @@ pub enum Tag {
     WpFooter,
 }
 
-/// A template tag that speaks of a post.
+/// A template tag about a post.
 #[derive(Clone, Copy, PartialEq, Eq)]
 pub enum PostTag {
     /// The title, after the filter `the_title`.
@@ -23,7 +23,7 @@ pub enum PostTag {
     TitleEscaped,
     /// The content, after the filter `the_content`.
     TheContent,
-    /// The post's number.
+    /// The post's ID.
     TheId,
     /// The post's path.
     ThePermalink,
@@ -41,7 +41,7 @@ pub enum Part {
     Content,
 }
 
-/// What may stand anywhere in a template.
+/// What may appear anywhere in a template.
 #[derive(Drop)]
 pub enum Item {
     /// A text, printed as it is.
@@ -51,7 +51,7 @@ pub enum Item {
     Action(Text),
 }
 
-/// What may stand in a loop: no other loop.
+/// What may appear in a loop: anything but another loop.
 #[derive(Drop)]
 pub enum Element {
     Item(Item),
@@ -62,14 +62,14 @@ pub enum Element {
 #[derive(Drop)]
 pub enum Node {
     Element(Element),
-    /// The body once for each post that was found, in order, and the other body once if none was.
+    /// The body once for each post that was found, in order, or the other body once if none was.
     Loop {
         body: Listed<Element>,
         otherwise: Listed<Element>,
     },
 }
 
-/// A template. That of a part holds items alone.
+/// A template. That of a part holds only items.
 #[derive(Drop)]
 pub struct Template {
     pub nodes: Listed<Node>,

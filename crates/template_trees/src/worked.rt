@@ -9,7 +9,7 @@ ghost use Rattle.template_trees.specs.declared.tree.Tag.{Tag};
 ghost use Rattle.template_trees.specs.Trees.{default_index, hook_named, fits};
 ghost use Rattle.template_trees.specs.Worked.{template_in, taken, refused, plain};
 
-/// Which templates some texts are. The call itself does nothing: it carries these facts.
+/// States which templates some texts are. The call itself does nothing: it carries these facts.
 pub fn worked_templates()
     ensures default { template_in (codes "index")
         (codes "[{\"tag\":\"wp_head\"},{\"loop\":[\"<h2>\",{\"tag\":\"the_title\"},\"</h2>\","
@@ -55,7 +55,7 @@ pub fn worked_templates()
     ensures longest_action { hook_named (replicate 64 97) ≡ Some (replicate 64 97) }
     ensures longer_action { hook_named (replicate 65 97) ≡ None }
 
-    // At most 4,096 nodes, those in loops among them; the name of an action isn't a text.
+    // At most 4,096 nodes, including those in loops; the name of an action isn't a text.
     ensures most_nodes { fits (replicate 4096 (plain (Item.Tag Tag.WpHead))) ≡ true }
     ensures too_many_nodes { fits (replicate 4097 (plain (Item.Tag Tag.WpHead))) ≡ false }
     ensures most_in_a_loop { fits (Node.Loop (replicate 4000 (Element.Part Part.Header))

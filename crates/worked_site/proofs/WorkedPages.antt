@@ -31,7 +31,7 @@ unfolding loaded deeper group_pass priorities_pass pass filter_pass action_pass 
     shown_pass says template.action_pass post_tag_pass tag_pass item_pass template.page_pass page_pass bytes_of digits
 computes = 0
 
--- the posts that the front of the worked site shows, and the reply that they give
+-- the posts that the front of the worked site shows, and the reply with them
 abbrev front : ℕ → ReplyData
 front calls = page_of bundled calls (showing Front one_post) [] [] (codes "marks" ∷ [])
 

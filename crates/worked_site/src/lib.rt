@@ -13,7 +13,8 @@ ghost use Rattle.site_program.specs.Step.{step};
 
 pub use serving::serve_bytes;
 
-/// What the bundled plugin `marks` makes of a site with one post. The call itself does nothing: it carries these facts.
+/// States what the bundled plugin `marks` makes of a site with one post. The call itself does nothing: it carries these
+/// facts.
 pub fn worked_pages()
     ensures line { (rows : _) → IsMarked rows
         → step bundled 10000 rows (codes "{\"cmd\":\"get\",\"path\":\"/\"}")

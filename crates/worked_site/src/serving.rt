@@ -9,7 +9,7 @@ use callback_store::Stated;
 use site_program::{EndFault, Reading, ServeFault, Sink, Site};
 use std::alloc::Global;
 
-/// A sink that keeps what it takes. A write that finds no memory fails.
+/// A sink that keeps what it takes. A write fails if memory runs out.
 #[derive(Drop)]
 struct Kept {
     bytes: Vec<u8>,
@@ -32,7 +32,7 @@ impl Sink for Kept {
     }
 }
 
-/// Serves an input that is in memory, and gives all that was written.
+/// Serves an input that is in memory, and returns all that was written.
 ///
 /// Both ends tell their bytes, so these are the replies to all lines of the input, or serving stopped by a fault that
 /// is named.

@@ -2,6 +2,6 @@ use Rattle.std.proofs.Common.{◌≡◌, ◌++◌, codes, take, flat_map}
 use Rattle.bundled_plugins.specs.Calls.{shown}
 use Rattle.bundled_plugins.proofs.calls.show_more.Given as goal
 
--- the answers so far stand after the text
+-- the text is followed by the answers so far
 abbrev pub invariant-loop-answer : goal.invariant-loop-answer
 invariant-loop-answer l = l.text ≡ l.initial.text ++ flat_map (λ next. codes "," ++ shown next) (take l.answer-index l.answers)

@@ -3,7 +3,8 @@ use Rattle.callback_store.specs.Faults.{has_repeat}
 use Rattle.callback_store.proofs.Repeats.{repeats}
 use Rattle.callback_store.proofs.plugins.has_repeat.Given as goal
 
--- those passed were seen, and a number stands again if one of the rest is among them, or stands again in the rest
+-- the numbers passed were seen, and a number is repeated exactly if one of the rest is among them, or is repeated in
+-- the rest
 abbrev pub invariant-loop-number : goal.invariant-loop-number
 invariant-loop-number l = record {
   seen : l.seen.keys ≡ take l.number-index l.numbers;

@@ -6,7 +6,7 @@ use Rattle.hook_machine.specs.Jobs.{left_from}
 use Rattle.hook_machine.specs.Moves.{turn_gives, IsOver}
 use Rattle.hook_machine.proofs.resuming.all_turns.Given as goal
 
--- what the last turn gave ends as all does
+-- what the last turn left ends as all of it does
 abbrev pub invariant-turns : goal.invariant-turns
 invariant-turns g l =
     let engine = engine_over g.S.Stated.says g.S.Stated.number l.plugins in
@@ -15,7 +15,7 @@ invariant-turns g l =
       over : IsOver (Ok l.turned) l.stack;
     }
 
--- the turns left
+-- the number of turns left
 abbrev pub decreases-turns : goal.decreases-turns
 decreases-turns g l =
     let engine = engine_over g.S.Stated.says g.S.Stated.number l.plugins in

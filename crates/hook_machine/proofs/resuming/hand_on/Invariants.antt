@@ -3,7 +3,7 @@ use Rattle.hook_machine.specs.Outcomes.{engine_over}
 use Rattle.hook_machine.specs.Moves.{still_left, way_of}
 use Rattle.hook_machine.proofs.resuming.hand_on.Given as goal
 
--- what is still left is what was
+-- what is still left stays the same
 abbrev pub invariant-frames : goal.invariant-frames
 invariant-frames g l =
     let engine = engine_over g.S.Stated.says g.S.Stated.number l.plugins in

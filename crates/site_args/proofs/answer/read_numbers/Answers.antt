@@ -21,7 +21,7 @@ returns-in_err-matches-clause-kinds c =
     rw (failed.1, failed.2) (subst (λ (a : App). HasKind (fault_of a (map string_bytes c.args.words.now)) c.in_err-matches.field-0.0) c.in_ok-command.ensures
     kind)
 
--- the rows of the matches are those of the words
+-- the rows of the matches are those of the arguments
 rows_are : (c : goal.Joined-matches) → rows_of (found_of c.in_ok-matches.matches) ≡ matches_of site_app (map string_bytes c.args.words.now)
 rows_are c = (c.in_ok-matches.ensures.matches (ap is_simple c.in_ok-command.ensures ∙ simple)).0
     ∙ ap (λ a. matches_of a (map string_bytes c.args.words.now)) c.in_ok-command.ensures

@@ -14,7 +14,7 @@ tree_found : (line : List ℕ) (d : Data) → IsUtf8 line → read line ≡ Some
 unfolding tree_of
 tree_found line d utf8 e = rw (is_utf8-from_IsUtf8 line utf8) (sym e)
 
--- a text that is not UTF-8, or reads as none
+-- a text that is not UTF-8, or doesn't read as a tree
 no_tree : (line : List ℕ) → (IsUtf8 line → read line ≡ None) → None ≡ tree_of line
 unfolding tree_of
 no_tree line h = elim (cases_Bool (is_utf8 line)) [ inl e ↦ rw e (sym (h (IsUtf8-from_is_utf8 line e))) | inr e ↦ rw e refl ]

@@ -6,7 +6,7 @@ use Rattle.site_program.specs.Site.{engine_of, calls_of}
 use Rattle.site_program.proofs.Pages.{work_is, page_forgone}
 use Rattle.site_program.proofs.setup.Setup.page.Goals as goal
 
--- the plugins were not loaded, for want of memory
+-- the plugins were not loaded, since memory ran out
 pub returns-in_err-run-clause-err : goal.returns-in_err-run-clause-err
 returns-in_err-run-clause-err g c =
     let p = err_from_is_err_and c.from_residual.result c.from_residual.ensures.1 in

@@ -63,7 +63,7 @@ loop-end-preserved g c =
       limit = c.in_ok-finish_line.ensures.limit ∙ i.limit;
     }
 
--- the line found no memory, or its reply was not written
+-- memory ran out at the line, or its reply was not written
 pub returns-in_err-finish_line-clause-err : goal.returns-in_err-finish_line-clause-err
 returns-in_err-finish_line-clause-err g c =
     let i = c.loop-end.invariant in
@@ -79,7 +79,7 @@ returns-in_err-finish_line-clause-err g c =
     let faults = FaultsAt-finish _ _ _ _ held rest _ _ _ _ _ refl found line (omega arith) err.only (λ e. err.write (ap Err e)) (λ e. err.memory (ap Err e)) in
     rw (p.1, p.2) (fault_at _ _ _ _ _ _ _ _ _ _ _ _ _ _ i.taken i.whole faults)
 
--- what follows the last newline is held, or found no memory
+-- what follows the last newline is held, or memory for it ran out
 pub returns-clause-ok : goal.returns-clause-ok
 returns-clause-ok g c =
     let i = c.loop-end.invariant in
