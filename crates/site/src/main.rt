@@ -43,7 +43,7 @@ fn run(rt: &HostRuntime, callbacks: Listed<Stored>) -> ExitCode
     let words = match words(rt) {
         Ok(words) => words,
         Err(error) if error.kind() == io::ErrorKind::InvalidData => {
-            let _ = eprintln!(rt; "error: a word behind the program's name is not UTF-8");
+            let _ = eprintln!(rt; "error: a command-line argument is not UTF-8");
             return ExitCode::from(2);
         }
         Err(_) => return failed(rt, StoreFault::OutOfMemory),
