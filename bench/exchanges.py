@@ -44,6 +44,10 @@ def activate(*plugins):
     return joined(done("activate", plugin=it) for it in plugins)
 
 
+# A command after which what paths found is read anew.
+CHANGE = done("option", name="changed", value="")
+
+
 def put(number, content="", title="", date=DATE):
     """Stores a post, which gets this number."""
     return Exchange(line("put", title=title, content=content, date=date), f"ok {number}\n")

@@ -15,6 +15,8 @@ import time
 from collections import namedtuple
 from pathlib import Path
 
+from exchanges import CHANGE
+
 CRATES = Path(__file__).resolve().parents[1] / "crates"
 SITE = CRATES / "site" / "out" / "site"
 PASSES = CRATES / "engine_bench" / "out" / "engine_bench"
@@ -102,6 +104,10 @@ class Bench:
     def repeated(self, before, exchange, times):
         """The case of an exchange that is made a number of times after another."""
         return Case(self.run(before + exchange * times), self.run(before), times)
+
+    def changed(self, before, exchange, times):
+        """The case of an exchange that is made a number of times after another, each time after a change."""
+        return Case(self.run(before + (CHANGE + exchange) * times), self.run(before + CHANGE * times), times)
 
     def passes(self, count, spread):
         """The case of passes of a filter over `count` callbacks, at one priority or, if spread, each at its own."""
