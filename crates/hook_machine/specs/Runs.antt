@@ -1,5 +1,5 @@
 -- What contracts see of a run.
-use Rattle.std.specs.Prelude.{◌≡◌, ℕ, [], Option, None, Some, Result, Ok, Err, ⊤}
+use Rattle.std.specs.Prelude.{◌≡◌, ℕ, [], Option, None, Some, Result, Ok, Err, OnOk, IfErr, IfSome, ⊤}
 use Rattle.hook_changes.specs.declared.reply.Call.{Call}
 use Rattle.hook_changes.specs.declared.reply.Reply.{Reply}
 use Rattle.callback_store.specs.Shape.{shapes_of}
@@ -33,6 +33,12 @@ module _ {S : Type 0} where
   -- no fault was answered, and no job is under way
   abbrev pub IsReady : Run S → Type 0
   IsReady run = (fault_of run ≡ None) × IsIdle run
+
+  -- a call of a run that has answered a fault answers it again; of any other call, the run has the fault that it answered
+  pub record KeepsFault {A : Type 0} (before : Run S) (result : Result A RunFault) (after : Run S) : Type 0 where
+    pub again : IfSome (fault_of before) (λ fault. result ≡ Err fault)
+    pub sound : OnOk result (fault_of after ≡ None)
+    pub fault : IfErr result (λ fault. fault_of after ≡ Some fault)
 
   -- what the run has still to do
   abbrev pub left_of : Engine → Run S → Trace Text

@@ -135,7 +135,7 @@ fn fault_in<T>(outcome: &Result<T, RunFault>) -> Option<RunFault>
 }
 
 impl<'a, S: Stated> Run<'a, S> {
-    ghost use Rattle.std.specs.Prelude.{◌≡◌, ◌++◌, [], None, Some, IfOk, IfErr, IfSome, OnOk, IsOk};
+    ghost use Rattle.std.specs.Prelude.{◌≡◌, ◌++◌, [], None, IfOk, IfErr, OnOk, IsOk};
     ghost use Rattle.callback_store.specs.Shape.{shapes_of};
     ghost use Rattle.hook_machine.specs.World.{fresh, loaded};
     ghost use Rattle.hook_machine.specs.Meaning.{filtered, acted, replaced};
@@ -143,6 +143,7 @@ impl<'a, S: Stated> Run<'a, S> {
     ghost use Rattle.hook_machine.specs.Moves.{Turns};
     ghost use Rattle.hook_machine.specs.Jobs.{job_left};
     ghost use Rattle.hook_machine.specs.Runs.{world_of, fault_of, engine_of, left_of, CanBegin, IsIdle, IsIdleAtEnd};
+    ghost use Rattle.hook_machine.specs.Runs.{KeepsFault};
 
     /// A run with nothing registered and nothing printed, of a site with these active plugins and options, that may
     /// make that many invocations. If an option has two values, the first counts.
@@ -180,9 +181,7 @@ impl<'a, S: Stated> Run<'a, S> {
             OnOk result (world_of self.new ≡ loaded (engine_of S.says S.number self.old).plugins
             (world_of self.old)) }
         ensures memory { fault_of self.old ≡ None → IfErr result (λ fault. fault ≡ RunFault.OutOfMemory) }
-        ensures sound { OnOk result (fault_of self.new ≡ None) }
-        ensures fault { IfErr result (λ fault. fault_of self.new ≡ Some fault) }
-        ensures again { IfSome (fault_of self.old) (λ fault. result ≡ Err fault) }
+        ensures fault { KeepsFault self.old result self.new }
         ensures engine { engine_of S.says S.number self.new ≡ engine_of S.says S.number self.old }
     {
         if let Some(fault) = self.fault {
@@ -211,9 +210,7 @@ impl<'a, S: Stated> Run<'a, S> {
         ensures filtered { fault_of self.old ≡ None →
             RunsAs (filtered (engine_of S.says S.number self.old) (world_of self.old) hook.now value args.now) result
             (world_of self.new) }
-        ensures sound { OnOk result (fault_of self.new ≡ None) }
-        ensures fault { IfErr result (λ fault. fault_of self.new ≡ Some fault) }
-        ensures again { IfSome (fault_of self.old) (λ fault. result ≡ Err fault) }
+        ensures fault { KeepsFault self.old result self.new }
         ensures engine { engine_of S.says S.number self.new ≡ engine_of S.says S.number self.old }
     {
         if let Some(fault) = self.fault {
@@ -244,9 +241,7 @@ impl<'a, S: Stated> Run<'a, S> {
         ensures acted { fault_of self.old ≡ None →
             RunsAs (acted (engine_of S.says S.number self.old) (world_of self.old) hook.now args.now) result
             (world_of self.new) }
-        ensures sound { OnOk result (fault_of self.new ≡ None) }
-        ensures fault { IfErr result (λ fault. fault_of self.new ≡ Some fault) }
-        ensures again { IfSome (fault_of self.old) (λ fault. result ≡ Err fault) }
+        ensures fault { KeepsFault self.old result self.new }
         ensures engine { engine_of S.says S.number self.new ≡ engine_of S.says S.number self.old }
     {
         if let Some(fault) = self.fault {
@@ -275,9 +270,7 @@ impl<'a, S: Stated> Run<'a, S> {
         ensures replaced { fault_of self.old ≡ None →
             RunsAs (replaced (engine_of S.says S.number self.old) (world_of self.old) text.now) result
             (world_of self.new) }
-        ensures sound { OnOk result (fault_of self.new ≡ None) }
-        ensures fault { IfErr result (λ fault. fault_of self.new ≡ Some fault) }
-        ensures again { IfSome (fault_of self.old) (λ fault. result ≡ Err fault) }
+        ensures fault { KeepsFault self.old result self.new }
         ensures engine { engine_of S.says S.number self.new ≡ engine_of S.says S.number self.old }
     {
         if let Some(fault) = self.fault {
@@ -302,9 +295,7 @@ impl<'a, S: Stated> Run<'a, S> {
             (engine_of S.says S.number self.old) (world_of self.old) job) }
         ensures same { world_of self.new ≡ world_of self.old }
         ensures succeeds { fault_of self.old ≡ None → IsOk result }
-        ensures sound { OnOk result (fault_of self.new ≡ None) }
-        ensures fault { IfErr result (λ fault. fault_of self.new ≡ Some fault) }
-        ensures again { IfSome (fault_of self.old) (λ fault. result ≡ Err fault) }
+        ensures fault { KeepsFault self.old result self.new }
         ensures engine { engine_of S.says S.number self.new ≡ engine_of S.says S.number self.old }
     {
         if let Some(fault) = self.fault {
@@ -321,9 +312,7 @@ impl<'a, S: Stated> Run<'a, S> {
             Turns (left_of (engine_of S.says S.number self.old) self.old) result (world_of self.new)
             (left_of (engine_of S.says S.number self.old) self.new) }
         ensures idle { IsIdleAtEnd result self.new }
-        ensures sound { OnOk result (fault_of self.new ≡ None) }
-        ensures fault { IfErr result (λ fault. fault_of self.new ≡ Some fault) }
-        ensures again { IfSome (fault_of self.old) (λ fault. result ≡ Err fault) }
+        ensures fault { KeepsFault self.old result self.new }
         ensures engine { engine_of S.says S.number self.new ≡ engine_of S.says S.number self.old }
     {
         if let Some(fault) = self.fault {
@@ -343,9 +332,7 @@ impl<'a, S: Stated> Run<'a, S> {
             OnOk result (world_of self.new ≡ record (world_of self.old)
             { output = (world_of self.old).output ++ text.now }) }
         ensures memory { fault_of self.old ≡ None → IfErr result (λ fault. fault ≡ RunFault.OutOfMemory) }
-        ensures sound { OnOk result (fault_of self.new ≡ None) }
-        ensures fault { IfErr result (λ fault. fault_of self.new ≡ Some fault) }
-        ensures again { IfSome (fault_of self.old) (λ fault. result ≡ Err fault) }
+        ensures fault { KeepsFault self.old result self.new }
         ensures engine { engine_of S.says S.number self.new ≡ engine_of S.says S.number self.old }
     {
         if let Some(fault) = self.fault {
@@ -368,9 +355,7 @@ impl<'a, S: Stated> Run<'a, S> {
             IfOk result (λ text. (text ≡ (world_of self.old).output) ×
             (world_of self.new ≡ record (world_of self.old) { output = [] })) }
         ensures succeeds { fault_of self.old ≡ None → IsOk result }
-        ensures sound { OnOk result (fault_of self.new ≡ None) }
-        ensures fault { IfErr result (λ fault. fault_of self.new ≡ Some fault) }
-        ensures again { IfSome (fault_of self.old) (λ fault. result ≡ Err fault) }
+        ensures fault { KeepsFault self.old result self.new }
         ensures engine { engine_of S.says S.number self.new ≡ engine_of S.says S.number self.old }
     {
         if let Some(fault) = self.fault {

@@ -9,4 +9,4 @@ returns-clause-begun g c =
     let begun =
     action_begun engine c.args.settings.now (world_of c.args.run.now) (world_of c.start.new.self) c.args.hook.now c.in_ok-hook.hook c.empty-args.result
     (left_of engine c.start.new.self) c.in_ok-hook.ensures c.empty-args.ensures c.in_ok-start.ensures.started in
-    (begun, c.in_ok-start.ensures.sound, busy Dropped)
+    (begun, c.in_ok-start.ensures.fault.sound, busy Dropped)

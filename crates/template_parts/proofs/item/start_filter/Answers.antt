@@ -9,4 +9,4 @@ returns-clause-begun g c =
     let begun =
     filter_begun engine c.args.settings.now (world_of c.args.run.now) (world_of c.start.new.self) c.args.shown c.args.hook.now c.in_ok-hook.hook c.args.value
     c.args.args (left_of engine c.start.new.self) c.in_ok-hook.ensures c.in_ok-start.ensures.started in
-    (begun, c.in_ok-start.ensures.sound, busy (Printed c.args.shown))
+    (begun, c.in_ok-start.ensures.fault.sound, busy (Printed c.args.shown))
