@@ -11,7 +11,7 @@ use hook_changes::{Listed, Text};
 use hook_machine::RunFault;
 use site_records::{Found, FoundKind, Post, PostDate, PostKind, PostStatus};
 use std::alloc::{AllocError, Global};
-use template_parts::{Page, PageTurn, Settings};
+use template_parts::{Page, PageTurn, Settings, SharedFound};
 use template_trees::{SharedTemplate, default_index};
 
 /// The active plugin, or two with a space between them, the title and content of the one post if there is one, how many
@@ -152,7 +152,7 @@ pub fn begun<'p>(
     let settings = settings(alloc)?;
     let (first, second) = case.0.split_once(' ').unwrap_or((case.0, ""));
     let run = loaded(alloc, plugins, &[first, second], case.2)?;
-    Ok(Page::begin(alloc, found, settings, run))
+    Ok(Page::begin(alloc, SharedFound::new(alloc, found)?, settings, run))
 }
 
 /// Returns whether a turn returned that page, or that fault.

@@ -1,9 +1,11 @@
 -- What is kept of the rows is still theirs after a command.
-use Rattle.std.proofs.Common.{◌≡◌, ℕ, List, Option, None, Result, Ok, Err, sym, ap, subst}
-use Rattle.std.specs.Prelude.{Bool, IfOk, OnErr}
+use Rattle.std.proofs.Common.{◌≡◌, ℕ, List, [], ◌∷◌, ◌++◌, Option, None, Result, Ok, Err, sym, ap, subst}
+use Rattle.std.specs.Prelude.{Bool, IfOk, OnOk, OnErr}
+use Rattle.std.proofs.lemmas.List.Elements.{All-nil, All-push}
 use Rattle.callback_store.specs.Shape.{Shape}
 use Rattle.hook_machine.specs.World.{Text}
 use Rattle.serde_json.specs.Data.{Data}
+use Rattle.site_records.specs.declared.found.Found.{Found}
 use Rattle.site_records.specs.declared.post.Post.{Post}
 use Rattle.site_records.specs.declared.post.PostKind.{PostKind}
 use Rattle.site_records.specs.declared.post.PostStatus.{PostStatus}
@@ -13,8 +15,8 @@ use Rattle.site_replies.specs.Reply.{ReplyData, reply_data}
 use Rattle.site_edits.specs.Edits.{put, edit, delete, set_option, set_active}
 use Rattle.site_edits.specs.Templates.{set_template}
 use Rattle.site_edits.proofs.After.{After, put-after, edit-after, delete-after, option-after, active-after, template-after}
-use Rattle.site_program.specs.Requests.{Texts}
-use Rattle.site_program.specs.Kept.{KeepsUp}
+use Rattle.site_program.specs.Requests.{Texts, found_by}
+use Rattle.site_program.specs.Kept.{AreFound, KeepsUp}
 
 -- what holds of the rows before a command, and of those that it makes, holds of the rows that it leaves
 pub left : {E : Type 0} (P : Rows → Type 0) (result : Result SiteReply E) (old new : Rows) (done : Rows × ReplyData)
@@ -22,50 +24,74 @@ pub left : {E : Type 0} (P : Rows → Type 0) (result : Result SiteReply E) (old
 left P (Ok reply) old new done ok err before after = subst P (sym (ap (λ p. p.0) ok)) after
 left P (Err fault) old new done ok err before after = subst P (sym err) before
 
-module _ (rows : Rows) (options templates : Option Texts) (active : Option (List Text)) (up : KeepsUp rows options templates active) where
-  -- ---- posts are not kept
+module _ (rows : Rows) (options templates : Option Texts) (active : Option (List Text)) (kept : List (Text × Found))
+    (up : KeepsUp rows options templates active kept) where
+  -- of no path anything is kept
+  none : (r : Rows) → AreFound r []
+  none r = All-nil (λ t. t.1 ≡ found_by r t.0)
 
-  with_posts : (posts : List Post) (largest : ℕ) → KeepsUp (record rows { posts = posts; largest = largest }) options templates active
-  with_posts posts largest = record { options = up.options; templates = up.templates; active = up.active }
+  -- what one more path finds is kept, or nothing more if memory ran out
+  pub found-up : {R E : Type 0} (result : Result R E) (new : List (Text × Found)) (path : Text) (found : Found) → found ≡ found_by rows path
+      → OnOk result (new ≡ kept ++ (path, found) ∷ []) → OnErr result (new ≡ kept) → KeepsUp rows options templates active new
+  found-up (Ok x) new path found is ok err = record {
+    options = up.options;
+    templates = up.templates;
+    active = up.active;
+    found = subst (AreFound rows) (sym ok) (All-push (λ t. t.1 ≡ found_by rows t.0) kept (path, found) up.found is);
+  }
+  found-up (Err e) new path found is ok err = record {
+    options = up.options;
+    templates = up.templates;
+    active = up.active;
+    found = subst (AreFound rows) (sym err) up.found;
+  }
 
-  abbrev All : Rows → Type 0
-  All r = KeepsUp r options templates active
+  -- ---- if posts change, what paths found is forgotten
 
-  pub put-up : (kind : PostKind) (status : PostStatus) (title content date : Text) → After All (put rows kind status title content date)
-  put-up kind status title content date = put-after All rows up with_posts kind status title content date
+  abbrev Keeps : Rows → Type 0
+  Keeps r = KeepsUp r options templates active []
 
-  pub edit-up : (id : ℕ) (given : PostEdit) → After All (edit rows id given)
-  edit-up id given = edit-after All rows up with_posts id given
+  pub without_found : Keeps rows
+  without_found = record { options = up.options; templates = up.templates; active = up.active; found = none rows }
 
-  pub delete-up : (id : ℕ) → After All (delete rows id)
-  delete-up id = delete-after All rows up with_posts id
+  with_posts : (posts : List Post) (largest : ℕ) → Keeps (record rows { posts = posts; largest = largest })
+  with_posts posts largest = record { options = up.options; templates = up.templates; active = up.active; found = none (record rows { posts = posts; largest = largest }) }
+
+  pub put-up : (kind : PostKind) (status : PostStatus) (title content date : Text) → After Keeps (put rows kind status title content date)
+  put-up kind status title content date = put-after Keeps rows without_found with_posts kind status title content date
+
+  pub edit-up : (id : ℕ) (given : PostEdit) → After Keeps (edit rows id given)
+  edit-up id given = edit-after Keeps rows without_found with_posts id given
+
+  pub delete-up : (id : ℕ) → After Keeps (delete rows id)
+  delete-up id = delete-after Keeps rows without_found with_posts id
 
   -- ---- what else a command may change is forgotten
 
-  pub without_options : KeepsUp rows None templates active
-  without_options = record { options = tt; templates = up.templates; active = up.active }
+  pub without_options : KeepsUp rows None templates active []
+  without_options = record { options = tt; templates = up.templates; active = up.active; found = none rows }
 
-  with_options : (others : Named) → KeepsUp (record rows { options = others }) None templates active
-  with_options others = record { options = tt; templates = up.templates; active = up.active }
+  with_options : (others : Named) → KeepsUp (record rows { options = others }) None templates active []
+  with_options others = record { options = tt; templates = up.templates; active = up.active; found = none (record rows { options = others }) }
 
-  pub option-up : (name value : Text) → After (λ r. KeepsUp r None templates active) (set_option rows name value)
-  option-up name value = option-after (λ r. KeepsUp r None templates active) rows without_options with_options name value
+  pub option-up : (name value : Text) → After (λ r. KeepsUp r None templates active []) (set_option rows name value)
+  option-up name value = option-after (λ r. KeepsUp r None templates active []) rows without_options with_options name value
 
-  pub without_active : KeepsUp rows options templates None
-  without_active = record { options = up.options; templates = up.templates; active = tt }
+  pub without_active : KeepsUp rows options templates None kept
+  without_active = record { options = up.options; templates = up.templates; active = tt; found = up.found }
 
-  with_active : (others : Names) → KeepsUp (record rows { active = others }) options templates None
-  with_active others = record { options = up.options; templates = up.templates; active = tt }
+  with_active : (others : Names) → KeepsUp (record rows { active = others }) options templates None kept
+  with_active others = record { options = up.options; templates = up.templates; active = tt; found = up.found }
 
   pub active-up : (plugins : List Shape) (name : Text) (is_active : Bool)
-      → After (λ r. KeepsUp r options templates None) (set_active plugins rows name is_active)
-  active-up plugins name is_active = active-after (λ r. KeepsUp r options templates None) rows without_active with_active plugins name is_active
+      → After (λ r. KeepsUp r options templates None kept) (set_active plugins rows name is_active)
+  active-up plugins name is_active = active-after (λ r. KeepsUp r options templates None kept) rows without_active with_active plugins name is_active
 
-  pub without_templates : KeepsUp rows options None active
-  without_templates = record { options = up.options; templates = tt; active = up.active }
+  pub without_templates : KeepsUp rows options None active kept
+  without_templates = record { options = up.options; templates = tt; active = up.active; found = up.found }
 
-  with_templates : (others : Named) → KeepsUp (record rows { templates = others }) options None active
-  with_templates others = record { options = up.options; templates = tt; active = up.active }
+  with_templates : (others : Named) → KeepsUp (record rows { templates = others }) options None active kept
+  with_templates others = record { options = up.options; templates = tt; active = up.active; found = up.found }
 
-  pub template-up : (name : Text) (body : Data) → After (λ r. KeepsUp r options None active) (set_template rows name body)
-  template-up name body = template-after (λ r. KeepsUp r options None active) rows without_templates with_templates name body
+  pub template-up : (name : Text) (body : Data) → After (λ r. KeepsUp r options None active kept) (set_template rows name body)
+  template-up name body = template-after (λ r. KeepsUp r options None active kept) rows without_templates with_templates name body

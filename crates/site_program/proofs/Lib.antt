@@ -4,6 +4,6 @@ pub mod Endings
 pub mod Machine
 pub mod Pages
 pub mod Refusals
-pub mod Trees
+pub mod UnderNames
 pub mod Limits
 pub mod Keeping

@@ -11,6 +11,7 @@ ghost use Rattle.site_edits.specs.Late.{may_be_late};
 
 use crate::stored::Stored;
 use callback_store::{Plugins, Stated};
+use hook_changes::Listed;
 use serde_json::Value;
 use site_edits::{StoreFault, delete, edit, import, put, set_active, set_option, set_template};
 use site_records::{PostKind, PostStatus};
@@ -21,6 +22,7 @@ impl Stored {
     /// Stores one more post.
     pub(crate) fn put(
         &mut self,
+        alloc: Global,
         kind: PostKind,
         status: PostStatus,
         title: &str,
@@ -33,12 +35,14 @@ impl Stored {
         ensures late { IfErr result (λ fault. fault ≡ StoreFault.Store → may_be_late self.old.step_limit
             (put self.old kind status title.now content.now date.now).1 ≡ true) }
     {
+        self.found = Listed::empty(alloc);
         put(&mut self.tables, kind, status, title, content, date)
     }
 
     /// Replaces the given fields of a post, and keeps the others.
     pub(crate) fn edit(
         &mut self,
+        alloc: Global,
         id: u32,
         status: Option<PostStatus>,
         title: Option<&str>,
@@ -51,21 +55,28 @@ impl Stored {
         ensures late { IfErr result (λ fault. fault ≡ StoreFault.Store → may_be_late self.old.step_limit
             (edit self.old id (edit_by status title.entry content.entry date.entry)).1 ≡ true) }
     {
+        self.found = Listed::empty(alloc);
         edit(&mut self.tables, id, status, title, content, date)
     }
 
     /// Deletes the post.
-    pub(crate) fn delete(&mut self, id: u32) -> Result<SiteReply, StoreFault>
+    pub(crate) fn delete(&mut self, alloc: Global, id: u32) -> Result<SiteReply, StoreFault>
         ensures ok { IfOk result (λ reply. (self.new, reply_data reply) ≡ delete self.old id) }
         ensures err { OnErr result (self.new ≡ self.old) }
         ensures late { IfErr result (λ fault. fault ≡ StoreFault.Store
             → may_be_late self.old.step_limit (delete self.old id).1 ≡ true) }
     {
+        self.found = Listed::empty(alloc);
         delete(&mut self.tables, id)
     }
 
     /// Sets the option to the value.
-    pub(crate) fn set_option(&mut self, name: &str, value: &str) -> Result<SiteReply, StoreFault>
+    pub(crate) fn set_option(
+        &mut self,
+        alloc: Global,
+        name: &str,
+        value: &str,
+    ) -> Result<SiteReply, StoreFault>
         ensures ok { IfOk result
             (λ reply. (self.new, reply_data reply) ≡ set_option self.old name.now value.now) }
         ensures err { OnErr result (self.new ≡ self.old) }
@@ -73,6 +84,7 @@ impl Stored {
             → may_be_late self.old.step_limit (set_option self.old name.now value.now).1 ≡ true) }
     {
         self.options = None;
+        self.found = Listed::empty(alloc);
         set_option(&mut self.tables, name, value)
     }
 
@@ -128,10 +140,12 @@ impl Stored {
             options,
             templates,
             active,
+            found,
         } = self;
         *options = None;
         *templates = None;
         *active = None;
+        *found = Listed::empty(alloc);
         import(alloc, plugins, tables, site)
     }
 }

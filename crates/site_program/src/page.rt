@@ -19,11 +19,10 @@ use callback_store::{Plugins, Stated};
 use content_cache::PieceCache;
 use hook_changes::Text;
 use hook_machine::{Run, RunFault};
-use permalink_query::Found;
 use site_edits::StoreFault;
 use site_replies::{Refusal, SiteReply};
 use std::alloc::Global;
-use template_parts::Page;
+use template_parts::{Page, SharedFound};
 
 // The most bytes that a path may have.
 const MAX_PATH: usize = 8_192;
@@ -83,7 +82,7 @@ impl<'p, S: Stated> Setup<'p, S> {
     /// Replies to a request, given what its path found.
     fn page_reply(
         &self,
-        found: Found,
+        found: SharedFound,
         options: &[(Text, Text)],
         templates: &mut Templates,
         active: &[Text],
@@ -105,7 +104,7 @@ impl<'p, S: Stated> Setup<'p, S> {
     /// Makes the page of a request, given what its path found: its status and its bytes.
     fn page(
         &self,
-        found: Found,
+        found: SharedFound,
         options: &[(Text, Text)],
         templates: &mut Templates,
         active: &[Text],
@@ -119,7 +118,7 @@ impl<'p, S: Stated> Setup<'p, S> {
         ensures same { templates.new ≡ templates.old }
     {
         let run = loaded_run(self.alloc, self.plugins, active, options, self.calls)?;
-        let Ok(settings) = settings_for(self.alloc, found.kind, options, templates) else {
+        let Ok(settings) = settings_for(self.alloc, found.kind(), options, templates) else {
             run.end();
             return Err(RunFault::OutOfMemory);
         };

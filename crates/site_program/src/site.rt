@@ -57,7 +57,7 @@ impl<'p, S: Stated> Site<'p, S> {
         };
         Ok(Site {
             setup,
-            stored: Stored::new(tables),
+            stored: Stored::new(alloc, tables),
             cache,
         })
     }
@@ -161,16 +161,16 @@ impl<'p, S: Stated> Setup<'p, S> {
                 title,
                 content,
                 date,
-            } => stored.put(kind, status, title, content, date),
+            } => stored.put(self.alloc, kind, status, title, content, date),
             Command::Edit {
                 id,
                 status,
                 title,
                 content,
                 date,
-            } => stored.edit(id, status, title, content, date),
-            Command::Delete { id } => stored.delete(id),
-            Command::Option { name, value } => stored.set_option(name, value),
+            } => stored.edit(self.alloc, id, status, title, content, date),
+            Command::Delete { id } => stored.delete(self.alloc, id),
+            Command::Option { name, value } => stored.set_option(self.alloc, name, value),
             Command::Activate { plugin } => stored.set_active(self.plugins, plugin, true),
             Command::Deactivate { plugin } => stored.set_active(self.plugins, plugin, false),
             Command::Template { name, body } => stored.set_template(self.alloc, name, body),

@@ -2,6 +2,7 @@
 #![tactic(auto)]
 
 mod choice;
+mod found;
 mod item;
 mod laws;
 mod moves;
@@ -12,6 +13,7 @@ mod steps;
 mod worked;
 
 pub use choice::choose;
+pub use found::SharedFound;
 pub use laws::{
     inactive_callbacks_stay_out_of_pages, pages_keep_to_their_calls, pages_keep_to_their_depth,
 };

@@ -7,13 +7,14 @@ ghost use Rattle.hook_machine.specs.Runs.{world_of, fault_of, engine_of, CanBegi
 ghost use Rattle.template_parts.specs.Pages.{page_pass, IsPage, IsRefusedBy};
 ghost use Rattle.template_parts.specs.Left.{ahead_of, left_at, hand_in};
 
+use crate::found::SharedFound;
 use crate::moves::{Ahead, Stop, next_stop};
 use crate::settings::Settings;
 use crate::steps::steps_of_page;
 use callback_store::Stated;
 use content_cache::PieceCache;
 use hook_machine::{Run, RunFault};
-use site_records::{Found, Post};
+use site_records::Post;
 use std::alloc::{AllocError, Global};
 
 /// A page that is to be printed: what its path found, what its site says of pages, and the run of its request.
@@ -22,7 +23,7 @@ use std::alloc::{AllocError, Global};
 #[derive(Drop)]
 pub struct Page<'p, S> {
     alloc: Global,
-    found: Found,
+    found: SharedFound,
     settings: Settings,
     run: Run<'p, S>,
     /// What is left of it, once its first turn has begun.
@@ -64,7 +65,7 @@ impl<'p, S: Stated> Page<'p, S> {
     ghost use Rattle.template_parts.specs.Page.{CanGoOn, IsSamePage, HasStatus, Turns};
 
     /// A page over what was found. The run has loaded its plugins and done nothing else; this runs nothing.
-    pub fn begin(alloc: Global, found: Found, settings: Settings, run: Run<'p, S>) -> Self
+    pub fn begin(alloc: Global, found: SharedFound, settings: Settings, run: Run<'p, S>) -> Self
         requires idle { CanBegin run }
         ensures found { found_in result ≡ found }
         ensures left { page_left (engine_of S.says S.number run.entry) result ≡ page_pass
@@ -140,7 +141,7 @@ impl<'p, S: Stated> Page<'p, S> {
         ensures sound { refusal_of self.new ≡ None }
         ensures engine { engine_of S.says S.number (run_in self.new) ≡ engine_of S.says S.number (run_in self.old) }
     {
-        let posts = self.found.posts.as_slice();
+        let posts = self.found.posts();
         let taken = self.ahead.take();
         let mut ahead = ahead_from(self.alloc, &self.settings, posts, taken)?;
         let stop = next_stop(
@@ -156,7 +157,7 @@ impl<'p, S: Stated> Page<'p, S> {
             Stop::Turned => Ok(PageTurn::More),
             Stop::Over => {
                 let text = self.run.take_output()?;
-                Ok(PageTurn::Done(self.found.status, text.into_string().into_bytes()))
+                Ok(PageTurn::Done(self.found.status(), text.into_string().into_bytes()))
             }
         }
     }

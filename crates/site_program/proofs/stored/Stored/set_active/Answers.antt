@@ -7,5 +7,5 @@ use Rattle.site_program.proofs.stored.Stored.set_active.Goals as goal
 pub invariant_of-self : goal.invariant_of-self
 invariant_of-self g c =
     let kept = c.self.inside in
-    left (λ rows. KeepsUp rows kept.options kept.templates None) _ _ _ _ c.set_active.ensures.ok c.set_active.ensures.err
-    (without_active _ _ _ _ c.self.invariant) (active-up _ _ _ _ c.self.invariant _ _ _)
+    left (λ rows. KeepsUp rows kept.options kept.templates None kept.found) _ _ _ _ c.set_active.ensures.ok c.set_active.ensures.err
+    (without_active _ _ _ _ _ c.self.invariant) (active-up _ _ _ _ _ c.self.invariant _ _ _)

@@ -7,5 +7,5 @@ use Rattle.site_program.proofs.stored.Stored.set_template.Goals as goal
 pub invariant_of-self : goal.invariant_of-self
 invariant_of-self c =
     let kept = c.self.inside in
-    left (λ rows. KeepsUp rows kept.options None kept.active) _ _ _ _ c.set_template.ensures.ok c.set_template.ensures.err
-    (without_templates _ _ _ _ c.self.invariant) (template-up _ _ _ _ c.self.invariant _ _)
+    left (λ rows. KeepsUp rows kept.options None kept.active kept.found) _ _ _ _ c.set_template.ensures.ok c.set_template.ensures.err
+    (without_templates _ _ _ _ _ c.self.invariant) (template-up _ _ _ _ _ c.self.invariant _ _)
