@@ -12,3 +12,4 @@ pub mod Steps
 pub mod Moving
 pub mod Giving
 mod Cutting
+pub mod LiveTags

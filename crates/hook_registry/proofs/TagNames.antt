@@ -1,9 +1,11 @@
 -- Each tag has a name of its form.
-use Rattle.std.proofs.Common.{◌≡◌, ℕ, zero, suc, true, false, Bool, cond, ◌&&◌, List, [], ◌∷◌, map, take, ◌+◌, ◌++◌, add-one, refl, ap, sym, Some}
-use Rattle.std.specs.Prelude.{bytes_eq, slice_get, if◌then◌else◌}
+use Rattle.std.proofs.Common.{◌≡◌, ℕ, zero, suc, true, false, Bool, cond, ◌&&◌, List, [], ◌∷◌, map, take, ◌+◌, ◌++◌, add-one, refl, ap, sym, subst, ◌∙◌, Some, inl, inr}
+use Rattle.std.specs.Prelude.{bytes_eq, slice_get, is_some, if◌then◌else◌}
 use Rattle.std.specs.List.{list_all}
+use Rattle.std.proofs.lemmas.Bool.{cases_Bool, cond-false, false≢true}
+use Rattle.std.proofs.lemmas.Slice.Eq.{bytes_eq-Decides}
 use Rattle.hook_changes.specs.Names.{is_tag_name}
-use Rattle.hook_registry.specs.Named.{set_value, remove_value}
+use Rattle.hook_registry.specs.Named.{value_of, set_value, remove_value}
 
 and_left : (a b : Bool) → (a && b) ≡ true → a ≡ true
 and_left true b e = refl
@@ -46,6 +48,16 @@ module _ {X : Type 0} where
   is_tag-at [] at name h e = cc
   is_tag-at (p ∷ ps) zero name h e = let same : p.0 ≡ name = cc in rw (← same) (and_left (is_tag_name p.0) (are_tags ps) h)
   is_tag-at (p ∷ ps) (suc at) name h e = is_tag-at ps at name (and_right (is_tag_name p.0) (are_tags ps) h) e
+
+  -- a name that has a value is a tag's
+  pub is_tag-named : (pairs : List (List ℕ × X)) (name : List ℕ) → are_tags pairs ≡ true → is_some (value_of pairs name) ≡ true → is_tag_name name ≡ true
+  is_tag-named [] name h e = absurd (false≢true e)
+  is_tag-named (p ∷ ps) name h e =
+      elim (cases_Bool (bytes_eq name p.0)) [
+        | inl is ↦ subst (λ n. is_tag_name n ≡ true) (sym ((bytes_eq-Decides name p.0).0 is)) (and_left (is_tag_name p.0) (are_tags ps) h)
+        | inr is_not ↦ is_tag-named ps name (and_right (is_tag_name p.0) (are_tags ps) h)
+            (sym (ap is_some (cond-false (bytes_eq name p.0) (Some p.1) (value_of ps name) is_not)) ∙ e)
+      ]
 
   names-suc : (pairs : List (List ℕ × X)) (at : ℕ) (name : List ℕ) → slice_get (map (λ p. p.0) pairs) at ≡ Some name
       → map (λ p. p.0) (take at pairs) ++ name ∷ [] ≡ map (λ p. p.0) (take (suc at) pairs)

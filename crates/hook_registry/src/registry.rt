@@ -1,6 +1,8 @@
 //! The registry.
-ghost use Rattle.std.specs.Prelude.{◌≡◌, ◌≤◌, ◌+◌, [], IfOk, OnOk, OnErr, not, map, is_some, min, unwrap_or};
-ghost use Rattle.std.specs.List.{list_any};
+ghost use Rattle.std.specs.Prelude.{◌≡◌, ◌≤◌, ◌+◌, [], length, IfOk, IsTrue, OnOk, OnErr, not, map, option_map};
+ghost use Rattle.std.specs.Prelude.{is_some, min, unwrap_or};
+ghost use Rattle.std.specs.List.{list_all, list_any};
+ghost use Rattle.hook_changes.specs.Names.{is_tag_name};
 ghost use Rattle.hook_registry.specs.Named.{value_of, set_value, remove_value};
 ghost use Rattle.hook_registry.specs.Table.{Table, registrations, add, remove, remove_all, group};
 ghost use Rattle.hook_registry.specs.Table.{next_priority, has, is_of, priority_of, times_fired};
@@ -180,6 +182,28 @@ impl Registry {
             }
         }
         Ok(names)
+    }
+
+    /// How many tags there are. Each of them is a name that a shortcode may have.
+    pub fn tag_count(&self) -> usize
+        ensures count { result ≡ length self.now.tags }
+        ensures names { IsTrue (list_all (λ p. is_tag_name p.0) self.now.tags) }
+    {
+        self.tags.len()
+    }
+
+    /// The name of a tag, if there is a tag of this name. Only this one is looked up and copied.
+    pub fn tag_named(&self, name: &str) -> Result<Option<TagName>, AllocError>
+        ensures { IfOk result (λ tag. tag ≡ option_map (λ handler. name.now) (value_of self.now.tags name.now)) }
+    {
+        if self.tags.get(name).is_none() {
+            return Ok(None);
+        }
+        match TagName::read(self.alloc, name) {
+            Ok(tag) => Ok(Some(tag)),
+            Err(NameFault::OutOfMemory) => Err(AllocError),
+            Err(NameFault::BadName) => unreachable!(),
+        }
     }
 
     /// Counts one firing of an action, and gives the new count, which stays at 4,294,967,295 once there (Code

@@ -5,3 +5,4 @@ pub mod PieceLemmas
 pub mod MemoryLemmas
 pub mod SpanLemmas
 mod OpenedLemmas
+pub mod PlainLemmas

@@ -1,6 +1,9 @@
 -- Where a match stands: from its place on, within the text.
-use Rattle.std.proofs.Common.{◌≡◌, ℕ, ◌+◌, ◌<◌, ◌≤◌, false, List, [], length, Option, Some, None, refl, sym, ◌∙◌, subst, arith, inl, inr}
-use Rattle.std.specs.Prelude.{◌==◌, slice_index, nat_lt, ◌&&◌, ◌-◌}
+use Rattle.std.proofs.Common.{◌≡◌, ℕ, ◌+◌, ◌<◌, ◌≤◌, false, List, [], length, Option, Some, None, refl, sym, ap, ◌∙◌, subst, arith, inl, inr, take_while, drop}
+use Rattle.std.specs.Prelude.{◌==◌, slice_index, nat_lt, ◌&&◌, ◌-◌, bytes_eq}
+use Rattle.std.specs.List.{list_any}
+use Rattle.std.proofs.lemmas.Bool.Decides.{same_from_decides}
+use Rattle.std.proofs.lemmas.Slice.Eq.{bytes_eq-Decides}
 use Rattle.std.proofs.lemmas.List.{get_or_past}
 use Rattle.std.proofs.lemmas.Bool.{cases_lt, cond_both, false≢true}
 use Rattle.std.proofs.lemmas.Option.{none-some, same_Some}
@@ -10,9 +13,11 @@ use Rattle.shortcode_scan.specs.declared.Span.{Span}
 use Rattle.shortcode_scan.specs.declared.matches.Core.{Core}
 use Rattle.shortcode_scan.specs.declared.Piece.{Piece}
 use Rattle.shortcode_scan.specs.declared.Piece.TheVariants.{Plain, Match}
-use Rattle.shortcode_atts.specs.Steps.{◌>>=◌}
+use Rattle.shortcode_atts.specs.Steps.{◌>>=◌, only_if}
+use Rattle.shortcode_atts.specs.NameByte.{is_name_byte}
 use Rattle.shortcode_atts.proofs.StepLemmas.{bind_some, only_if-some}
 use Rattle.shortcode_scan.specs.Matches.{closing_tag, closing_from, is_doubled, core_of, without_content, with_closing, name_start, name_at, bracket_from, with_extras, match_at, span}
+use Rattle.shortcode_scan.specs.Live.{AreSameNames}
 use Rattle.shortcode_scan.specs.Pieces.{start_of, end_of}
 use Rattle.shortcode_scan.proofs.PlaceLemmas.{first_place-some, first_place-none_later}
 
@@ -134,3 +139,22 @@ module _ (names : List (List ℕ)) (text : List ℕ) where
       let after = name_start-after text i a.0 a.1 in
       absurd (none-some c.0 (sym (first_place-none_later (λ k. slice_index text k == 93) first (a.0 + length b.0) (length text) (omega (arith, after)) none)
       ∙ c.1))
+
+bytes_eq-swap : (a b : List ℕ) → bytes_eq a b ≡ bytes_eq b a
+bytes_eq-swap a b =
+    let there = bytes_eq-Decides a b in
+    let back = bytes_eq-Decides b a in
+    same_from_decides (bytes_eq a b) (bytes_eq b a) there (λ e. sym (back.0 e), λ e. back.1 (sym e))
+
+-- the same names match alike
+module _ (names others : List (List ℕ)) (text : List ℕ) (same : AreSameNames names others) where
+  name_at-alike : (j : ℕ) → name_at names text j ≡ name_at others text j
+  unfolding name_at
+  name_at-alike j =
+      let run = take_while is_name_byte (drop j text) in
+      let test : (λ (n : List ℕ). bytes_eq n run) ≡ bytes_eq run = λ k n. bytes_eq-swap n run k in
+      ap (λ b. only_if b run) (ap (λ t. list_any t names) test ∙ same run ∙ sym (ap (λ t. list_any t others) test))
+
+  pub match_at-alike : (i : ℕ) → match_at names text i ≡ match_at others text i
+  unfolding match_at
+  match_at-alike i = simp name_at-alike

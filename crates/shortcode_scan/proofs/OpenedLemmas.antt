@@ -1,10 +1,10 @@
 -- The names that a text opens, as one walk over its `[` collects them, are those that are live.
 use Rattle.std.proofs.Common.{◌≡◌, ℕ, zero, suc, ◌+◌, ◌<◌, Bool, true, false, List, [], ◌∷◌, ◌++◌, length, take, drop, Option, Some, None, refl, sym, ap, ◌∙◌, subst, arith, inl, inr, cond, get_or, length-drop, get_or-drop}
-use Rattle.std.specs.Prelude.{◌==◌, ◌≢◌, ◌&&◌, slice_index, nat_lt, is_some, IsTrue, bytes_eq, ◌||◌, ◌⊎◌, if◌then◌else◌}
-use Rattle.std.specs.List.{All, list_all, prefix_len}
+use Rattle.std.specs.Prelude.{◌==◌, ◌&&◌, slice_index, nat_lt, is_some, IsTrue, bytes_eq, ◌||◌, ◌⊎◌, if◌then◌else◌}
+use Rattle.std.specs.List.{list_all, prefix_len}
 use Rattle.std.specs.Borrow.{Bor}
-use Rattle.std.proofs.lemmas.Bool.{false≢true, eqb-false, ne_eqb, cases_Bool, cases_lt, and_parts, and_from, false_from_ne_true, cond_both, ltb-true, lt-ltb, lt-leb}
-use Rattle.std.proofs.lemmas.List.{append-nil, get_or-take, get_or_default}
+use Rattle.std.proofs.lemmas.Bool.{false≢true, cases_Bool, cases_lt, and_parts, and_from, false_from_ne_true, cond_both, ltb-true, lt-ltb, lt-leb}
+use Rattle.std.proofs.lemmas.List.{append-nil, get_or-take}
 use Rattle.std.proofs.lemmas.List.Elements.{filter_more}
 use Rattle.std.proofs.lemmas.List.Folds.{length-prefix_len, list_any-append}
 use Rattle.std.proofs.lemmas.List.Sums.{AllPass-from_list_all, prefix_len-le-length, prefix_len_is}
@@ -200,15 +200,6 @@ no_opening text name none =
 pub live-unopened : (names : List (List ℕ)) (text : List ℕ) → first_place (λ k. slice_index text k == 91) 0 (length text) ≡ None → live names text ≡ []
 live-unopened [] text none = refl
 live-unopened (name ∷ names) text none = rw (no_opening text name none) (live-unopened names text none)
-
--- no `[` is found in a text if no byte is one, and only then
-pub unopened-All : (text : List ℕ) → first_place (λ k. slice_index text k == 91) 0 (length text) ≡ None → All (λ byte. byte ≢ 91) text
-unopened-All text none k d lt is =
-    eqb-false (slice_index text k) 91 (first_place-none_is (λ k. slice_index text k == 91) 0 (length text) none k (omega arith) lt)
-    (get_or_default text k 0 d lt ∙ is)
-
-pub All-unopened : (text : List ℕ) → All (λ byte. byte ≢ 91) text → first_place (λ k. slice_index text k == 91) 0 (length text) ≡ None
-All-unopened text all = first_place-none (λ k. slice_index text k == 91) 0 (length text) (λ k _ lt. ne_eqb (slice_index text k) 91 (all k 0 lt))
 
 -- the live names among one more
 module _ (names : List (List ℕ)) (text name : List ℕ) (i : ℕ) (within : i < length names) (is : name ≡ get_or names i name) where

@@ -13,9 +13,10 @@ use Rattle.shortcode_atts.specs.Steps.{◌>>=◌}
 use Rattle.shortcode_atts.proofs.StepLemmas.{bind_some}
 use Rattle.shortcode_scan.specs.Places.{first_place}
 use Rattle.shortcode_scan.specs.Matches.{bracket_from, match_at, span}
+use Rattle.shortcode_scan.specs.Live.{AreSameNames}
 use Rattle.shortcode_scan.specs.Pieces.{plain_between, NoMatch, PiecesFrom, IsPieces, match_from, pieces_within, pieces_of, BeginsNotPlain, start_of, end_of, joined}
 use Rattle.shortcode_scan.proofs.PlaceLemmas.{first_place-some, first_place-none_is}
-use Rattle.shortcode_scan.proofs.MatchLemmas.{match_at-elsewhere, match_at-unended, match_at-unnamed, match_at-within, match_at-not_plain, match_at-lies}
+use Rattle.shortcode_scan.proofs.MatchLemmas.{match_at-elsewhere, match_at-unended, match_at-unnamed, match_at-within, match_at-not_plain, match_at-lies, match_at-alike}
 
 module _ (names : List (List ℕ)) (text : List ℕ) where
   pub NoMatch-join : (i j k : ℕ) → NoMatch names text i j → NoMatch names text j k → NoMatch names text i k
@@ -164,6 +165,23 @@ module _ (names : List (List ℕ)) (text : List ℕ) where
 
   pub pieces_of-only : (ps : List Piece) → IsPieces names text ps → ps ≡ pieces_of names text
   pieces_of-only ps h = one_list names text 0 ps (pieces_of names text) h pieces_of-are
+
+  -- a text in which no match begins is one plain piece
+  pub pieces_of-plain : NoMatch names text 0 (length text) → pieces_of names text ≡ plain_between 0 (length text)
+  pieces_of-plain none = sym (pieces_of-only (plain_between 0 (length text)) (IsPieces-end names text [] 0 (omega arith) none (λ rest h. h)))
+
+-- the same names cut a text alike
+module _ (names others : List (List ℕ)) (text : List ℕ) (same : AreSameNames names others) where
+  NoMatch-alike : (i j : ℕ) → NoMatch names text i j → NoMatch others text i j
+  NoMatch-alike i j none = λ k a b. sym (match_at-alike names others text same k) ∙ none k a b
+
+  PiecesFrom-alike : (i : ℕ) (ps : List Piece) → PiecesFrom names text i ps → PiecesFrom others text i ps
+  PiecesFrom-alike i [] h = h
+  PiecesFrom-alike i (Plain s ∷ ps) h = (h.0, h.1, NoMatch-alike i s.end h.2, h.3, PiecesFrom-alike s.end ps h.4)
+  PiecesFrom-alike i (Match whole n a c o x ∷ ps) h = (sym (match_at-alike names others text same i) ∙ h.0, PiecesFrom-alike whole.end ps h.1)
+
+  pub pieces_of-alike : pieces_of names text ≡ pieces_of others text
+  pieces_of-alike = pieces_of-only others text (pieces_of names text) (PiecesFrom-alike 0 (pieces_of names text) (pieces_of-are names text))
 
 -- the pieces from place i on show what the text has from there on
 joined-from : (names : List (List ℕ)) (text : List ℕ) (i : ℕ) (ps : List Piece) → PiecesFrom names text i ps → joined text ps ≡ drop i text

@@ -1,6 +1,7 @@
 -- Which names take part in a pass (Shortcode API, do_shortcode: the names that the text opens).
 -- Bytes: `[` is 91, `<` is 60, `=` is 61, `>` is 62, `&` is 38, `/` is 47, `]` is 93.
-use Rattle.std.specs.Prelude.{ℕ, ◌+◌, Bool, ◌&&◌, ◌||◌, ◌==◌, nat_le, List, ◌++◌, length, slice_index, filter, is_some, codes}
+use Rattle.std.specs.Prelude.{◌≡◌, ℕ, ◌+◌, Bool, ◌&&◌, ◌||◌, ◌==◌, nat_le, List, ◌++◌, length, slice_index, filter, is_some, bytes_eq, codes}
+use Rattle.std.specs.List.{list_any}
 use Rattle.memchr.specs.Find.{occurs_at}
 use Rattle.shortcode_scan.specs.Places.{first_place}
 
@@ -31,3 +32,11 @@ is_live text name = has_opening text (opening_of name)
 -- the live names, in their order (do_shortcode)
 abbrev pub live : List (List ℕ) → List ℕ → List (List ℕ)
 live names text = filter (is_live text) names
+
+-- whether the name is one of these
+abbrev pub is_one_of : List (List ℕ) → List ℕ → Bool
+is_one_of names name = list_any (bytes_eq name) names
+
+-- both have the same names, in whatever order and however often
+abbrev pub AreSameNames : List (List ℕ) → List (List ℕ) → Type 0
+AreSameNames names others = (name : List ℕ) → is_one_of names name ≡ is_one_of others name

@@ -7,12 +7,13 @@ use Rattle.std.proofs.lemmas.List.FromFn.{length-range_with_len, get_or-range_wi
 use Rattle.shortcode_scan.specs.declared.Piece.TheVariants.{Plain, Match}
 use Rattle.shortcode_scan.specs.Places.{first_place}
 use Rattle.shortcode_scan.specs.Matches.{match_at, name_start, name_at, core_of, with_extras, span}
-use Rattle.shortcode_scan.specs.Pieces.{IsPieces, NoMatch}
-use Rattle.shortcode_scan.specs.Live.{has_opening, live}
+use Rattle.shortcode_scan.specs.Pieces.{IsPieces, NoMatch, match_from, pieces_within, pieces_of, plain_between}
+use Rattle.shortcode_scan.specs.Live.{has_opening, is_one_of, live}
+use Rattle.shortcode_scan.specs.Opened.{name_opened}
 
 -- `unfolding computing` opens what a row needs
 unfoldable computing : Unit {0}
-unfolding match_at name_start name_at first_place core_of with_extras has_opening
+unfolding match_at name_start name_at first_place core_of with_extras has_opening match_from pieces_within name_opened
 computing = tt
 
 is_none_true : {A : Type 0} (o : Option A) → is_none o ≡ true → o ≡ None
@@ -103,3 +104,25 @@ no_break_space = refl
 own_order : live (codes "b" ∷ codes "i" ∷ []) (codes "[i][b]") ≡ codes "b" ∷ codes "i" ∷ []
 unfolding computing
 own_order = refl
+
+-- no shortcode ends in a text without a `]` after its `[`
+unended_plain : pieces_of b (codes "]x[b x") ≡ plain_between 0 6
+unfolding computing
+unended_plain = refl
+
+-- the order of the names, and how often each is given, cut nothing else
+other_order : pieces_of (codes "i" ∷ b) (codes "[b]x[i/]") ≡ pieces_of (codes "b" ∷ codes "i" ∷ b) (codes "[b]x[i/]")
+unfolding computing
+other_order = refl
+
+same_names : is_one_of (codes "i" ∷ b) (codes "b") ≡ is_one_of b (codes "b")
+same_names = refl
+
+-- a name may end at the end of the text, but not before a comma
+opened_last : name_opened (codes "x[b") 1 ≡ Some (codes "b")
+unfolding computing
+opened_last = refl
+
+opened_none : name_opened (codes "[b,") 0 ≡ None
+unfolding computing
+opened_none = refl

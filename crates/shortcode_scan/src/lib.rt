@@ -4,15 +4,18 @@
 //! pieces are found leftmost first, in one pass, each stretch of the text searched once for each thing.
 #![tactic(auto)]
 
-ghost use Rattle.std.specs.Prelude.{◌≡◌, ◌≢◌, ◌↔◌, ℕ, List, [], slice_range, IfOk, IsTrue};
-ghost use Rattle.std.specs.List.{All, AllByRecursion};
+ghost use Rattle.std.specs.Prelude.{◌≡◌, ◌≢◌, ◌<◌, ◌↔◌, ℕ, List, [], length, slice_index, slice_range};
+ghost use Rattle.std.specs.Prelude.{AllPairs, IfOk, IsTrue};
+ghost use Rattle.std.specs.List.{AllByRecursion};
+ghost use Rattle.hook_changes.specs.Names.{is_tag_name};
 ghost use Rattle.shortcode_scan.specs.Spans.{IsSpanOf, HasSpansOf};
-ghost use Rattle.shortcode_scan.specs.Pieces.{IsPieces, pieces_of, joined};
-ghost use Rattle.shortcode_scan.specs.Live.{live};
+ghost use Rattle.shortcode_scan.specs.Pieces.{IsPieces, pieces_of, plain_between, joined};
+ghost use Rattle.shortcode_scan.specs.Live.{is_live, live, AreSameNames};
+ghost use Rattle.shortcode_scan.specs.Opened.{is_among};
 
 use hook_changes::TagName;
-use live_names::{live_few, live_many};
-use places::opening_from;
+use live_names::{live_few, live_many, opened};
+use places::{bracket_from, opening_from};
 use std::alloc::{AllocError, Global};
 
 mod ahead;
@@ -54,10 +57,24 @@ pub enum Piece {
 /// opens.
 const FEW_NAMES: usize = 8;
 
-/// Whether the text has no `[`. Such a text opens no name, whichever there are.
-pub fn opens_nothing(text: &str) -> bool
-    ensures none_live { IsTrue result → (names : List (List ℕ)) → live names text.now ≡ [] }
-    ensures no_bracket { IsTrue result ↔ All (λ byte. byte ≢ 91) text.now }
+/// Whether no `[` of the text has a `]` after it. No shortcode ends in such a text, so it is one plain piece, whatever
+/// names there are.
+pub fn is_plain(text: &str) -> bool
+    ensures brackets { IsTrue result
+        ↔ ((i : ℕ) (j : ℕ) → i < j → slice_index text.now i ≡ 91 → slice_index text.now j ≢ 93) }
+    ensures whole { IsTrue result → (names : List (List ℕ))
+        → pieces_of names text.now ≡ plain_between 0 (length text.now) }
+{
+    let text = text.as_bytes();
+    match opening_from(text, 0) {
+        Some(open) => bracket_from(text, open).is_none(),
+        None => true,
+    }
+}
+
+/// Whether the text has no `[`. Such a text opens no name.
+fn opens_nothing(text: &str) -> bool
+    ensures { IsTrue result → (names : List (List ℕ)) → live names text.now ≡ [] }
 {
     opening_from(text.as_bytes(), 0).is_none()
 }
@@ -72,12 +89,24 @@ pub fn live(alloc: Global, names: &[TagName], text: &str) -> Result<Vec<TagName>
     if opens_nothing(text) {
         return Ok(Vec::new(alloc));
     }
-    let text = text.as_bytes();
     if names.len() <= FEW_NAMES {
-        live_few(alloc, names, text)
+        live_few(alloc, names, text.as_bytes())
     } else {
         live_many(alloc, names, text)
     }
+}
+
+/// The names that the text opens as [`live`] says, each once, in the order in which it first opens them, whether there
+/// are shortcodes of these names or not. The text is gone over once.
+///
+/// It fails only if memory runs out.
+pub fn opened_names(alloc: Global, text: &str) -> Result<Vec<&str>, AllocError>
+    ensures opened { IfOk result (λ names. (name : List ℕ) → IsTrue (is_tag_name name)
+        → is_among name names.items ≡ is_live text.now name) }
+    ensures once { IfOk result (λ names. AllPairs (λ a b. a.now ≢ b.now) names.items) }
+{
+    let names = opened(alloc, text)?;
+    Vec::from_slice(alloc, names.as_slice())
 }
 
 /// The pieces of the text, with `live` as the names that count (Shortcode API, get_shortcode_regex): from its first
@@ -107,6 +136,12 @@ pub fn one_cut()
         → IsPieces names text (pieces_of names text) }
     ensures only { (names : List (List ℕ)) (text : List ℕ) (pieces : List Piece)
         → IsPieces names text pieces → pieces ≡ pieces_of names text }
+{}
+
+/// A law: names cut a text alike, in whatever order they are and however often each of them is given.
+pub fn names_cut_alike()
+    ensures { (names : List (List ℕ)) (others : List (List ℕ)) (text : List ℕ)
+        → AreSameNames names others → pieces_of names text ≡ pieces_of others text }
 {}
 
 /// A law: the pieces of a text join to the text.

@@ -69,28 +69,31 @@ pub(crate) fn live_few(
     Ok(found)
 }
 
-/// What a `[` opens: the bytes of names that follow it, if there are some and a name may end where they do.
+/// What the `[` at a place opens: the bytes of names after it, if there are some and a name may end where they do.
 #[tactic(auto, unfolding(crate::specs::Opened::name_opened))]
-fn name_opened(text: &[u8], at: usize) -> Option<&[u8]>
-    requires { at < length text.now }
+fn name_opened(text: &str, at: usize) -> Option<&str>
+    requires within { at < length text.now }
+    requires bracket { slice_index text.now at ≡ 91 }
     ensures { option_map (λ name. name.now) result ≡ name_opened text.now at }
 {
-    let rest = &text[at + 1..];
-    let len = name_len(rest);
-    if 0 < len && is_name_end(text, at + 1 + len) {
-        Some(&rest[..len])
+    let bytes = text.as_bytes();
+    let start = at + 1;
+    let len = name_len(&bytes[start..]);
+    if 0 < len && is_name_end(bytes, start + len) {
+        Some(&text[start..start + len])
     } else {
         None
     }
 }
 
 /// The names that a text opens, each once: the text is gone over once, however many names are looked for among them.
-fn opened(alloc: Global, text: &[u8]) -> Result<IndexSet<&[u8]>, AllocError>
+pub(crate) fn opened(alloc: Global, text: &str) -> Result<IndexSet<&str>, AllocError>
     ensures { IfOk result (λ names. AreOpened text.now names.keys) }
 {
+    let bytes = text.as_bytes();
     let mut names = IndexSet::new(alloc);
     let mut at = 0;
-    'search: while let Some(open) = opening_from(text, at) {
+    'search: while let Some(open) = opening_from(bytes, at) {
         if let Some(name) = name_opened(text, open) {
             names.insert(name)?;
         }
@@ -103,14 +106,14 @@ fn opened(alloc: Global, text: &[u8]) -> Result<IndexSet<&[u8]>, AllocError>
 pub(crate) fn live_many(
     alloc: Global,
     names: &[TagName],
-    text: &[u8],
+    text: &str,
 ) -> Result<Vec<TagName>, AllocError>
     ensures { IfOk result (λ found. found.items ≡ live names.now text.now) }
 {
     let opened = opened(alloc, text)?;
     let mut found = Vec::new(alloc);
     for name in names {
-        if opened.contains(name.as_str().as_bytes()) {
+        if opened.contains(name.as_str()) {
             found.push(name.clone()?)?;
         }
     }
