@@ -18,7 +18,7 @@ module _ {S : Type 0} where
   abbrev pub world_of : Run S → World
   world_of run = run.state
 
-  -- the fault that the run has answered, if it has
+  -- the fault that the run has returned, if it has
   abbrev pub fault_of : Run S → Option RunFault
   fault_of run = run.fault
 
@@ -26,15 +26,16 @@ module _ {S : Type 0} where
   abbrev pub IsIdle : Run S → Type 0
   IsIdle run = (run.job ≡ None) × (run.stack ≡ [])
 
-  -- another job may begin: none is under way, unless the run has answered a fault
+  -- another job may begin: none is under way, unless the run has returned a fault
   abbrev pub CanBegin : Run S → Type 0
   CanBegin run = fault_of run ≡ None → IsIdle run
 
-  -- no fault was answered, and no job is under way
+  -- no fault was returned, and no job is under way
   abbrev pub IsReady : Run S → Type 0
   IsReady run = (fault_of run ≡ None) × IsIdle run
 
-  -- a call of a run that has answered a fault answers it again; of any other call, the run has the fault that it answered
+  -- a call of a run that has returned a fault returns it again; after any other call, the run has the fault that the
+  -- call returned, if it did
   pub record KeepsFault {A : Type 0} (before : Run S) (result : Result A RunFault) (after : Run S) : Type 0 where
     pub again : IfSome (fault_of before) (λ fault. result ≡ Err fault)
     pub sound : OnOk result (fault_of after ≡ None)

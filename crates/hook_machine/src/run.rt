@@ -16,19 +16,19 @@ use std::alloc::{AllocError, Global};
 
 /// A run of a request's callbacks. It borrows the plugins and copies the rest, so that no later edit reaches it.
 ///
-/// Once a call has answered a fault, each later call answers that same fault.
+/// Once a call has returned a fault, each later call returns that same fault.
 #[derive(Drop)]
 pub struct Run<'a, S> {
     plugins: &'a Plugins<S>,
     state: State,
-    /// A job that isn't begun.
+    /// A job that has not begun.
     job: Option<Job>,
-    /// What is left of one that is.
+    /// What is left of one that has.
     stack: Stack,
     fault: Option<RunFault>,
 }
 
-/// The job of `apply_filters`.
+/// Makes the job of `apply_filters`.
 fn filters(alloc: Global, hook: &str, value: Text, args: &Listed<Text>) -> Result<Job, AllocError>
     ensures { IfOk result (λ job. job ≡ Job.Filters hook.now value args.now) }
 {
@@ -39,7 +39,7 @@ fn filters(alloc: Global, hook: &str, value: Text, args: &Listed<Text>) -> Resul
     })
 }
 
-/// The job of `do_action`.
+/// Makes the job of `do_action`.
 fn action(alloc: Global, hook: &str, args: &Listed<Text>) -> Result<Job, AllocError>
     ensures { IfOk result (λ job. job ≡ Job.Action hook.now args.now) }
 {
@@ -49,7 +49,7 @@ fn action(alloc: Global, hook: &str, args: &Listed<Text>) -> Result<Job, AllocEr
     })
 }
 
-/// The job of `do_shortcode`.
+/// Makes the job of `do_shortcode`.
 fn shortcodes(alloc: Global, text: &str) -> Result<Job, AllocError>
     ensures { IfOk result (λ job. job ≡ Job.Shortcodes text.now) }
 {
@@ -145,8 +145,8 @@ impl<'a, S: Stated> Run<'a, S> {
     ghost use Rattle.hook_machine.specs.Runs.{world_of, fault_of, engine_of, left_of, CanBegin, IsIdle, IsIdleAtEnd};
     ghost use Rattle.hook_machine.specs.Runs.{KeepsFault};
 
-    /// A run with nothing registered and nothing printed, of a site with these active plugins and options, that may
-    /// make that many invocations. If an option has two values, the first counts.
+    /// Makes a run with nothing registered and nothing printed, of a site with these active plugins and options, that
+    /// may make that many invocations. If an option has two values, the first counts.
     pub fn new(
         alloc: Global,
         plugins: &'a Plugins<S>,
@@ -173,7 +173,7 @@ impl<'a, S: Stated> Run<'a, S> {
     }
 
     /// Carries out core's own registration, and then the load lists of the active plugins in the order of their names.
-    /// It invokes no callback.
+    /// Invokes no callback.
     pub fn load(&mut self) -> Result<(), RunFault>
         requires idle { CanBegin self.old }
         ensures idle { OnOk result (IsIdle self.new) }
@@ -196,8 +196,8 @@ impl<'a, S: Stated> Run<'a, S> {
         }
     }
 
-    /// The value after the callbacks of a filter (Code Reference, apply_filters). A text that is no hook's name gives
-    /// the value back.
+    /// Returns the value after the callbacks of a filter (Code Reference, apply_filters). For a text that is no hook's
+    /// name, returns the value as it is.
     pub fn apply_filters(
         &mut self,
         hook: &str,
@@ -263,7 +263,7 @@ impl<'a, S: Stated> Run<'a, S> {
         }
     }
 
-    /// A text with its shortcodes replaced (Code Reference, do_shortcode).
+    /// Returns a text with its shortcodes replaced (Code Reference, do_shortcode).
     pub fn do_shortcode(&mut self, text: &str, cache: &mut PieceCache) -> Result<Text, RunFault>
         requires idle { CanBegin self.old }
         ensures idle { OnOk result (IsIdle self.new) }
@@ -281,14 +281,14 @@ impl<'a, S: Stated> Run<'a, S> {
         result
     }
 
-    /// The fault that the run has answered, if it has.
+    /// Returns the fault that the run has returned, if it has.
     pub fn fault(&self) -> Option<RunFault>
         ensures { result ≡ fault_of self.now }
     {
         self.fault
     }
 
-    /// Begins a job, of which nothing is done before the first turn. It does not allocate.
+    /// Begins a job, of which nothing is done before the first turn. Does not allocate.
     pub fn start(&mut self, job: Job) -> Result<(), RunFault>
         requires idle { CanBegin self.old }
         ensures started { OnOk result (left_of (engine_of S.says S.number self.old) self.new ≡ job_left
@@ -347,7 +347,7 @@ impl<'a, S: Stated> Run<'a, S> {
         }
     }
 
-    /// Takes what was printed so far, which leaves nothing printed. It does not allocate.
+    /// Takes what was printed so far, which leaves nothing printed. Does not allocate.
     pub fn take_output(&mut self) -> Result<Text, RunFault>
         requires idle { CanBegin self.old }
         ensures idle { OnOk result (IsIdle self.new) }

@@ -21,7 +21,7 @@ module _ {Y : Type 0} where
   pub registrations-missing : (hook : List ℕ) (es : List (String Y × List Registration)) → None ≡ lookup (named hook) es → [] ≡ registrations (pairs es) hook
   registrations-missing hook es e = ap (λ o. unwrap_or o []) (e ∙ lookup-pairs hook es)
 
-  -- the first key that is the hook's name stands at a place
+  -- the first key that is the hook's name is at a place
   abbrev pub IsFirstAt : List ℕ → List (String Y × List Registration) → ℕ → Type 0
   IsFirstAt hook [] i = ⊥
   IsFirstAt hook (e ∷ es) zero = named hook e.0 ≡ true
@@ -99,7 +99,7 @@ module _ {Y : Type 0} where
       insert_entry-pairs es k w
       ∙ λ i. set_value (pairs es) (e i) ((f ∙ ap (λ rs. with_added rs new) (sym (ap (λ o. unwrap_or o []) n))) i)
 
--- what holds at `Ok` gives what follows from it
+-- what follows from what holds at `Ok` holds there too
 pub on_ok : {X E A B : Type 0} (r : Result X E) → (A → B) → OnOk r A → OnOk r B
 on_ok (Ok x) f a = f a
 on_ok (Err e) f a = tt

@@ -24,7 +24,7 @@ abbrev pub is_of : ℤ → ℕ → Registration → Bool
 is_of priority callback r = is_at priority r && r.callback == callback
 
 -- a registration that is there keeps its place and takes the new accepted count; another one goes before the first of a
--- greater priority
+-- larger priority
 abbrev pub with_added : List Registration → Registration → List Registration
 with_added [] new = new ∷ []
 with_added (r ∷ rs) new =
@@ -77,7 +77,7 @@ next_priority table hook above = least_priority (is_above above) (registrations 
 abbrev pub first : Table → List ℕ → Option ℤ
 first table hook = next_priority table hook None
 
--- the smallest priority of a hook that is greater than one
+-- the smallest priority of a hook that is larger than another
 abbrev pub after : Table → List ℕ → ℤ → Option ℤ
 after table hook priority = next_priority table hook (Some priority)
 

@@ -30,7 +30,7 @@ impl Model for HookTable {
 }
 
 impl HookTable {
-    /// Nothing registered. It does not allocate.
+    /// Makes a table with nothing registered. Does not allocate.
     pub fn new(alloc: Global) -> Self
         ensures { result ≡ [] }
     {
@@ -40,15 +40,15 @@ impl HookTable {
         }
     }
 
-    /// The registrations of a hook, if it has a list.
+    /// Returns the registrations of a hook, if it has a list.
     fn list(&self, hook: &str) -> Option<&HookList>
         ensures { unwrap_or (option_copied result) [] ≡ registrations self.entry.now hook.now }
     {
         self.hooks.get(hook)
     }
 
-    /// Registers a callback under a hook and a priority, and says whether it is new. One that is there keeps its place
-    /// and takes the count; if there is no memory, nothing is registered.
+    /// Registers a callback under a hook and a priority, and returns whether it is new. One that is there keeps its
+    /// place and takes the new count. On allocation failure nothing is registered.
     pub fn insert(
         &mut self,
         hook: &HookName,
@@ -95,7 +95,7 @@ impl HookTable {
         Ok(())
     }
 
-    /// Removes one registration, and says whether it was there. It does not allocate.
+    /// Removes one registration, and returns whether it was there. Does not allocate.
     pub fn remove(&mut self, hook: &HookName, priority: i32, callback: CallbackId) -> bool
         ensures removed { self.new ≡ remove self.old hook.now priority callback }
         ensures there { result ≡ list_any (is_of priority callback) (registrations self.old hook.now) }
@@ -109,7 +109,7 @@ impl HookTable {
         }
     }
 
-    /// Removes all registrations of a hook, or those of one priority. It does not allocate.
+    /// Removes all registrations of a hook, or those of one priority. Does not allocate.
     pub fn remove_all(&mut self, hook: &HookName, priority: Option<i32>)
         ensures { self.new ≡ remove_all self.old hook.now priority }
     {
@@ -122,7 +122,7 @@ impl HookTable {
         }
     }
 
-    /// Whether the hook has any registration.
+    /// Returns whether the hook has any registration.
     pub fn has(&self, hook: &str) -> bool
         ensures { result ≡ has self.now hook.now }
     {
@@ -132,14 +132,14 @@ impl HookTable {
         }
     }
 
-    /// The smallest priority of a callback under a hook.
+    /// Returns the smallest priority of a callback under a hook, if it has one.
     pub fn priority_of(&self, hook: &str, callback: CallbackId) -> Option<i32>
         ensures { result ≡ priority_of self.now hook.now callback }
     {
         number_of(self.list(hook)?.least_of(callback))
     }
 
-    /// The callbacks of a hook at a priority, in the order of adding.
+    /// Returns the callbacks of a hook at a priority, in the order of adding.
     pub fn group(&self, hook: &HookName, priority: i32) -> Result<Vec<Entry>, AllocError>
         ensures { IfOk result (λ entries. entries.items ≡ group self.now hook.now priority) }
     {
@@ -149,7 +149,7 @@ impl HookTable {
         }
     }
 
-    /// The smallest priority of a hook, above another if that is given.
+    /// Returns the smallest priority of a hook, or the smallest one above another if that is given.
     pub fn next_priority(&self, hook: &HookName, after: Option<i32>) -> Option<i32>
         ensures { result ≡ next_priority self.now hook.now after }
     {
@@ -157,7 +157,7 @@ impl HookTable {
     }
 }
 
-/// The number of a priority, if there is one.
+/// Returns the number of a priority, if there is one.
 fn number_of(priority: Option<Priority>) -> Option<i32>
     ensures { result ≡ priority }
 {

@@ -19,11 +19,11 @@ ghost use Rattle.hook_registry.specs.Table.{
 ghost use Rattle.hook_registry.specs.OneList.{TableChange, changed, table_after, list_after};
 ghost use Rattle.hook_registry.specs.OneList.{is_in, is_same, registrations_in, priority_changed};
 
-/// A law: after any changes from an empty registry, the table has under each hook what one list of all registrations,
-/// in the order of adding, has of that hook, by ascending priority and those of one priority in their order. So at each
-/// priority it has the callbacks of the one list, and the smallest priority above any is the one list's. A hook has a
-/// registration, and a callback its smallest priority under it, as in the one list; and `Registry::remove` says whether
-/// the one list has the registration.
+/// A law: after any changes to an empty registry, the table has under each hook what one list of all registrations, in
+/// the order of adding, has of that hook, by ascending priority and those of one priority in their order. So at each
+/// priority it has the callbacks of the one list, and the smallest priority above any is that of the one list. Whether
+/// a hook has a registration, and the smallest priority of a callback under it, are as in the one list; and
+/// `Registry::remove` returns whether the one list has the registration.
 pub fn one_list()
     ensures registrations { (changes : List TableChange) (hook : List ℕ)
         → registrations (table_after changes) hook ≡ by_priority (registrations_in (list_after changes) hook) }
@@ -43,9 +43,9 @@ pub fn one_list()
         ≡ list_any (is_same hook priority callback) (list_after changes) }
 {}
 
-/// A law: a change at a priority, under whichever hook, leaves every hook's callbacks at each greater
-/// priority, and which priority comes next after it and after each greater one. So what a pass has
-/// still to come to is as it was when something changes at the running priority or before.
+/// A law: a change at a priority, under any hook, leaves every hook's callbacks at each larger priority as they were,
+/// and also which priority comes next after it and after each larger one. So a change at the running priority or a
+/// smaller one does not affect what a pass has still to come to.
 pub fn changes_behind()
     ensures groups { (table : Table) (change : TableChange) (hook : List ℕ) (q r : ℤ)
         → priority_changed change ≡ Some q → q <ℤ r

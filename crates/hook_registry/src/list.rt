@@ -41,7 +41,7 @@ impl Model for HookList {
 }
 
 impl HookList {
-    /// No registrations. It does not allocate.
+    /// Makes a list of no registrations. Does not allocate.
     pub fn new(alloc: Global) -> Self
         ensures { result ≡ [] }
     {
@@ -50,8 +50,8 @@ impl HookList {
         }
     }
 
-    /// Adds a registration after the others of its priority, and says whether it is new. One of that callback that is
-    /// there keeps its place and takes the count.
+    /// Adds a registration after the others of its priority, and returns whether it is new. If the callback already has
+    /// one there, that keeps its place and takes the new count.
     pub fn insert(
         &mut self,
         priority: Priority,
@@ -68,7 +68,7 @@ impl HookList {
         Ok(old.is_none())
     }
 
-    /// Takes the registration of a callback at a priority away, and says whether it was there.
+    /// Removes the registration of a callback at a priority, and returns whether it was there.
     pub fn remove(&mut self, priority: Priority, callback: CallbackId) -> bool
         ensures removed { self.new ≡ filter (λ r. not (is_of priority callback r)) self.old }
         ensures there { result ≡ list_any (is_of priority callback) self.old }
@@ -78,7 +78,7 @@ impl HookList {
         removed.is_some()
     }
 
-    /// Takes away those of a priority, or all.
+    /// Removes the registrations at a priority, or all of them.
     pub fn remove_all(&mut self, priority: Option<i32>)
         ensures { self.new ≡ filter (is_other priority) self.old }
     {
@@ -90,21 +90,21 @@ impl HookList {
         }
     }
 
-    /// Whether there are no registrations.
+    /// Returns whether there are no registrations.
     pub fn is_empty(&self) -> bool
         ensures { IsTrue result ↔ (length self.now ≡ 0) }
     {
         self.accepted.is_empty()
     }
 
-    /// The callbacks at a priority.
+    /// Returns the callbacks at a priority.
     pub fn group(&self, alloc: Global, priority: Priority) -> Result<Vec<Entry>, AllocError>
         ensures { IfOk result (λ entries. entries.items ≡ map entry_of (filter (is_at priority) self.now)) }
     {
         group_of(alloc, &self.accepted, priority)
     }
 
-    /// The smallest priority above another, if that is given.
+    /// Returns the smallest priority, or the smallest one above another if that is given.
     pub fn least_above(&self, above: Option<i32>) -> Option<Priority>
         ensures { result ≡ least_priority (is_above above) self.now }
     {
@@ -117,7 +117,7 @@ impl HookList {
         least
     }
 
-    /// The smallest priority of a callback.
+    /// Returns the smallest priority of a callback, if it has one.
     pub fn least_of(&self, callback: CallbackId) -> Option<Priority>
         ensures { result ≡ least_priority (λ r. r.callback == callback) self.now }
     {
@@ -131,7 +131,7 @@ impl HookList {
     }
 }
 
-/// The callbacks at a priority.
+/// Returns the callbacks at a priority.
 fn group_of(
     alloc: Global,
     accepted: &IndexMap<Key, u8>,
@@ -155,7 +155,7 @@ fn group_of(
     Ok(entries)
 }
 
-/// Whether a priority is above another, if that is given.
+/// Returns whether a priority is above another; if no other is given, it is.
 fn is_above(above: Option<i32>, priority: Priority) -> bool
     ensures { result ≡ number_above above priority }
 {
@@ -165,7 +165,7 @@ fn is_above(above: Option<i32>, priority: Priority) -> bool
     }
 }
 
-/// The smaller one of the smallest priority so far, if there is one, and another.
+/// Returns the smaller one of the smallest priority so far, if there is one, and another.
 fn smaller_of(least: Option<Priority>, priority: Priority) -> Option<Priority>
     ensures { result ≡ smaller_of least priority }
 {

@@ -22,7 +22,7 @@ impl<V> Model for Named<V> {
 }
 
 impl<V: Copy + Drop> Named<V> {
-    /// No names. It does not allocate.
+    /// Makes a map of no names. Does not allocate.
     pub fn new(alloc: Global) -> Self
         ensures { result ≡ [] }
     {
@@ -32,14 +32,14 @@ impl<V: Copy + Drop> Named<V> {
         }
     }
 
-    /// The value under a name.
+    /// Returns the value under a name, if there is one.
     pub fn get(&self, name: &str) -> Option<V>
         ensures { result ≡ value_of self.now name.now }
     {
         self.values.get(name).copied()
     }
 
-    /// Sets the value of a name, which keeps its place if it is there. If there is no memory, nothing is set.
+    /// Sets the value of a name, which keeps its place if it is there. On allocation failure nothing is set.
     pub fn set(&mut self, name: &str, value: V) -> Result<(), AllocError>
         ensures ok { OnOk result (self.new ≡ set_value self.old name.now value) }
         ensures err { OnErr result (self.new ≡ self.old) }
@@ -49,7 +49,7 @@ impl<V: Copy + Drop> Named<V> {
         Ok(())
     }
 
-    /// Removes a name, and says whether it was there. It does not allocate.
+    /// Removes a name, and returns whether it was there. Does not allocate.
     pub fn remove(&mut self, name: &str) -> bool
         ensures removed { self.new ≡ remove_value self.old name.now }
         ensures there { result ≡ is_some (value_of self.old name.now) }
@@ -57,14 +57,14 @@ impl<V: Copy + Drop> Named<V> {
         self.values.shift_remove(name).is_some()
     }
 
-    /// How many names there are.
+    /// Returns the number of names.
     pub fn len(&self) -> usize
         ensures { result ≡ length self.now }
     {
         self.values.len()
     }
 
-    /// The name at a place, counted from 0.
+    /// Returns the name at a place, counted from 0.
     pub fn name_at(&self, at: usize) -> &str
         requires { at < length self.now }
         ensures { slice_get (map (λ p. p.0) self.entry.now) at ≡ Some result.now }
@@ -75,7 +75,7 @@ impl<V: Copy + Drop> Named<V> {
         }
     }
 
-    /// Removes all names. It does not allocate.
+    /// Removes all names. Does not allocate.
     pub fn clear(&mut self)
         ensures { self.new ≡ [] }
     {

@@ -4,7 +4,7 @@ ghost use Rattle.std.specs.Prelude.{◌≡◌, ℤ, Some};
 use hook_changes::CallbackId;
 use std::marker::Model;
 
-/// A priority, which contracts see as a whole number of 32 bits. Lower ones run earlier.
+/// A priority, which contracts see as a whole number of 32 bits. Smaller ones run earlier.
 #[derive(Clone, Copy, PartialEq, Eq, Hash)]
 pub struct Priority {
     number: i32,
@@ -19,14 +19,14 @@ impl Model for Priority {
 }
 
 impl Priority {
-    /// The priority of this number.
+    /// Makes the priority of this number.
     pub fn new(number: i32) -> Self
         ensures { result ≡ number }
     {
         Priority { number }
     }
 
-    /// The priority as a number.
+    /// Returns the priority as a number.
     pub fn number(self) -> i32
         ensures { result ≡ self }
     {

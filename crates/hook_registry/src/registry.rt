@@ -38,7 +38,7 @@ impl Model for Registry {
 }
 
 impl Registry {
-    /// Nothing registered, no tags and nothing fired. It does not allocate.
+    /// Makes a registry with nothing registered, no tags and nothing fired. Does not allocate.
     pub fn new(alloc: Global) -> Self
         ensures { result ≡ record { table = []; tags = []; counts = [] } }
     {
@@ -52,8 +52,8 @@ impl Registry {
 
     /// Registers a callback under a hook and a priority, for a number of arguments (Code Reference, add_filter).
     ///
-    /// Callbacks of one priority run in the order of adding. One that is there keeps its place and takes the count.
-    /// If there is no memory, nothing is registered.
+    /// Callbacks of one priority run in the order of adding. One that is there keeps its place and takes the new count.
+    /// On allocation failure nothing is registered.
     pub fn add(
         &mut self,
         hook: &HookName,
@@ -72,7 +72,7 @@ impl Registry {
         Ok(())
     }
 
-    /// Registers a callback as [`Registry::add`] does, and says whether it is a new one.
+    /// Registers a callback as [`Registry::add`] does, and returns whether it is a new one.
     pub fn insert(
         &mut self,
         hook: &HookName,
@@ -92,7 +92,7 @@ impl Registry {
         self.hooks.insert(hook, priority, callback, accepted)
     }
 
-    /// Removes one registration, and says whether it was there (Code Reference, remove_filter). It does not allocate.
+    /// Removes one registration, and returns whether it was there (Code Reference, remove_filter). Does not allocate.
     pub fn remove(&mut self, hook: &HookName, priority: i32, callback: CallbackId) -> bool
         ensures removed { self.new ≡ record self.old { table = remove self.old.table hook.now priority callback } }
         ensures there { result ≡ list_any (is_of priority callback) (registrations self.old.table hook.now) }
@@ -100,37 +100,38 @@ impl Registry {
         self.hooks.remove(hook, priority, callback)
     }
 
-    /// Removes all registrations of a hook, or those of one priority (Code Reference, remove_all_filters). It takes
-    /// no memory.
+    /// Removes all registrations of a hook, or those of one priority (Code Reference, remove_all_filters). Does not
+    /// allocate.
     pub fn remove_all(&mut self, hook: &HookName, priority: Option<i32>)
         ensures { self.new ≡ record self.old { table = remove_all self.old.table hook.now priority } }
     {
         self.hooks.remove_all(hook, priority);
     }
 
-    /// Whether a hook has any registration (Code Reference, has_filter without a callback). A text that is no hook's
-    /// name has none.
+    /// Returns whether a hook has any registration (Code Reference, has_filter without a callback). A text that is no
+    /// hook's name has none.
     pub fn has(&self, hook: &str) -> bool
         ensures { result ≡ has self.now.table hook.now }
     {
         self.hooks.has(hook)
     }
 
-    /// The smallest priority of a callback under a hook (Code Reference, has_filter with a callback).
+    /// Returns the smallest priority of a callback under a hook, if it has one (Code Reference, has_filter with a
+    /// callback).
     pub fn priority_of(&self, hook: &str, callback: CallbackId) -> Option<i32>
         ensures { result ≡ priority_of self.now.table hook.now callback }
     {
         self.hooks.priority_of(hook, callback)
     }
 
-    /// The callbacks of a hook at a priority, in the order of adding. Only the hook's own registrations are read.
+    /// Returns the callbacks of a hook at a priority, in the order of adding. Reads only the hook's own registrations.
     pub fn group(&self, hook: &HookName, priority: i32) -> Result<Vec<Entry>, AllocError>
         ensures { IfOk result (λ entries. entries.items ≡ group self.now.table hook.now priority) }
     {
         self.hooks.group(hook, priority)
     }
 
-    /// The smallest priority of a hook, above another if that is given.
+    /// Returns the smallest priority of a hook, or the smallest one above another if that is given.
     pub fn next_priority(&self, hook: &HookName, after: Option<i32>) -> Option<i32>
         ensures { result ≡ next_priority self.now.table hook.now after }
     {
@@ -138,7 +139,7 @@ impl Registry {
     }
 
     /// Makes a callback the handler of a tag (Code Reference, add_shortcode). A tag that is there keeps its place and
-    /// takes the new handler; if there is no memory, nothing changes.
+    /// takes the new handler. On allocation failure nothing changes.
     pub fn add_tag(&mut self, tag: &TagName, callback: CallbackId) -> Result<(), AllocError>
         ensures added { OnOk result
             (self.new ≡ record self.old { tags = set_value self.old.tags tag.now callback }) }
@@ -147,7 +148,7 @@ impl Registry {
         self.tags.set(tag.as_str(), callback)
     }
 
-    /// Removes a tag, and says whether it was there (Code Reference, remove_shortcode). It does not allocate.
+    /// Removes a tag, and returns whether it was there (Code Reference, remove_shortcode). Does not allocate.
     pub fn remove_tag(&mut self, tag: &str) -> bool
         ensures removed { self.new ≡ record self.old { tags = remove_value self.old.tags tag.now } }
         ensures there { result ≡ is_some (value_of self.old.tags tag.now) }
@@ -155,21 +156,21 @@ impl Registry {
         self.tags.remove(tag)
     }
 
-    /// Removes all tags (Code Reference, remove_all_shortcodes). It does not allocate.
+    /// Removes all tags (Code Reference, remove_all_shortcodes). Does not allocate.
     pub fn remove_all_tags(&mut self)
         ensures { self.new ≡ record self.old { tags = [] } }
     {
         self.tags.clear();
     }
 
-    /// The handler of a tag. A text that is no tag has none.
+    /// Returns the handler of a tag. A text that is no tag has none.
     pub fn tag(&self, tag: &str) -> Option<CallbackId>
         ensures { result ≡ value_of self.now.tags tag.now }
     {
         self.tags.get(tag)
     }
 
-    /// The tags, in the order in which they were first added.
+    /// Returns the tags, in the order in which they were first added.
     pub fn tag_names(&self) -> Result<Vec<TagName>, AllocError>
         ensures { IfOk result (λ names. names.items ≡ map (λ p. p.0) self.now.tags) }
     {
@@ -184,7 +185,7 @@ impl Registry {
         Ok(names)
     }
 
-    /// How many tags there are. Each of them is a name that a shortcode may have.
+    /// Returns the number of tags. Each of them is a name that a shortcode may have.
     pub fn tag_count(&self) -> usize
         ensures count { result ≡ length self.now.tags }
         ensures names { IsTrue (list_all (λ p. is_tag_name p.0) self.now.tags) }
@@ -192,7 +193,7 @@ impl Registry {
         self.tags.len()
     }
 
-    /// The name of a tag, if there is a tag of this name. Only this one is looked up and copied.
+    /// Returns the tag of this name, if there is one. Only this one is looked up and copied.
     pub fn tag_named(&self, name: &str) -> Result<Option<TagName>, AllocError>
         ensures { IfOk result (λ tag. tag ≡ option_map (λ handler. name.now) (value_of self.now.tags name.now)) }
     {
@@ -206,8 +207,8 @@ impl Registry {
         }
     }
 
-    /// Counts one firing of an action, and gives the new count, which stays at 4,294,967,295 once there (Code
-    /// Reference, did_action). If there is no memory, nothing is counted.
+    /// Counts one firing of an action, and returns the new count, which stays at 4,294,967,295 once there (Code
+    /// Reference, did_action). On allocation failure nothing is counted.
     pub fn fire(&mut self, hook: &HookName) -> Result<u32, AllocError>
         ensures fired { IfOk result (λ count.
             (count ≡ min (times_fired self.old.counts hook.now + 1) 4294967295)
@@ -221,7 +222,8 @@ impl Registry {
         Ok(count)
     }
 
-    /// How often an action was fired (Code Reference, did_action). A text that is no hook's name was never fired.
+    /// Returns how often an action was fired (Code Reference, did_action). A text that is no hook's name was never
+    /// fired.
     pub fn did(&self, hook: &str) -> u32
         ensures { result ≡ times_fired self.now.counts hook.now }
     {

@@ -11,15 +11,14 @@ ghost use Rattle.hook_registry.specs.Table.{
 };
 ghost use Rattle.hook_registry.specs.Worked.{the_title, at, with_title, far_apart, shared};
 
-/// What a few changes of one hook leave. `at p c n` is callback `c` at priority `p` with `n` accepted
-/// arguments, and `negsuc n` is the number -(n + 1). The call itself does nothing: it carries these
-/// facts.
+/// Works out what a few changes of one hook leave. `at p c n` is callback `c` at priority `p` with `n` accepted
+/// arguments, and `negsuc n` is the number -(n + 1). The call itself does nothing: it carries these facts.
 pub fn worked_table()
-    // Callbacks of one priority stand in the order of adding, whatever their numbers.
+    // Callbacks of one priority are in the order of adding, whatever their numbers.
     ensures adding_order { group (with_title (at (pos 10) 7 1 ∷ at (pos 10) 3 2 ∷ [])) the_title (pos 10)
         ≡ record { callback = 7; accepted = 1 } ∷ record { callback = 3; accepted = 2 } ∷ [] }
 
-    // A callback added again at its priority keeps its place and takes the count.
+    // A callback added again at its priority keeps its place and takes the new count.
     ensures added_again { registrations
         (with_title (at (pos 10) 7 1 ∷ at (pos 10) 3 2 ∷ at (pos 10) 7 5 ∷ [])) the_title
         ≡ at (pos 10) 7 5 ∷ at (pos 10) 3 2 ∷ [] }
@@ -38,14 +37,14 @@ pub fn worked_table()
         the_title (negsuc 9)
         ≡ Some (negsuc 4) }
 
-    // Taking one registration away leaves the callback's others and the other callbacks.
+    // Removing one registration leaves the callback's others and the other callbacks.
     ensures removed { registrations (remove shared the_title (pos 10) 7) the_title
         ≡ at (pos 9) 7 2 ∷ at (pos 10) 3 2 ∷ [] }
     ensures removed_all_at { registrations (remove_all shared the_title (Some (pos 10))) the_title
         ≡ at (pos 9) 7 2 ∷ [] }
     ensures removed_all { registrations (remove_all shared the_title None) the_title ≡ [] }
 
-    // Of several priorities of one callback the smallest is given.
+    // If a callback has several priorities, the smallest one is returned.
     ensures least_priority { priority_of (with_title (at (pos 20) 7 1 ∷ at (pos 10) 3 1 ∷ at (pos 5) 7 1 ∷ []))
         the_title 7
         ≡ Some (pos 5) }

@@ -1,4 +1,4 @@
--- Where a match stands: from its place on, within the text.
+-- Where a match lies: from its place on, within the text.
 use Rattle.std.proofs.Common.{◌≡◌, ℕ, ◌+◌, ◌<◌, ◌≤◌, false, List, [], length, Option, Some, None, refl, sym, ap, ◌∙◌, subst, arith, inl, inr, take_while, drop}
 use Rattle.std.specs.Prelude.{◌==◌, slice_index, nat_lt, ◌&&◌, ◌-◌, bytes_eq}
 use Rattle.std.specs.List.{list_any}
@@ -26,7 +26,7 @@ abbrev IsMatch : Piece → Type 0
 IsMatch (Plain s) = ⊥
 IsMatch (Match _ _ _ _ _ _) = Unit {0}
 
--- what holds of each answer of the last step holds of the whole
+-- what holds of each result of the last step holds of the whole
 after_step : {A B : Type 0} (P : B → Type 0) (o : Option A) (f : A → Option B) → ((x : A) (y : B) → f x ≡ Some y → P y) → (y : B) → (o >>= f) ≡ Some y → P y
 after_step P None f h y e = absurd (none-some y e)
 after_step P (Some x) f h y e = h x y e

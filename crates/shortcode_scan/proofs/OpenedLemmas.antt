@@ -22,7 +22,7 @@ use Rattle.shortcode_scan.specs.Live.{ends_name, is_name_end, opening_of, opens_
 use Rattle.shortcode_scan.specs.Opened.{name_opened, is_among, AreOpenedBefore, AreOpened}
 use Rattle.shortcode_scan.proofs.PlaceLemmas.{NonePasses, first_place-none, first_place-none_is}
 
--- a byte that ends a name is none of a name
+-- a byte that ends a name is no byte of a name
 ends_is_none : (b : ℕ) → ends_name b ≡ true → is_name_byte b ≡ false
 ends_is_none b e = grind (arith, common_steps)
 
@@ -122,7 +122,7 @@ among_only name names n =
     by_or false e = e
 
 module _ (text : List ℕ) (names : List (Bor (List ℕ))) where
-  -- nothing is opened if there is not_there `[`
+  -- nothing is opened if there is no `[`
   pub AreOpenedBefore-none : (at n : ℕ) → AreOpenedBefore text at names → NonePasses (λ j. slice_index text j == 91) at n → AreOpenedBefore text n names
   AreOpenedBefore-none at n before none = record {
     every = λ name k lt bracket e. elim (cases_lt k at) [

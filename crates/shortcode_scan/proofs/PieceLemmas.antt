@@ -1,4 +1,4 @@
--- The pieces that the matches cut a text into: one list, and one alone.
+-- The pieces that the matches cut a text into: exactly one list.
 use Rattle.std.proofs.Common.{◌≡◌, ℕ, zero, suc, ◌+◌, ◌<◌, ◌≤◌, Bool, true, false, List, [], ◌∷◌, ◌++◌, length, Option, Some, None, refl, sym, ◌∙◌, ap, subst, drop, arith, inl, inr, append_assoc}
 use Rattle.std.specs.Prelude.{◌==◌, slice_index, slice_range, nat_lt, is_some}
 use Rattle.std.specs.Option.{option_map_or}
@@ -83,7 +83,7 @@ module _ (names : List (List ℕ)) (text : List ℕ) where
   follows_plain i j (Plain s ∷ ps) other h none lt le = other
   follows_plain i j (Match whole n a c o x ∷ ps) other h none lt le = none-some _ (sym (none i (omega arith) lt) ∙ h.0)
 
-  -- one list of pieces alone is the cut of a text
+  -- only one list of pieces is the cut of a text
   pub one_list : (i : ℕ) (ps qs : List Piece) → PiecesFrom names text i ps → PiecesFrom names text i qs → ps ≡ qs
   one_list i [] [] g h = refl
   one_list i [] (Plain s ∷ qs) g h = absurd (omega (arith, g, h.1, PiecesFrom-le s.end qs h.4))

@@ -17,7 +17,7 @@ is_name_end text e = nat_le (length text) e || ends_name (slice_index text e)
 abbrev pub opening_of : List ℕ → List ℕ
 opening_of name = codes "[" ++ name
 
--- whether this opening, `[` and a name, stands at place k, and the name ends after it (do_shortcode)
+-- whether this opening, `[` and a name, is at place k, and the name ends after it (do_shortcode)
 abbrev pub opens_at : List ℕ → List ℕ → ℕ → Bool
 opens_at text opening k = occurs_at text opening k && is_name_end text (k + length opening)
 
@@ -37,6 +37,6 @@ live names text = filter (is_live text) names
 abbrev pub is_one_of : List (List ℕ) → List ℕ → Bool
 is_one_of names name = list_any (bytes_eq name) names
 
--- both have the same names, in whatever order and however often
+-- both have the same names, in any order and any number of times
 abbrev pub AreSameNames : List (List ℕ) → List (List ℕ) → Type 0
 AreSameNames names others = (name : List ℕ) → is_one_of names name ≡ is_one_of others name

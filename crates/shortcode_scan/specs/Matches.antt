@@ -1,4 +1,4 @@
--- Where a shortcode stands in a text (Shortcode API, get_shortcode_regex).
+-- Where a shortcode lies in a text (Shortcode API, get_shortcode_regex).
 -- Bytes: `[` is 91, `]` is 93, `/` is 47.
 use Rattle.std.specs.Prelude.{ℕ, ◌+◌, ◌-◌, Bool, ◌&&◌, ◌==◌, if◌then◌else◌, nat_lt, List, ◌++◌, length, drop, slice_index, take_while, bytes_eq, codes, Option, Some, None}
 use Rattle.std.specs.List.{list_any}
@@ -48,7 +48,7 @@ abbrev pub with_closing : List ℕ → ℕ → ℕ → Option ℕ → Core
 with_closing name e r None = without_content (span e r) (r + 1)
 with_closing name e r (Some k) = record { atts = span e r; content = span (r + 1) k; end = k + length (closing_tag name) }
 
--- what stands from the end e of the name on, if the first `]` from there stands at r: a `/` right before it,
+-- what follows the end e of the name, if the first `]` from there on is at r: a `/` right before it,
 -- after the name, closes the shortcode and is no attribute text (get_shortcode_regex)
 unfoldable pub core_of : List ℕ → List ℕ → ℕ → ℕ → Core
 core_of text name e r =

@@ -33,7 +33,7 @@ BeginsNotPlain (Plain s ∷ ps) = ⊥
 BeginsNotPlain (Match whole name atts content opening closing ∷ ps) = Unit {0}
 
 -- The pieces follow one another from place i to the end of the text. Each match is the one that begins there.
--- No match begins at any place of a plain piece, and no plain piece is empty or stands next to another (do_shortcode).
+-- No match begins at any place of a plain piece, and no plain piece is empty or next to another (do_shortcode).
 abbrev pub PiecesFrom : List (List ℕ) → List ℕ → ℕ → List Piece → Type 0
 PiecesFrom names text i [] = i ≡ length text
 PiecesFrom names text i (Plain s ∷ ps) =
@@ -69,6 +69,6 @@ pieces_within names text zero i = []
 pieces_within names text (suc n) i =
     option_map_or (λ p. plain_between i (start_of p) ++ (p ∷ pieces_within names text n (end_of p))) (match_from names text i) (plain_between i (length text))
 
--- the pieces of the text, as a list: the one that `IsPieces` allows (do_shortcode)
+-- the pieces of the text, as a list: the only one that `IsPieces` allows (do_shortcode)
 abbrev pub pieces_of : List (List ℕ) → List ℕ → List Piece
 pieces_of names text = pieces_within names text (length text + 1) 0

@@ -110,7 +110,7 @@ unended_plain : pieces_of b (codes "]x[b x") ≡ plain_between 0 6
 unfolding computing
 unended_plain = refl
 
--- the order of the names, and how often each is given, cut nothing else
+-- the order of the names, and how often each is given, do not change the pieces
 other_order : pieces_of (codes "i" ∷ b) (codes "[b]x[i/]") ≡ pieces_of (codes "b" ∷ codes "i" ∷ b) (codes "[b]x[i/]")
 unfolding computing
 other_order = refl

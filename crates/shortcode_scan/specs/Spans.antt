@@ -4,7 +4,7 @@ use Rattle.shortcode_scan.specs.declared.Span.{Span}
 use Rattle.shortcode_scan.specs.declared.Piece.{Piece}
 use Rattle.shortcode_scan.specs.declared.Piece.TheVariants.{Plain, Match}
 
--- the span is a part of the text, between two of its characters
+-- the span is a part of the text that begins and ends between two of its characters
 pub record IsSpanOf (text : List ℕ) (s : Span) : Type 0 where
   pub ordered : s.start ≤ s.end
   pub first : IsCharBoundary text s.start

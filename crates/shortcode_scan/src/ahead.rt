@@ -1,4 +1,4 @@
-//! What a scan has found ahead of its place, so that no stretch of the text is searched twice for the same thing.
+//! What a scan has found ahead of its place, so that no part of the text is searched twice for the same thing.
 ghost use Rattle.std.specs.Prelude.{◌≡◌, ◌+◌, ◌<◌, ◌≤◌, ◌++◌, ◌∷◌, [], length, IsTrue, IfOk, IfSome, OnOk};
 ghost use Rattle.memchr.specs.Find.{occurs_at};
 ghost use Rattle.shortcode_scan.specs.Places.{first_place};
@@ -10,14 +10,14 @@ use hook_changes::TagName;
 use memchr::memmem::Finder;
 use std::alloc::{AllocError, Global};
 
-/// What a search from a place on found: up to there nothing has to be searched again.
+/// The result of a search from a place on. Up to what it found, nothing has to be searched again.
 #[derive(Clone, Copy)]
 pub(crate) struct Ahead {
     pub(crate) from: usize,
     pub(crate) next: Option<usize>,
 }
 
-/// What the searches of a scan found.
+/// The results of the searches of a scan.
 #[derive(Drop)]
 pub(crate) struct Memory {
     /// The next `]`.
@@ -29,7 +29,7 @@ pub(crate) struct Memory {
 }
 
 impl Ahead {
-    /// What is known if no search was made: that nothing begins at the end of the text.
+    /// Returns what is known before any search: that nothing begins at the end of the text.
     fn unsearched(text: &[u8]) -> Ahead
         ensures { result ≡ unsearched text.now }
     {
@@ -39,7 +39,7 @@ impl Ahead {
         }
     }
 
-    /// Whether it answers a search from the place on too.
+    /// Returns whether it covers a search from the place on: that is not before `from`, nor after what was found.
     fn covers(&self, from: usize) -> bool
         ensures { IsTrue result → (self.now.from ≤ from) × IfSome self.now.next (λ k. from ≤ k) }
     {
@@ -51,7 +51,7 @@ impl Ahead {
     }
 }
 
-/// The first `]` from a place on.
+/// Finds the first `]` from a place on.
 pub(crate) fn next_bracket(text: &[u8], ahead: &mut Ahead, from: usize) -> Option<usize>
     requires in_text { from ≤ length text.now }
     requires known { ahead.old.next ≡ bracket_from text.now ahead.old.from }
@@ -69,7 +69,7 @@ pub(crate) fn next_bracket(text: &[u8], ahead: &mut Ahead, from: usize) -> Optio
     ahead.next
 }
 
-/// The first place of the tag from a place on.
+/// Finds the first place of the tag from a place on.
 pub(crate) fn next_closing(
     text: &[u8],
     tag: &Finder<'static>,
@@ -93,7 +93,7 @@ pub(crate) fn next_closing(
     ahead.next
 }
 
-/// Adds the search for the closing tag of a name, which has not begun.
+/// Adds the search for the closing tag of a name. Nothing is searched yet.
 fn push_search(
     alloc: Global,
     name: &[u8],
@@ -109,7 +109,7 @@ fn push_search(
     Ok(())
 }
 
-/// What is known before the first search.
+/// Returns what is known before the first search.
 pub(crate) fn first_memory(
     alloc: Global,
     names: &[TagName],

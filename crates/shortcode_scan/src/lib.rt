@@ -1,7 +1,7 @@
 //! Shortcodes in a text: which names it opens, and the pieces that the shortcodes cut it into.
 //!
-//! A shortcode is `[name attributes]`, `[name attributes/]` or `[name attributes]content[/name]` (Shortcode API). Its
-//! pieces are found leftmost first, in one pass, each stretch of the text searched once for each thing.
+//! A shortcode is `[name attributes]`, `[name attributes/]` or `[name attributes]content[/name]` (Shortcode API). The
+//! pieces of a text are found leftmost first, in one pass, and no part of it is searched twice for the same thing.
 #![tactic(auto)]
 
 ghost use Rattle.std.specs.Prelude.{◌≡◌, ◌≢◌, ◌<◌, ◌↔◌, ℕ, List, [], length, slice_index, slice_range};
@@ -23,7 +23,7 @@ mod live_names;
 mod matches;
 mod places;
 
-/// A stretch of a text, from `start` up to and without `end`, in bytes counted from 0.
+/// A part of a text, from `start` up to but not including `end`, in bytes counted from 0.
 #[derive(Clone, Copy, PartialEq, Eq)]
 pub struct Span {
     pub start: usize,
@@ -41,24 +41,24 @@ pub enum Piece {
         whole: Span,
         /// The name in its opening tag.
         name: Span,
-        /// The attribute text: what stands between the name and the end of the opening tag.
+        /// The attribute text: what lies between the name and the end of the opening tag.
         atts: Span,
-        /// The text up to the closing tag. If there is none, an empty stretch at the end of the shortcode, before a
-        /// closing extra.
+        /// The text up to the closing tag. If there is no closing tag, an empty span at the end of the shortcode,
+        /// before a closing extra.
         content: Span,
-        /// Whether a second `[` stands before the name.
+        /// Whether there is a second `[` before the name.
         opening_extra: bool,
-        /// Whether a further `]` stands at its end.
+        /// Whether there is a further `]` at its end.
         closing_extra: bool,
     },
 }
 
-/// The largest number of names that are searched for one by one: for a few that is faster than to collect what a text
-/// opens.
+/// The maximum number of names that are searched for one by one. For a few names that is faster than collecting all
+/// that a text opens.
 const FEW_NAMES: usize = 8;
 
-/// Whether no `[` of the text has a `]` after it. No shortcode ends in such a text, so it is one plain piece, whatever
-/// names there are.
+/// Returns whether no `[` of the text has a `]` after it. No shortcode ends in such a text, so it is one plain piece,
+/// whatever names there are.
 pub fn is_plain(text: &str) -> bool
     ensures brackets { IsTrue result
         ↔ ((i : ℕ) (j : ℕ) → i < j → slice_index text.now i ≡ 91 → slice_index text.now j ≢ 93) }
@@ -72,15 +72,16 @@ pub fn is_plain(text: &str) -> bool
     }
 }
 
-/// Whether the text has no `[`. Such a text opens no name.
+/// Returns whether the text has no `[`. Such a text opens no name.
 fn opens_nothing(text: &str) -> bool
     ensures { IsTrue result → (names : List (List ℕ)) → live names text.now ≡ [] }
 {
     opening_from(text.as_bytes(), 0).is_none()
 }
 
-/// The names that the text opens, in the order of `names`: those that stand in it as `[` and the name, followed by the
-/// end or by one of `<`, `>`, `&`, `/`, `[`, `]`, `=` and the bytes up to the space (Shortcode API, do_shortcode).
+/// Finds the names that the text opens, in the order of `names`: those that occur in it as `[` and the name, followed
+/// by the end or by one of `<`, `>`, `&`, `/`, `[`, `]`, `=` and the bytes up to the space (Shortcode API,
+/// do_shortcode).
 ///
 /// It fails only if memory runs out.
 pub fn live(alloc: Global, names: &[TagName], text: &str) -> Result<Vec<TagName>, AllocError>
@@ -96,8 +97,8 @@ pub fn live(alloc: Global, names: &[TagName], text: &str) -> Result<Vec<TagName>
     }
 }
 
-/// The names that the text opens as [`live`] says, each once, in the order in which it first opens them, whether there
-/// are shortcodes of these names or not. The text is gone over once.
+/// Finds all names that the text opens in the sense of [`live`], each once, in the order in which it first opens them,
+/// whether or not there are shortcodes of these names. Goes through the text once.
 ///
 /// It fails only if memory runs out.
 pub fn opened_names(alloc: Global, text: &str) -> Result<Vec<&str>, AllocError>
@@ -109,8 +110,8 @@ pub fn opened_names(alloc: Global, text: &str) -> Result<Vec<&str>, AllocError>
     Vec::from_slice(alloc, names.as_slice())
 }
 
-/// The pieces of the text, with `live` as the names that count (Shortcode API, get_shortcode_regex): from its first
-/// byte to its last, leftmost shortcode first, none within another.
+/// Returns the pieces of the text, with `live` as the names that count (Shortcode API, get_shortcode_regex): from its
+/// first byte to its last, leftmost shortcode first, none within another.
 ///
 /// It fails only if memory runs out.
 pub fn pieces(alloc: Global, live: &[TagName], text: &str) -> Result<Vec<Piece>, AllocError>
@@ -122,7 +123,8 @@ pub fn pieces(alloc: Global, live: &[TagName], text: &str) -> Result<Vec<Piece>,
     Ok(pieces)
 }
 
-/// What a span names of the text. It lies between two of its characters, as each span of its pieces does.
+/// Returns the part of the text at a span. The span begins and ends between two characters of the text, as each span of
+/// its pieces does.
 pub fn text_at(text: &str, span: Span) -> &str
     requires { IsSpanOf text.now span }
     ensures { result.now ≡ slice_range text.now span.start span.end }
@@ -130,7 +132,7 @@ pub fn text_at(text: &str, span: Span) -> &str
     &text[span.start..span.end]
 }
 
-/// A law: a text has one list of pieces, and one alone.
+/// A law: a text has exactly one list of pieces.
 pub fn one_cut()
     ensures pieces { (names : List (List ℕ)) (text : List ℕ)
         → IsPieces names text (pieces_of names text) }
@@ -138,13 +140,13 @@ pub fn one_cut()
         → IsPieces names text pieces → pieces ≡ pieces_of names text }
 {}
 
-/// A law: names cut a text alike, in whatever order they are and however often each of them is given.
+/// A law: how names cut a text depends neither on their order nor on how often each of them is given.
 pub fn names_cut_alike()
     ensures { (names : List (List ℕ)) (others : List (List ℕ)) (text : List ℕ)
         → AreSameNames names others → pieces_of names text ≡ pieces_of others text }
 {}
 
-/// A law: the pieces of a text join to the text.
+/// A law: the pieces of a text, joined, are the text.
 pub fn pieces_join()
     ensures { (names : List (List ℕ)) (text : List ℕ) (pieces : List Piece)
         → IsPieces names text pieces → joined text pieces ≡ text }

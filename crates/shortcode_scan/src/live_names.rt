@@ -10,7 +10,7 @@ use indexmap::IndexSet;
 use memchr::memmem::Finder;
 use std::alloc::{AllocError, Global};
 
-/// Whether a byte after a name ends it.
+/// Returns whether a byte after a name ends it.
 fn ends_name(byte: u8) -> bool
     ensures { result ≡ ends_name byte }
 {
@@ -20,7 +20,7 @@ fn ends_name(byte: u8) -> bool
     )
 }
 
-/// Whether a name ends at a place of the text.
+/// Returns whether a name that goes up to a place of the text ends there.
 fn is_name_end(text: &[u8], end: usize) -> bool
     requires { end ≤ length text.now }
     ensures { result ≡ is_name_end text.now end }
@@ -28,7 +28,7 @@ fn is_name_end(text: &[u8], end: usize) -> bool
     end == text.len() || ends_name(text[end])
 }
 
-/// Whether the text has this opening, `[` and a name, and the name ends after it.
+/// Returns whether the text has this opening, `[` and a name, at a place at which the name ends after it.
 fn has_opening(text: &[u8], opening: &[u8]) -> bool
     requires { 0 < length opening.now }
     ensures { result ≡ has_opening text.now opening.now }
@@ -44,7 +44,7 @@ fn has_opening(text: &[u8], opening: &[u8]) -> bool
     false
 }
 
-/// Whether the text opens the name.
+/// Returns whether the text opens the name.
 pub(crate) fn is_live(alloc: Global, text: &[u8], name: &[u8]) -> Result<bool, AllocError>
     ensures { IfOk result (λ live. live ≡ is_live text.now name.now) }
 {
@@ -52,7 +52,7 @@ pub(crate) fn is_live(alloc: Global, text: &[u8], name: &[u8]) -> Result<bool, A
     Ok(has_opening(text, &opening))
 }
 
-/// Those of the names that the text opens, each searched for by itself: the text is gone over once for each.
+/// Finds those of the names that the text opens, by a search for each: it goes through the text once for each name.
 pub(crate) fn live_few(
     alloc: Global,
     names: &[TagName],
@@ -69,7 +69,8 @@ pub(crate) fn live_few(
     Ok(found)
 }
 
-/// What the `[` at a place opens: the bytes of names after it, if there are some and a name may end where they do.
+/// Returns what the `[` at a place opens: the bytes of names after it, if there are any and a name may end at the place
+/// at which they end.
 #[tactic(auto, unfolding(crate::specs::Opened::name_opened))]
 fn name_opened(text: &str, at: usize) -> Option<&str>
     requires within { at < length text.now }
@@ -86,7 +87,8 @@ fn name_opened(text: &str, at: usize) -> Option<&str>
     }
 }
 
-/// The names that a text opens, each once: the text is gone over once, however many names are looked for among them.
+/// Finds the names that a text opens, each once: it goes through the text once, however many names are looked for among
+/// them.
 pub(crate) fn opened(alloc: Global, text: &str) -> Result<IndexSet<&str>, AllocError>
     ensures { IfOk result (λ names. AreOpened text.now names.keys) }
 {
@@ -102,7 +104,7 @@ pub(crate) fn opened(alloc: Global, text: &str) -> Result<IndexSet<&str>, AllocE
     Ok(names)
 }
 
-/// Those of the names that the text opens, each looked up among all that it opens.
+/// Finds those of the names that the text opens, by looking each up among all that it opens.
 pub(crate) fn live_many(
     alloc: Global,
     names: &[TagName],

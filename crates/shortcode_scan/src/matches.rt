@@ -31,7 +31,7 @@ struct Found {
     piece: Piece,
 }
 
-/// Where the name of a match at a place would begin.
+/// Finds where the name of a match at a place would begin.
 #[tactic(auto, unfolding(crate::specs::Matches::name_start))]
 fn name_start(text: &[u8], at: usize) -> Option<usize>
     ensures value { result ≡ name_start text.now at }
@@ -47,14 +47,14 @@ fn name_start(text: &[u8], at: usize) -> Option<usize>
     }
 }
 
-/// A live name that stands in the text: which one, and where it ends.
+/// A live name in the text: which one it is, and where it ends.
 #[derive(Clone, Copy)]
 struct Name {
     index: usize,
     end: usize,
 }
 
-/// The name that stands at a place.
+/// Finds the live name at a place, if there is one.
 #[tactic(auto, unfolding(crate::specs::Matches::name_at))]
 fn name_at(names: &[TagName], text: &[u8], start: usize) -> Option<Name>
     requires in_text { start ≤ length text.now }
@@ -78,7 +78,7 @@ fn name_at(names: &[TagName], text: &[u8], start: usize) -> Option<Name>
     })
 }
 
-/// How many bytes of a name stand at the front.
+/// Counts the bytes of names at the front.
 pub(crate) fn name_len(rest: &[u8]) -> usize
     ensures value { result ≡ prefix_len is_name_byte rest.now }
     ensures within { result ≤ length rest.now }
@@ -86,7 +86,7 @@ pub(crate) fn name_len(rest: &[u8]) -> usize
     rest.iter().take_while(|b| is_name_byte(**b)).count()
 }
 
-/// The first of the names that is the run.
+/// Returns the index of the first of the names that is the run, if one is.
 fn index_of(names: &[TagName], run: &[u8]) -> Option<usize>
     ensures none { IfNone result (list_any (λ n. bytes_eq n run.now) names.now ≡ false) }
     ensures some { IfSome result (λ k. list_any (λ n. bytes_eq n run.now) names.now ≡ true) }
@@ -101,7 +101,7 @@ fn index_of(names: &[TagName], run: &[u8]) -> Option<usize>
     None
 }
 
-/// What follows the end of a name, if the first `]` from there on is at `bracket`.
+/// Finds what follows the end of a name, if the first `]` from there on is at `bracket`.
 #[tactic(auto, unfolding(crate::specs::Matches::core_of))]
 fn core_of(
     text: &[u8],
@@ -149,7 +149,7 @@ fn core_of(
     }
 }
 
-/// What follows the end of a live name, if the first `]` from there on is at `bracket`.
+/// Finds what follows the end of a live name, if the first `]` from there on is at `bracket`.
 fn core_named(
     names: &[TagName],
     text: &[u8],
@@ -173,7 +173,7 @@ fn core_named(
     core
 }
 
-/// The match at a place with this core.
+/// Makes the match at a place with this core.
 #[tactic(auto, unfolding(crate::specs::Matches::with_extras))]
 fn with_extras(text: &[u8], start: usize, name: Span, core: Core) -> Found
     requires { (start < core.end) × (core.end ≤ length text.now) }
@@ -200,7 +200,7 @@ fn with_extras(text: &[u8], start: usize, name: Span, core: Core) -> Found
     Found { start, end, piece }
 }
 
-/// The match at a place, if there is one.
+/// Finds the match at a place, if there is one.
 #[tactic(auto, unfolding(crate::specs::Matches::match_at))]
 fn match_at(names: &[TagName], text: &[u8], memory: &mut Memory, at: usize) -> Option<Found>
     requires { Knows names.now text.now memory.old }
@@ -219,7 +219,7 @@ fn match_at(names: &[TagName], text: &[u8], memory: &mut Memory, at: usize) -> O
     Some(with_extras(text, at, Span { start, end }, core))
 }
 
-/// The first match from a place on. If no `]` is ahead no shortcode ends, and the search is over.
+/// Finds the first match from a place on. If there is no `]` ahead, no shortcode ends, and the search is over.
 fn next_match(names: &[TagName], text: &[u8], memory: &mut Memory, from: usize) -> Option<Found>
     requires in_text { from ≤ length text.now }
     requires known { Knows names.now text.now memory.old }
@@ -252,7 +252,7 @@ fn push_plain(pieces: &mut Vec<Piece>, start: usize, end: usize) -> Result<(), A
     Ok(())
 }
 
-/// The pieces of a text, given by its bytes.
+/// Returns the pieces of a text, whose bytes these are.
 pub(crate) fn cut(alloc: Global, live: &[TagName], bytes: &[u8]) -> Result<Vec<Piece>, AllocError>
     ensures { IfOk result (λ pieces. IsPieces live.now bytes.now pieces.items) }
 {

@@ -9,7 +9,7 @@ use memchr::memchr;
 use memchr::memmem::{Finder, FinderBuilder};
 use std::alloc::{AllocError, Global};
 
-/// Whether the text has this byte, which is not 0, at a place.
+/// Returns whether the text has this byte, which is not 0, at a place.
 pub(crate) fn has_byte_at(text: &[u8], at: usize, byte: u8) -> bool
     requires { 0 < byte }
     ensures value { result ≡ (slice_index text.now at == byte) }
@@ -18,7 +18,7 @@ pub(crate) fn has_byte_at(text: &[u8], at: usize, byte: u8) -> bool
     at < text.len() && text[at] == byte
 }
 
-/// The first place of a byte in the text, from a place on.
+/// Finds the first place of a byte in the text, from a place on.
 fn byte_from(text: &[u8], byte: u8, from: usize) -> Option<usize>
     requires { from ≤ length text.now }
     ensures value { result ≡ first_place (λ k. slice_index text.now k == byte) from (length text.now) }
@@ -30,7 +30,7 @@ fn byte_from(text: &[u8], byte: u8, from: usize) -> Option<usize>
     }
 }
 
-/// The first `[` in the text, from a place on.
+/// Finds the first `[` in the text, from a place on.
 pub(crate) fn opening_from(text: &[u8], from: usize) -> Option<usize>
     requires { from ≤ length text.now }
     ensures value { result ≡ first_place (λ k. slice_index text.now k == 91) from (length text.now) }
@@ -43,7 +43,7 @@ pub(crate) fn opening_from(text: &[u8], from: usize) -> Option<usize>
     byte_from(text, b'[', from)
 }
 
-/// The first `]` in the text, from a place on.
+/// Finds the first `]` in the text, from a place on.
 pub(crate) fn bracket_from(text: &[u8], from: usize) -> Option<usize>
     requires { from ≤ length text.now }
     ensures value { result ≡ bracket_from text.now from }
@@ -52,7 +52,7 @@ pub(crate) fn bracket_from(text: &[u8], from: usize) -> Option<usize>
     byte_from(text, b']', from)
 }
 
-/// The first place of the tag in the text, from a place on.
+/// Finds the first place of the tag in the text, from a place on.
 pub(crate) fn tag_from(text: &[u8], tag: &Finder<'_>, from: usize) -> Option<usize>
     requires in_text { from ≤ length text.now }
     requires some { 0 < length tag.now }
@@ -65,7 +65,7 @@ pub(crate) fn tag_from(text: &[u8], tag: &Finder<'_>, from: usize) -> Option<usi
     }
 }
 
-/// `[` and the name.
+/// Makes the opening of a name: `[` and the name.
 pub(crate) fn opening(alloc: Global, name: &[u8]) -> Result<Vec<u8>, AllocError>
     ensures { IfOk result (λ tag. tag.items ≡ opening_of name.now) }
 {
@@ -75,7 +75,7 @@ pub(crate) fn opening(alloc: Global, name: &[u8]) -> Result<Vec<u8>, AllocError>
     Ok(tag)
 }
 
-/// A search for `[/`, the name and `]`.
+/// Makes a search for the closing tag of a name: `[/`, the name and `]`.
 pub(crate) fn closing_tag(alloc: Global, name: &[u8]) -> Result<Finder<'static>, AllocError>
     ensures { IfOk result (λ tag. tag ≡ closing_tag name.now) }
 {

@@ -121,7 +121,7 @@ impl Stored {
         self.templates = Some(templates);
     }
 
-    /// Finds what a path asks for in the site, whose options these are. The tables are asked only if it is not kept.
+    /// Finds what a path asks for in the site, whose options these are. The tables are read only if it is not kept.
     pub(crate) fn found(
         &mut self,
         alloc: Global,

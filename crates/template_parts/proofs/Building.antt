@@ -19,7 +19,7 @@ use Rattle.template_parts.specs.declared.steps.Step.{Step}
 use Rattle.template_parts.specs.Pages.{Placed, over, part_node_items, elements_items, loop_items}
 use Rattle.template_parts.specs.Places.{node_item, template_of, item_at, items_of, step_items, items_left, post_at}
 
--- what a list gives, and then one more of its elements
+-- what a list is mapped to, and then one more of its elements
 pub each_more : {X A : Type 0} (f : X → List A) (g : Option X → List A) (xs : List X) (at : ℕ) → ((x : X) → g (Some x) ≡ f x) → at < length xs
     → flat_map f (take at xs) ++ g (slice_get xs at) ≡ flat_map f (take (at + 1) xs)
 each_more f g xs at same inside = let on : at + 1 ≡ suc at = omega arith in go xs at inside ∙ ap (λ n. flat_map f (take n xs)) (sym on)

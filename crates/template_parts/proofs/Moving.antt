@@ -31,14 +31,14 @@ pub busy : {A P : Type 0} (x : A) → Some x ≡ None → P
 busy x is = absurd (let none : Some x ≡ None = is in cc)
 
 module _ (engine : Engine) (settings : Settings) where
-  -- an action that was started stands for the action
+  -- the work of an action that was started is that of the action
   pub action_begun : (world now : World) (hook given : Text) (args : List Text) (left : Trace Text) → given ≡ hook → args ≡ []
       → left ≡ job_left engine world (Action given args)
       → action_pass engine settings world hook ≡ begun now left (Some Dropped)
   unfolding action_pass acted
   action_begun world now hook given args left same none is = rw (is, same, none) refl
 
-  -- a filter that was started stands for the value that is shown
+  -- the work of a filter that was started is that of the value that is shown
   pub filter_begun : (world now : World) (shown : Shown) (hook given value : Text) (args : List Text) (left : Trace Text) → given ≡ hook
       → left ≡ job_left engine world (Filters given value args)
       → shown_pass engine settings (shown_as shown) world hook value args ≡ begun now left (Some (Printed shown))
@@ -64,13 +64,13 @@ module _ (engine : Engine) (settings : Settings) where
   unfolding page_pass
   all_left posts world items is = ap (each (placed_pass engine settings) world) (sym is)
 
-  -- the item of a step that stands in no template
+  -- the item of a step that is in no template
   pub hook_step : (posts : List Post) (world : World) (step : Step) (hook : Hook) (name : Text) → step.place ≡ place.Hook hook → name ≡ hook_name hook
       → action_pass engine settings world name ≡ step_pass engine settings posts world step
   unfolding item_pass
   hook_step posts world step hook name is same = rw (is, same) refl
 
-  -- the item of a step that stands in a template
+  -- the item of a step that is in a template
   pub item_step : (posts : List Post) (world : World) (step : Step) (stored : Stored) (post : Option Post) (item : Item) → step.place ≡ place.Stored stored
       → stored_item settings stored ≡ Some item
       → post ≡ post_at posts step.post → item_pass engine settings post world item ≡ step_pass engine settings posts world step

@@ -15,6 +15,6 @@ candidates kind.Page = codes "page" ∷ codes "singular" ∷ []
 candidates kind.Month = codes "date" ∷ codes "archive" ∷ []
 candidates kind.NotFound = codes "404" ∷ []
 
--- the first of them that is stored, and else `index`
+-- the first of them that is stored, or `index` if none is
 abbrev pub template_choice : FoundKind → List (List ℕ) → List ℕ
 template_choice kind stored = unwrap_or (find (λ name. list_any (bytes_eq name) stored) (candidates kind)) (codes "index")

@@ -66,11 +66,11 @@ hand_in None = None
 hand_in (Some ahead) = ahead.hand
 
 module _ {S : Type 0} where
-  -- a job was begun that stands for the work, or the work is done
+  -- the work is that of the job that was begun, or it is done
   abbrev pub IsBegun : Engine → Work → Run S → Option Hand → Type 0
   IsBegun engine work run hand = (work ≡ begun (world_of run) (left_of engine run) hand) × (fault_of run ≡ None) × (hand ≡ None → IsIdle run)
 
-  -- the same of a run
+  -- the same for a run
   abbrev pub run_left : Engine → Settings → List Post → Run S → Ahead → Work
   run_left engine settings posts run ahead = ahead_of engine settings posts (world_of run) (left_of engine run) ahead
 

@@ -25,7 +25,7 @@ module _ {S : Type 0} where
   abbrev pub run_in : Page S → Run S
   run_in page = page.run
 
-  -- the fault that the page has answered, if it has
+  -- the fault that the page has returned, if it has
   abbrev pub refusal_of : Page S → Option RunFault
   refusal_of page = page.fault
 
@@ -33,7 +33,7 @@ module _ {S : Type 0} where
   abbrev pub page_left : Engine → Page S → Work
   page_left engine page = left_at engine page.settings page.found.posts (world_of page.run) (left_of engine page.run) page.ahead
 
-  -- the page can go on, unless it has answered a fault: its run can, and no job is under way but one that it waits for
+  -- the page can go on, unless it has returned a fault: its run can, and no job is under way but one that it waits for
   abbrev pub CanGoOn : Page S → Type 0
   CanGoOn page = refusal_of page ≡ None → (fault_of page.run ≡ None) × (hand_in page.ahead ≡ None → IsIdle page.run)
 
@@ -47,7 +47,7 @@ pub record IsDone (left : Work) (text : Text) : Type 0 where
   pub done : left ≡ Done world tt
   pub whole : text ≡ world.output
 
--- what was left of a page is a world, and then what is left now; or nothing; or the fault; or memory was refused
+-- what was left of a page is a world, and then what is left now; or nothing; or the fault; or memory ran out
 abbrev pub Turns : Work → Result PageTurn RunFault → World → Work → Type 0
 Turns left (Ok turn.More) world now = left ≡ Turn world now
 Turns left (Ok (turn.Done status bytes)) world now = IsDone left bytes.items

@@ -98,7 +98,7 @@ module _ (engine : Engine) (settings : Settings) where
   abbrev pub placed_pass : World → Option Post × Item → Work
   placed_pass world placed = item_pass placed.0 world placed.1
 
--- an item of a page, and the post that it speaks of; outside a loop there is none
+-- an item of a page, and the post that it is about; outside a loop there is none
 abbrev pub Placed : Type 0
 Placed = Option Post × Item
 
@@ -106,7 +106,7 @@ Placed = Option Post × Item
 abbrev pub over : Option Post → List Item → List Placed
 over post items = map (λ item. (post, item)) items
 
--- a part has items alone, so of any other node nothing is printed
+-- a part has only items, so nothing is printed of any other node
 abbrev pub part_node_items : Node → List Item
 part_node_items (node.Element (element.Item item)) = item ∷ []
 part_node_items other = []
@@ -153,6 +153,6 @@ pub record IsPage (work : Work) (text : Text) : Type 0 where
   pub made : outcome_of work ≡ Ended world tt
   pub whole : text ≡ world.output
 
--- the work was refused so, unless it was for an allocation failure
+-- the work was refused with this fault, unless that is an allocation failure
 abbrev pub IsRefusedBy : Work → RunFault → Type 0
 IsRefusedBy work why = why ≢ fault.OutOfMemory → outcome_of work ≡ Fault why

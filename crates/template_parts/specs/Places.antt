@@ -1,4 +1,4 @@
--- Where the items of a page stand.
+-- Where the items of a page are.
 use Rattle.std.specs.Prelude.{◌≡◌, ℕ, List, [], ◌∷◌, ◌++◌, flat_map, slice_get, Option, None, Some, option_and_then, option_to_list, codes}
 use Rattle.site_records.specs.declared.post.Post.{Post}
 use Rattle.hook_machine.specs.World.{Text}

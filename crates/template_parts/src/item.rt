@@ -1,4 +1,4 @@
-//! Beginning an item of a page, and handing on what its job gives.
+//! Beginning an item of a page, and handing on the result of its job.
 ghost use Rattle.std.specs.Prelude.{◌≡◌, [], ◌∷◌, IfOk, IfErr, OnOk, option_map, codes, decimal};
 ghost use Rattle.hook_machine.specs.Runs.{world_of, fault_of, engine_of, IsReady};
 ghost use Rattle.hook_machine.specs.Trace.{Done};
@@ -283,7 +283,7 @@ fn print_shown<S: Stated>(
     }
 }
 
-/// The path of a post or page.
+/// Returns the path of a post or page.
 fn permalink(alloc: Global, post: &Post) -> Result<Text, AllocError>
     ensures { IfOk result (λ path. path ≡ permalink post.now) }
 {

@@ -7,7 +7,8 @@ ghost use Rattle.hook_machine.specs.Throughout.{names_active, KeepsOutInactive, 
 ghost use Rattle.template_parts.specs.declared.settings.Settings.{Settings};
 ghost use Rattle.template_parts.specs.Pages.{page_pass};
 
-/// A law: a page makes no more invocations than calls are left, so it is done after one turn more at the latest.
+/// A law: a page makes at most as many invocations as there are calls left, so it is done after at most one turn more
+/// than that.
 pub fn pages_keep_to_their_calls()
     ensures { (engine : Engine) (settings : Settings) (posts : List Post) (world : World)
         → IsWithinCalls world.calls (page_pass engine settings posts world) }
@@ -19,7 +20,7 @@ pub fn pages_keep_to_their_depth()
         → world.depth ≤ 32 → IsWithinDepth (page_pass engine settings posts world) }
 {}
 
-/// A law: if no callback of an inactive plugin is registered as a page begins, none is after any of its invocations.
+/// A law: if no callback of an inactive plugin is registered when a page begins, none is after any of its invocations.
 pub fn inactive_callbacks_stay_out_of_pages()
     ensures { (engine : Engine) (settings : Settings) (posts : List Post) (world : World)
         → IsTrue (names_active engine.plugins world)

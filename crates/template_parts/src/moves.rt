@@ -15,7 +15,7 @@ use hook_machine::{Left, Run, RunFault, Turn};
 use site_records::Post;
 use std::alloc::Global;
 
-/// What a page has still to do, beside its run.
+/// What a page has still to do, apart from its run.
 #[derive(Drop)]
 pub struct Ahead {
     /// What becomes of the result of the job under way, if one is.
@@ -23,7 +23,7 @@ pub struct Ahead {
     pub steps: Left<Step>,
 }
 
-/// What a move came to.
+/// The result of a move.
 #[derive(Clone, Copy, Debug)]
 pub enum Moved {
     /// A callback was invoked.
@@ -34,7 +34,7 @@ pub enum Moved {
     Over,
 }
 
-/// Where a page stops.
+/// Why a page stops.
 #[derive(Clone, Copy, Debug)]
 pub enum Stop {
     /// A callback was invoked.
@@ -43,7 +43,7 @@ pub enum Stop {
     Over,
 }
 
-/// The post at a place, if there is one.
+/// Returns the post at a place, if there is one.
 fn post_at(posts: &[Post], place: Option<usize>) -> Option<&Post>
     ensures { option_map (λ p. p.now) result ≡ post_at posts.entry.now place }
 {
@@ -77,7 +77,7 @@ fn begin_step<S: Stated>(
     }
 }
 
-/// One move: a turn of the job under way, or the begin of the next step.
+/// Makes one move: a turn of the job under way, or the beginning of the next step.
 fn one_move<S: Stated>(
     alloc: Global,
     run: &mut Run<'_, S>,
@@ -115,7 +115,7 @@ fn one_move<S: Stated>(
     }
 }
 
-/// Move after move, until a callback was invoked or nothing is left.
+/// Makes moves until a callback was invoked or nothing is left.
 pub(crate) fn next_stop<S: Stated>(
     alloc: Global,
     run: &mut Run<'_, S>,

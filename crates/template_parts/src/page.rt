@@ -19,7 +19,7 @@ use std::alloc::{AllocError, Global};
 
 /// A page that is to be printed: what its path found, what its site says of pages, and the run of its request.
 ///
-/// It borrows the plugins, as the run does. Once a call has answered a fault, each later call answers that same fault.
+/// It borrows the plugins, as the run does. Once a call has returned a fault, each later call returns that same fault.
 #[derive(Drop)]
 pub struct Page<'p, S> {
     alloc: Global,
@@ -31,7 +31,7 @@ pub struct Page<'p, S> {
     fault: Option<RunFault>,
 }
 
-/// What a turn of a page gave.
+/// The result of a turn of a page.
 #[derive(Drop)]
 pub enum PageTurn {
     /// A callback was invoked, and its echo and changes were carried out. There is more to do.
@@ -40,7 +40,7 @@ pub enum PageTurn {
     Done(u16, Vec<u8>),
 }
 
-/// What is left of a page, which its first turn works out.
+/// Returns what is left of a page, and works it out in the first turn.
 fn ahead_from(
     alloc: Global,
     settings: &Settings,
@@ -64,7 +64,7 @@ impl<'p, S: Stated> Page<'p, S> {
     ghost use Rattle.template_parts.specs.Page.{found_in, settings_in, run_in, refusal_of, page_left};
     ghost use Rattle.template_parts.specs.Page.{CanGoOn, IsSamePage, HasStatus, Turns};
 
-    /// A page over what was found. The run has loaded its plugins and done nothing else; this runs nothing.
+    /// Makes a page over what was found. The run has loaded its plugins and done nothing else; this runs nothing.
     pub fn begin(alloc: Global, found: SharedFound, settings: Settings, run: Run<'p, S>) -> Self
         requires idle { CanBegin run }
         ensures found { found_in result ≡ found }
@@ -112,8 +112,8 @@ impl<'p, S: Stated> Page<'p, S> {
         }
     }
 
-    /// Prints the page to its end, from wherever it stands: its status, 200 or 404, and its bytes. A page that is
-    /// refused shows nothing.
+    /// Prints the page to its end, from wherever it is, and returns its status, 200 or 404, and its bytes. A page that
+    /// is refused shows nothing.
     pub fn finish(self, cache: &mut PieceCache) -> Result<(u16, Vec<u8>), RunFault>
         requires { CanGoOn self }
         ensures status { IfOk result (λ page. page.0 ≡ (found_in self.entry).status) }
@@ -129,7 +129,7 @@ impl<'p, S: Stated> Page<'p, S> {
         printed
     }
 
-    /// A turn of a page that has answered no fault.
+    /// Makes a turn of a page that has returned no fault.
     fn go_on(&mut self, cache: &mut PieceCache) -> Result<PageTurn, RunFault>
         requires ready { CanGoOn self.old }
         requires sound { refusal_of self.old ≡ None }
@@ -162,7 +162,7 @@ impl<'p, S: Stated> Page<'p, S> {
         }
     }
 
-    /// Turn after turn, to the page's end.
+    /// Makes turns to the page's end, and returns the page's status and bytes.
     fn print(&mut self, cache: &mut PieceCache) -> Result<(u16, Vec<u8>), RunFault>
         requires { CanGoOn self.old }
         ensures status { IfOk result (λ page. page.0 ≡ (found_in self.old).status) }

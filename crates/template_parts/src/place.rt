@@ -1,4 +1,4 @@
-//! The places in a site's templates where the items of a page stand.
+//! The places of a page's items in its site's templates.
 ghost use Rattle.std.specs.Prelude.{◌≡◌, option_map};
 ghost use Rattle.template_parts.specs.Places.{hook_name, node_item, element_item};
 ghost use Rattle.template_parts.specs.Places.{elements_in, template_of, stored_item};
@@ -7,7 +7,7 @@ use crate::settings::Settings;
 use hook_changes::Listed;
 use template_trees::{Element, Item, Node, Part, SharedTemplate};
 
-/// An action that is fired though no template names it.
+/// An action that is fired although no template names it.
 #[derive(Clone, Copy, Debug)]
 pub enum Hook {
     PluginsLoaded,
@@ -19,7 +19,7 @@ pub enum Hook {
     GetFooter,
 }
 
-/// Which of a loop's two bodies.
+/// One of a loop's two bodies.
 #[derive(Clone, Copy, Debug)]
 pub enum Side {
     /// The one for each post.
@@ -39,7 +39,7 @@ pub enum Stored {
     Part { part: Part, at: usize },
 }
 
-/// Where an item stands.
+/// The place of an item.
 #[derive(Clone, Copy)]
 pub enum Place {
     /// In no template.
@@ -95,7 +95,7 @@ fn elements_in(side: Side, node: &Node) -> Option<&Listed<Element>>
     }
 }
 
-/// The template that a site stores for a part, if it does.
+/// Returns the template that a site stores for a part, if there is one.
 pub(crate) fn template_of(settings: &Settings, part: Part) -> Option<&SharedTemplate>
     ensures { option_map (λ t. t.now) result ≡ template_of settings.entry.now part }
 {
@@ -106,7 +106,7 @@ pub(crate) fn template_of(settings: &Settings, part: Part) -> Option<&SharedTemp
     }
 }
 
-/// The item at a place, if there is one.
+/// Returns the item at a place, if there is one.
 pub(crate) fn stored_item(settings: &Settings, place: Stored) -> Option<&Item>
     ensures { option_map (λ i. i.now) result ≡ stored_item settings.entry.now place }
 {

@@ -2,7 +2,7 @@
 use hook_changes::Text;
 use template_trees::SharedTemplate;
 
-/// What a page needs of its site, beside the posts that were found.
+/// What a page needs from its site, apart from the posts that were found.
 #[derive(Drop)]
 pub struct Settings {
     /// The option `blogname`, empty if it isn't set.

@@ -1,4 +1,4 @@
-//! The steps of a page: where its items stand, and over which posts, in order.
+//! The steps of a page: the places of its items, each with its post, in order.
 ghost use Rattle.std.specs.Prelude.{◌≡◌, ◌++◌, List, None, Some, IfOk};
 ghost use Rattle.std.specs.Prelude.{OnOk, map, flat_map, option_and_then, slice_get};
 ghost use Rattle.site_records.specs.declared.post.Post.{Post};
@@ -63,7 +63,7 @@ fn push_part(places: &mut Vec<Place>, settings: &Settings, part: Part) -> Result
     push_stored(places, settings, part)
 }
 
-/// Adds an element that stands at a place.
+/// Adds an element that is at a place.
 fn push_element(
     places: &mut Vec<Place>,
     settings: &Settings,
@@ -183,7 +183,7 @@ fn push_template(
     Ok(())
 }
 
-/// The steps of a page: the actions of a request, and then its template.
+/// Makes the steps of a page: the actions of a request, and then its template.
 pub(crate) fn steps_of_page(
     alloc: Global,
     settings: &Settings,

@@ -3,7 +3,7 @@ ghost use Rattle.std.specs.Prelude.{◌≡◌, ◌∷◌, [], codes};
 ghost use Rattle.site_records.specs.declared.found.FoundKind.{FoundKind};
 ghost use Rattle.template_parts.specs.Choice.{template_choice};
 
-/// Which template some pages have. The call itself does nothing: it carries these facts.
+/// Works out which template some pages have. The call itself does nothing: it carries these facts.
 pub fn worked_choices()
     // A front goes by `front-page`, but not one that lists posts while a page is to be shown there.
     ensures front { template_choice FoundKind.Front (codes "home" ∷ codes "front-page" ∷ [])
