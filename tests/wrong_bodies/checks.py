@@ -59,7 +59,7 @@ class Said:
         A law is proved by lemmas, so of an edit that turns what a law says those count that failed."""
         if edit.cycle is not None:
             return [it for folder, of in self.errors.items() if folder.endswith(f"+{edit.cycle}") for it in of]
-        return self.errors.get(edit.turns, []) + ([] if edit.in_body else self.lemmas)
+        return self.errors.get(edit.turns, []) + ([] if edit.in_bodies else self.lemmas)
 
     def refusal(self, edit):
         """By what the edit's own function refuses it, or None if nothing shows that it does."""

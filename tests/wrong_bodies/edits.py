@@ -20,9 +20,11 @@ class Edit:
         self.label = f"{crate}/{stem}"
         self.turns = turns
         self.pairs = pairs
-        # Set by read_edits: the recursion that the function is part of, if any, and whether all lies in its body.
+        # Set by read_edits: the recursion that the function is part of, if any; the bodies in which the texts lie, each
+        # as its file and the line where its function begins; and whether all lies in bodies, one of them the function's.
         self.cycle = None
-        self.in_body = True
+        self.bodies = set()
+        self.in_bodies = True
 
     def applied(self, texts, read):
         """The texts with this edit made in them, or None if an old text isn't exactly once in its file.
@@ -62,21 +64,22 @@ def parsed(crate, path):
 
 
 def function_around(text, at):
-    """The function in whose body a place of a source lies, as its name and its recursion, or None.
+    """The function in whose body a place of a source lies, as its name, its line and its recursion, or None.
 
-    It is the nearest one above whose body has begun: rt fmt puts the brace that opens the body of a function with
-    clauses on a line of its own, and of one without at the end of the line that ends its signature."""
+    It is the nearest one above, if its body has begun and not ended: rt fmt puts the brace that opens the body of a
+    function with clauses on a line of its own, and of one without at the end of the line that ends its signature; the
+    one that closes it is alone on a line, as far to the right as the signature."""
     lines = text[:at].split("\n")
     for number in range(len(lines) - 1, -1, -1):
         head = FUNCTION.match(lines[number])
         if not head:
             continue
-        opens = {f"{head[1]}{{", f"{head[1]}{{}}"}
+        opens, closes = f"{head[1]}{{", f"{head[1]}}}"
         stated = False
-        for line in lines[number:-1]:
+        for at_line, line in enumerate(lines[number:-1], number):
             stated = stated or re.match(r"\s*(requires|ensures|ghost)\b", line) is not None
-            if line in opens or not stated and line.endswith("{"):
-                return head[2], cycle_above(lines, number)
+            if line == opens or not stated and line.endswith("{"):
+                return None if closes in lines[at_line:-1] else (head[2], number, cycle_above(lines, number))
         return None
     return None
 
@@ -106,14 +109,19 @@ def read_edits(crate, folder, path):
         except OSError as fault:
             raise BadEdit(f"there is no file {file}") from fault
 
-    texts = {}
+    texts, names = {}, set()
     for file, old, new in edit.pairs:
         text = texts[file] if file in texts else read(file)
         if text.count(old) != 1:
             raise BadEdit(f"an 'old:' text is in {file} {text.count(old)} times, and not once")
         found = function_around(text, text.index(old)) if file.startswith("src/") else None
-        name = edit.turns.rpartition("::")[2]
-        edit.in_body = edit.in_body and found is not None and found[0] == name
-        edit.cycle = edit.cycle or (found and found[1])
+        if found:
+            name, line, cycle = found
+            names.add(name)
+            edit.bodies.add((file, line))
+            edit.cycle = edit.cycle or cycle
+        else:
+            edit.in_bodies = False
         texts[file] = text.replace(old, new)
+    edit.in_bodies = edit.in_bodies and edit.turns.rpartition("::")[2] in names
     return edit

@@ -19,9 +19,14 @@ class Round:
     def read(self, file):
         return Path(self.crate.folder, file).read_text(encoding="utf-8")
 
+    @staticmethod
+    def collide(one, other):
+        in_one_recursion = one.cycle is not None and one.cycle == other.cycle
+        return one.turns == other.turns or in_one_recursion or not one.bodies.isdisjoint(other.bodies)
+
     def takes(self, edit):
-        """Adds an edit, if it turns a function and a recursion of its own and its texts are still there."""
-        if any(it.turns == edit.turns or it.cycle and it.cycle == edit.cycle for it in self.edits):
+        """Adds an edit, if it turns a function, bodies and a recursion of its own and its texts are still there."""
+        if any(self.collide(it, edit) for it in self.edits):
             return False
         texts = edit.applied(self.texts, self.read)
         if texts is None:
@@ -77,8 +82,8 @@ def judged(edit, said, is_alone):
 def try_edits(toolchain, crate, edits, kept):
     """Tries a crate's edits, in as few rounds as show them all."""
     verdicts, tries = [], {it.label: 0 for it in edits}
-    left = [it for it in edits if it.in_body]
-    alone = [it for it in edits if not it.in_body]
+    left = [it for it in edits if it.in_bodies]
+    alone = [it for it in edits if not it.in_bodies]
     while left or alone:
         made = round_of(crate, left or alone[:1])
         for edit, said in try_round(toolchain, made, kept):
