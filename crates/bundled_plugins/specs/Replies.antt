@@ -1,5 +1,6 @@
 -- What the bundled callbacks are stated to reply, by their numbers.
-use Rattle.std.specs.Prelude.{ℕ, Bool, pos, ◌==◌, ◌&&◌, not, List, [], ◌∷◌, ◌++◌, length, take, drop, codes, decimal, flat_map, bytes_eq, unwrap_or, slice_get, Option, None, Some, if◌then◌else◌}
+use Rattle.std.specs.Prelude.{ℕ, Bool, pos, ◌==◌, ◌&&◌, not, List, [], ◌∷◌, ◌++◌, length, take, drop, codes, decimal, flat_map, bytes_eq, unwrap_or}
+use Rattle.std.specs.Prelude.{slice_get, Option, None, Some, if◌then◌else◌}
 use Rattle.std.specs.List.{list_all}
 use Rattle.shortcode_atts.specs.Attributes.{Attributes, value_of}
 use Rattle.hook_changes.specs.declared.reply.Call.{Call}

@@ -1,5 +1,6 @@
 -- Which plugin has a callback or a name, by the plugins themselves.
-use Rattle.std.proofs.Common.{◌≡◌, ℕ, Bool, true, false, ◌==◌, ◌&&◌, ◌||◌, List, [], ◌∷◌, map, refl, ap, sym, ◌∙◌, Option, Some, None, bytes_eq, slice_get, zero, suc, Result, Ok, Err, IfOk, subst}
+use Rattle.std.proofs.Common.{◌≡◌, ℕ, Bool, true, false, ◌==◌, ◌&&◌, ◌||◌, List, [], ◌∷◌, map, refl, ap, sym, ◌∙◌, Option, Some, None, bytes_eq, slice_get}
+use Rattle.std.proofs.Common.{zero, suc, Result, Ok, Err, IfOk, subst}
 use Rattle.std.proofs.lemmas.Bool.{eqb-true}
 use Rattle.std.specs.Prelude.{find, is_some, option_map, if◌then◌else◌, IfSome}
 use Rattle.std.specs.Option.{option_copied}

@@ -1,5 +1,6 @@
 -- How the calls of the stepping machine move along what is left.
-use Rattle.std.proofs.Common.{◌≡◌, ◌⊎◌, inl, inr, ℕ, ◌+◌, ◌≤◌, ◌<◌, ℤ, true, false, List, [], ◌∷◌, ◌++◌, take, Option, None, Some, IsSome, Result, Ok, Err, refl, sym, ap, ◌∙◌}
+use Rattle.std.proofs.Common.{◌≡◌, ◌⊎◌, inl, inr, ℕ, ◌+◌, ◌≤◌, ◌<◌, ℤ, true, false, List, [], ◌∷◌, ◌++◌, take, Option, None, Some, IsSome, Result, Ok, Err}
+use Rattle.std.proofs.Common.{refl, sym, ap, ◌∙◌}
 use Rattle.std.specs.Prelude.{map, pos, is_some, bytes_eq}
 use Rattle.std.specs.List.{list_any}
 use Rattle.hook_changes.specs.Names.{is_hook_name}
@@ -35,16 +36,20 @@ use Rattle.hook_machine.specs.Cuts.{CutText, PassOverText}
 use Rattle.hook_machine.specs.Handling.{handling_pass}
 use Rattle.hook_machine.specs.World.{Text, World}
 use Rattle.hook_machine.specs.Trace.{Trace, Done, Refused, and_then}
-use Rattle.hook_machine.specs.Meaning.{Engine, Invocation, hook_call, arguments, value_after, pass, filter_pass, action_pass, fired, text_at, shortcode_filter, pieces_pass, shortcodes_pass, answered, invoke, first_or_empty, last_or_empty, has_answer, text_or_false}
+use Rattle.hook_machine.specs.Meaning.{Engine, Invocation, hook_call, arguments, value_after, pass, filter_pass, action_pass, fired, text_at}
+use Rattle.hook_machine.specs.Meaning.{shortcode_filter, pieces_pass, shortcodes_pass, answered, invoke, first_or_empty, last_or_empty, has_answer}
+use Rattle.hook_machine.specs.Meaning.{text_or_false}
 use Rattle.call_plans.specs.Position.{first_of, reach, next_entry}
 use Rattle.hook_machine.specs.Works.{bracketed, answer_shown}
-use Rattle.hook_machine.specs.Rest.{in_place, left_hook, risen, with_answer, pass_left, text_left, text_handed, pending_left, pending_handed, goes_on, handed, rest_with, then_rest, rest}
+use Rattle.hook_machine.specs.Rest.{in_place, left_hook, risen, with_answer, pass_left, text_left, text_handed, pending_left, pending_handed, goes_on}
+use Rattle.hook_machine.specs.Rest.{handed, rest_with, then_rest, rest}
 use Rattle.hook_machine.specs.declared.resuming.Job.{Job}
 use Rattle.hook_machine.specs.Jobs.{job_left, left_from}
 use Rattle.hook_machine.specs.Moves.{Moves, Shrinks, Invokes}
 use Rattle.hook_machine.proofs.Walk.{then_under}
 use Rattle.hook_machine.proofs.Ending.{filter_named, filter_unnamed, filter_unhooked, action_named, action_unnamed}
-use Rattle.hook_machine.proofs.Steps.{turn_refused, pass_goes, pass_ends, pass_begins, ask_plain, ask_apply, ask_act, ask_shortcodes, core_goes, text_begins, moves_onto, moves_same, then_done}
+use Rattle.hook_machine.proofs.Steps.{turn_refused, pass_goes, pass_ends, pass_begins, ask_plain, ask_apply, ask_act, ask_shortcodes, core_goes}
+use Rattle.hook_machine.proofs.Steps.{text_begins, moves_onto, moves_same, then_done}
 
 -- the position stays in its hook
 next_hook : (table : Table) (hook : Text) (at : Option ℤ) (es : List Entry)

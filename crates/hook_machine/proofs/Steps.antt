@@ -1,5 +1,6 @@
 -- How a stopped run moves along what is left of it: each law is one step of the frames.
-use Rattle.std.proofs.Common.{◌≡◌, ℕ, ◌+◌, ◌-◌, ◌≤◌, ◌<◌, ℤ, Bool, true, false, cond, ◌==◌, List, [], ◌∷◌, ◌++◌, take, Option, None, Some, Result, Ok, Err, refl, sym, ap, ◌∙◌}
+use Rattle.std.proofs.Common.{◌≡◌, ℕ, ◌+◌, ◌-◌, ◌≤◌, ◌<◌, ℤ, Bool, true, false, cond, ◌==◌, List, [], ◌∷◌, ◌++◌, take, Option, None, Some, Result, Ok, Err}
+use Rattle.std.proofs.Common.{refl, sym, ap, ◌∙◌}
 use Rattle.std.specs.Prelude.{map}
 use Rattle.hook_changes.specs.declared.reply.Call.{Call}
 use Rattle.hook_changes.specs.declared.reply.Reply.{Reply}
@@ -29,10 +30,13 @@ use Rattle.hook_machine.specs.declared.pieces.Work.{Work}
 use Rattle.hook_machine.specs.declared.pieces.Work.TheVariants as work
 use Rattle.hook_machine.specs.World.{Text, World}
 use Rattle.hook_machine.specs.Trace.{Trace, Done, Refused, Turn, and_then}
-use Rattle.hook_machine.specs.Meaning.{Engine, Invocation, hook_call, arguments, value_after, group_pass, priorities_pass, pass, filter_pass, action_pass, piece_pass, pieces_pass, shortcodes_pass, answered, deeper, follow, said, invoked, invoked_with, invoke, replied, first_or_empty, text_at}
+use Rattle.hook_machine.specs.Meaning.{Engine, Invocation, hook_call, arguments, value_after, group_pass, priorities_pass, pass, filter_pass, action_pass}
+use Rattle.hook_machine.specs.Meaning.{piece_pass, pieces_pass, shortcodes_pass, answered, deeper, follow, said, invoked, invoked_with, invoke, replied}
+use Rattle.hook_machine.specs.Meaning.{first_or_empty, text_at}
 use Rattle.hook_machine.specs.Works.{work_pass, answer_shown}
 use Rattle.call_plans.specs.Position.{first_of, reach, next_entry}
-use Rattle.hook_machine.specs.Rest.{begun, left_hook, risen, with_answer, above_left, pass_from, pass_left, pending_left, pending_handed, goes_on, handed, rest_with, then_rest, rest}
+use Rattle.hook_machine.specs.Rest.{begun, left_hook, risen, with_answer, above_left, pass_from, pass_left, pending_left, pending_handed, goes_on, handed}
+use Rattle.hook_machine.specs.Rest.{rest_with, then_rest, rest}
 use Rattle.hook_machine.specs.Moves.{Moves}
 use Rattle.hook_machine.proofs.Agree.{invoke-step}
 use Rattle.hook_machine.proofs.Ending.{invoke_some, deeper_within, deeper_beyond}

@@ -12,7 +12,8 @@ use Rattle.hook_machine.specs.declared.resuming.Job.{Job}
 use Rattle.hook_machine.specs.declared.resuming.Job.TheVariants as job
 use Rattle.hook_machine.specs.Jobs.{TurnsWithin}
 use Rattle.hook_machine.specs.Throughout.{worlds_of, names_active, KeepsOutInactive, IsWithinCalls, IsWithinDepth}
-use Rattle.hook_machine.proofs.Agree.{Agree, agree_done, agree_refused, agree_turn, agree_then, Keeps, agree_filter, agree_action, agree_shortcodes, same, Any, keeps_any}
+use Rattle.hook_machine.proofs.Agree.{Agree, agree_done, agree_refused, agree_turn, agree_then, Keeps, agree_filter, agree_action, agree_shortcodes, same}
+use Rattle.hook_machine.proofs.Agree.{Any, keeps_any}
 use Rattle.hook_machine.proofs.Registered.{keeps_names}
 
 pub agree-worlds : {A : Type 0} {I : World → Type 0} {c : ℕ} {t u : Trace A} → Agree I c t u → AllByRecursion I (worlds_of t)

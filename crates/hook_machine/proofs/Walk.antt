@@ -1,5 +1,6 @@
 -- A pass, without the bound by which it is defined: each priority that is reached has an entry, so a call is taken there.
-use Rattle.std.proofs.Common.{◌≡◌, ◌≢◌, ℕ, zero, suc, ◌-◌, ◌≤◌, ℤ, Bool, true, false, ◌||◌, ◌==◌, ◌++◌, cond, List, [], ◌∷◌, map, filter, Option, None, Some, refl, sym, ap, subst, arith}
+use Rattle.std.proofs.Common.{◌≡◌, ◌≢◌, ℕ, zero, suc, ◌-◌, ◌≤◌, ℤ, Bool, true, false, ◌||◌, ◌==◌, ◌++◌, cond, List, [], ◌∷◌, map, filter, Option, None}
+use Rattle.std.proofs.Common.{Some, refl, sym, ap, subst, arith}
 use Rattle.std.specs.Prelude.{fold, int_lt}
 use Rattle.std.specs.Int.{int_min}
 use Rattle.std.specs.Ordering.{int_eq}
@@ -15,7 +16,8 @@ use Rattle.hook_machine.specs.declared.pass.PassKind.{PassKind}
 use Rattle.hook_machine.specs.World.{Text, World}
 use Rattle.hook_machine.specs.Trace.{Trace, Done, Refused, Turn, and_then, chosen}
 use Rattle.hook_machine.specs.Meaning.{Engine, hook_call, group_pass, priorities_pass, said, invoked, invoked_with, invoke}
-use Rattle.hook_machine.proofs.Agree.{Agree, SameBelow, agree_done, agree_refused, agree_turn, agree_group, agree_deeper, agree_shortcodes, agree_follow, changed_all-calls, same, Any, keeps_any, invoke-step}
+use Rattle.hook_machine.proofs.Agree.{Agree, SameBelow, agree_done, agree_refused, agree_turn, agree_group, agree_deeper, agree_shortcodes, agree_follow}
+use Rattle.hook_machine.proofs.Agree.{changed_all-calls, same, Any, keeps_any, invoke-step}
 
 pub then_then : {A B C : Type 0} (t : Trace A) (f : World → A → Trace B) (g : World → B → Trace C)
     → and_then (and_then t f) g ≡ and_then t (λ w x. and_then (f w x) g)

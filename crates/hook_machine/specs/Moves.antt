@@ -64,13 +64,13 @@ way_of Turned frames = zero
 way_of (Handed x) frames = suc (weight_of frames)
 
 -- what a turn leads to: the next world, and then what is left now; or the result
-abbrev pub turn_gives : Turn → World → Trace Text → Trace Text
-turn_gives turn.More world now = turned_to world now
-turn_gives (turn.Done x) world now = Done world x
+abbrev pub trace_of_turn : Turn → World → Trace Text → Trace Text
+trace_of_turn turn.More world now = turned_to world now
+trace_of_turn (turn.Done x) world now = Done world x
 
 -- what was left is what the turn leads to; or it is the fault; or memory ran out
 abbrev pub Turns : Trace Text → Result Turn RunFault → World → Trace Text → Type 0
-Turns left (Ok turn) world now = left ≡ turn_gives turn world now
+Turns left (Ok turn) world now = left ≡ trace_of_turn turn world now
 Turns left (Err TooManyCalls) world now = left ≡ Refused TooManyCalls
 Turns left (Err TooDeep) world now = left ≡ Refused TooDeep
 Turns left (Err OutOfMemory) world now = ⊤

@@ -1,5 +1,6 @@
 -- What a change at one priority leaves at the priorities above it.
-use Rattle.std.proofs.Common.{◌≡◌, ℕ, ℤ, true, false, Bool, cond, not, ◌&&◌, true≢false, List, [], ◌∷◌, map, filter, refl, ap, sym, subst, ◌∙◌, Some, None, arith}
+use Rattle.std.proofs.Common.{◌≡◌, ℕ, ℤ, true, false, Bool, cond, not, ◌&&◌, true≢false, List, [], ◌∷◌, map, filter, refl, ap, sym, subst, ◌∙◌, Some, None}
+use Rattle.std.proofs.Common.{arith}
 use Rattle.std.specs.Prelude.{◌==◌, bytes_eq, int_lt, ◌<ℤ◌, ◌≤ℤ◌}
 use Rattle.std.specs.Ordering.{int_eq}
 use Rattle.std.proofs.lemmas.Bool.Decides.{Decides-int_eq}

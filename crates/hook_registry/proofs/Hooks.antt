@@ -1,5 +1,6 @@
 -- A map of hooks, seen as a table.
-use Rattle.std.proofs.Common.{◌≡◌, ℕ, zero, suc, true, false, Bool, cond, not, ◌<◌, ◌+◌, length, subst, arith, List, [], ◌∷◌, filter, String, string_bytes, refl, ap, sym, ◌∙◌, Some, None}
+use Rattle.std.proofs.Common.{◌≡◌, ℕ, zero, suc, true, false, Bool, cond, not, ◌<◌, ◌+◌, length, subst, arith, List, [], ◌∷◌, filter, String, string_bytes}
+use Rattle.std.proofs.Common.{refl, ap, sym, ◌∙◌, Some, None}
 use Rattle.std.specs.Prelude.{unwrap_or, bytes_eq, string_eq, position, slice_get, Result, Ok, Err, OnOk, OnErr}
 use Rattle.std.specs.List.{position_or_len}
 use Rattle.std.specs.Map.{lookup, keys_of, values_of}

@@ -1,5 +1,6 @@
 -- The registrations of one hook, from how they are kept.
-use Rattle.std.proofs.Common.{◌≡◌, ℕ, suc, ◌+◌, ◌<◌, ◌≤◌, ℤ, Bool, true, false, cond, not, ◌&&◌, ◌||◌, List, [], ◌∷◌, ◌++◌, map, filter, take, length, get_or, refl, ap, sym, ◌∙◌, Option, None, Some, is_some, true≢false, arith}
+use Rattle.std.proofs.Common.{◌≡◌, ℕ, suc, ◌+◌, ◌<◌, ◌≤◌, ℤ, Bool, true, false, cond, not, ◌&&◌, ◌||◌, List, [], ◌∷◌, ◌++◌, map, filter, take, length}
+use Rattle.std.proofs.Common.{get_or, refl, ap, sym, ◌∙◌, Option, None, Some, is_some, true≢false, arith}
 use Rattle.std.specs.Prelude.{◌==◌, ◌↔◌, IsTrue, slice_get, int_lt}
 use Rattle.std.specs.Int.{int_min}
 use Rattle.std.specs.Ordering.{int_eq}
@@ -34,7 +35,8 @@ same_other p c e = ap (λ b. b && c == e.0.callback) (same_numbers p e.0.priorit
     same_callbacks a b = grind arith
 
 pub kept-insert : (p : ℤ) (c a : ℕ) (es : Entries)
-    → map kept (insert_entry same_key es (record { priority = p; callback = c }) a) ≡ appended (map kept es) (record { priority = p; callback = c; accepted = a })
+    → map kept (insert_entry same_key es (record { priority = p; callback = c }) a)
+    ≡ appended (map kept es) (record { priority = p; callback = c; accepted = a })
 kept-insert p c a [] = refl
 kept-insert p c a (e ∷ es) =
     rw (same_other p c e)
@@ -43,7 +45,8 @@ kept-insert p c a (e ∷ es) =
     [ true ↦ refl | false ↦ ap (λ rs. kept e ∷ rs) (kept-insert p c a es) ])
 
 pub added-kept : (p : ℤ) (c a : ℕ) (es : Entries)
-    → by_priority (map kept (insert_entry same_key es (record { priority = p; callback = c }) a)) ≡ with_added (by_priority (map kept es)) (record { priority = p; callback = c; accepted = a })
+    → by_priority (map kept (insert_entry same_key es (record { priority = p; callback = c }) a))
+    ≡ with_added (by_priority (map kept es)) (record { priority = p; callback = c; accepted = a })
 added-kept p c a es = ap by_priority (kept-insert p c a es) ∙ sym (added-by_priority (record { priority = p; callback = c; accepted = a }) (map kept es))
 
 -- ---- a registration removed

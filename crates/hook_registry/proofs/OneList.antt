@@ -8,9 +8,11 @@ use Rattle.hook_registry.specs.declared.registration.Registration.{Registration}
 use Rattle.hook_registry.specs.Named.{set_value}
 use Rattle.hook_registry.specs.Table as table
 use Rattle.hook_registry.specs.Order.{by_priority}
-use Rattle.hook_registry.specs.Table.{Table, registrations, is_at, is_of, is_other, is_above, entry_of, with_added, keeping, group, has, next_priority, priority_of, least_priority}
+use Rattle.hook_registry.specs.Table.{Table, registrations, is_at, is_of, is_other, is_above, entry_of, with_added, keeping, group, has, next_priority}
+use Rattle.hook_registry.specs.Table.{priority_of, least_priority}
 use Rattle.hook_registry.proofs.RunOrder.{appended, added-by_priority, filter-by_priority, group-by_priority, least_priority-by_priority, any-by_priority}
-use Rattle.hook_registry.specs.OneList.{Listed, is_in, is_same, add, remove, registrations_in, TableChange, Added, Removed, RemovedAll, changed, list_changed, table_after, list_after}
+use Rattle.hook_registry.specs.OneList.{Listed, is_in, is_same, add, remove, registrations_in, TableChange, Added, Removed, RemovedAll, changed}
+use Rattle.hook_registry.specs.OneList.{list_changed, table_after, list_after}
 
 pub same_name : (a b : List ℕ) → bytes_eq a b ≡ true → a ≡ b
 same_name a b e = (bytes_eq-Decides a b).0 e

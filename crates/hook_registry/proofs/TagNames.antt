@@ -1,5 +1,6 @@
 -- Each tag has a name of its form.
-use Rattle.std.proofs.Common.{◌≡◌, ℕ, zero, suc, true, false, Bool, cond, ◌&&◌, List, [], ◌∷◌, map, take, ◌+◌, ◌++◌, add-one, refl, ap, sym, subst, ◌∙◌, Some, inl, inr}
+use Rattle.std.proofs.Common.{◌≡◌, ℕ, zero, suc, true, false, Bool, cond, ◌&&◌, List, [], ◌∷◌, map, take, ◌+◌, ◌++◌, add-one, refl, ap, sym, subst, ◌∙◌}
+use Rattle.std.proofs.Common.{Some, inl, inr}
 use Rattle.std.specs.Prelude.{bytes_eq, slice_get, is_some, if◌then◌else◌}
 use Rattle.std.specs.List.{list_all}
 use Rattle.std.proofs.lemmas.Bool.{cases_Bool, cond-false, false≢true}

@@ -136,7 +136,7 @@ impl HookTable {
     pub fn priority_of(&self, hook: &str, callback: CallbackId) -> Option<i32>
         ensures { result ≡ priority_of self.now hook.now callback }
     {
-        number_of(self.list(hook)?.least_of(callback))
+        number_of(self.list(hook)?.smallest_of(callback))
     }
 
     /// Returns the callbacks of a hook at a priority, in the order of adding.
@@ -153,7 +153,7 @@ impl HookTable {
     pub fn next_priority(&self, hook: &HookName, after: Option<i32>) -> Option<i32>
         ensures { result ≡ next_priority self.now hook.now after }
     {
-        number_of(self.list(hook.as_str())?.least_above(after))
+        number_of(self.list(hook.as_str())?.smallest_above(after))
     }
 }
 

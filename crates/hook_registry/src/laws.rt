@@ -46,7 +46,7 @@ pub fn one_list()
 /// A law: a change at a priority, under any hook, leaves every hook's callbacks at each larger priority as they were,
 /// and also which priority comes next after it and after each larger one. So a change at the running priority or a
 /// smaller one does not affect what a pass has still to come to.
-pub fn changes_behind()
+pub fn later_priorities_stay()
     ensures groups { (table : Table) (change : TableChange) (hook : List ℕ) (q r : ℤ)
         → priority_changed change ≡ Some q → q <ℤ r
         → group (changed table change) hook r ≡ group table hook r }

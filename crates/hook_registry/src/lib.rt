@@ -10,7 +10,7 @@ mod registration;
 mod registry;
 mod worked;
 
-pub use laws::{changes_behind, one_list};
+pub use laws::{later_priorities_stay, one_list};
 pub use registration::{Entry, Priority, Registration};
 pub use registry::Registry;
 pub use worked::worked_table;

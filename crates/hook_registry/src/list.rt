@@ -105,7 +105,7 @@ impl HookList {
     }
 
     /// Returns the smallest priority, or the smallest one above another if that is given.
-    pub fn least_above(&self, above: Option<i32>) -> Option<Priority>
+    pub fn smallest_above(&self, above: Option<i32>) -> Option<Priority>
         ensures { result ≡ least_priority (is_above above) self.now }
     {
         let mut least = None;
@@ -118,7 +118,7 @@ impl HookList {
     }
 
     /// Returns the smallest priority of a callback, if it has one.
-    pub fn least_of(&self, callback: CallbackId) -> Option<Priority>
+    pub fn smallest_of(&self, callback: CallbackId) -> Option<Priority>
         ensures { result ≡ least_priority (λ r. r.callback == callback) self.now }
     {
         let mut least = None;

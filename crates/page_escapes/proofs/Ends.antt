@@ -1,12 +1,14 @@
 -- What replacing each `]]>` makes of a text.
-use Rattle.std.proofs.Common.{◌≡◌, ◌==◌, ◌&&◌, ◌<◌, ℕ, get_or, zero, suc, List, [], ◌∷◌, ◌++◌, length, take, drop, codes, if◌then◌else◌, refl, sym, ap, ◌∙◌, ⊎_elim, append-nil, take-append-drop, length-take, length-drop, get_or-drop, subst, ◌≤◌, arith, Bor, Option, Some, None, is_some, true, false}
+use Rattle.std.proofs.Common.{◌≡◌, ◌==◌, ◌&&◌, ◌<◌, ℕ, get_or, zero, suc, List, [], ◌∷◌, ◌++◌, length, take, drop, codes, if◌then◌else◌, refl, sym, ap}
+use Rattle.std.proofs.Common.{◌∙◌, ⊎_elim, append-nil, take-append-drop, length-take, length-drop, get_or-drop, subst, ◌≤◌, arith, Bor, Option, Some, None}
+use Rattle.std.proofs.Common.{is_some, true, false}
 use Rattle.std.proofs.lemmas.Bool.{false≢true}
 use Rattle.std.proofs.lemmas.List.{get_or_append_left}
 use Rattle.std.proofs.lemmas.Bool.Decides.{nat_tests}
 use Rattle.memchr.specs.Find.{OccursAt, FindsNeedle}
 use Rattle.std.specs.Str.Pattern.{FindsText, LacksTextAt, HasTextAt}
 use Rattle.std.specs.Str.Replace.{ReplacesMatches}
-use Rattle.page_escapes.specs.Escapes.{ends_escaped, ends_escaped_behind}
+use Rattle.page_escapes.specs.Escapes.{ends_escaped, ends_escaped_after}
 
 -- what is looked for, and what comes in its place
 abbrev end : List ℕ
@@ -22,8 +24,8 @@ stays x y b other = grind (arith, nat_tests, other)
 -- a front part without the start of an end stays, whatever two bytes come before it
 kept : (x y : ℕ) (front back after : List ℕ)
     → ((i : ℕ) → i < length front → LacksTextAt end (x ∷ y ∷ (front ++ back)) i)
-    → ((v w : ℕ) → ends_escaped_behind v w back ≡ after)
-    → ends_escaped_behind x y (front ++ back) ≡ front ++ after
+    → ((v w : ℕ) → ends_escaped_after v w back ≡ after)
+    → ends_escaped_after x y (front ++ back) ≡ front ++ after
 kept x y [] back after lacks escaped = escaped x y
 kept x y (b ∷ front) back after lacks escaped =
     let first = stays x y b (λ same. lacks 0 (omega arith) (front ++ back) (cc (same.0, same.1, same.2))) in
@@ -31,13 +33,13 @@ kept x y (b ∷ front) back after lacks escaped =
     λ i. first i ++ more i
 
 -- after `]>` a text is escaped as if nothing came before it
-afresh : (back : List ℕ) → ends_escaped_behind 93 62 back ≡ ends_escaped back
+afresh : (back : List ℕ) → ends_escaped_after 93 62 back ≡ ends_escaped back
 afresh [] = refl
 afresh (b ∷ []) = refl
 afresh (b ∷ c ∷ back) = refl
 
 -- an end is escaped, whatever two bytes come before it
-at_end : (back : List ℕ) (x y : ℕ) → ends_escaped_behind x y (end ++ back) ≡ escape ++ ends_escaped back
+at_end : (back : List ℕ) (x y : ℕ) → ends_escaped_after x y (end ++ back) ≡ escape ++ ends_escaped back
 at_end back x y =
     let first = stays x y 93 (λ same. absurd (omega (arith, same.2))) in
     let second = stays y 93 93 (λ same. absurd (omega (arith, same.2))) in
@@ -52,7 +54,7 @@ lacks_behind s n (suc (suc i)) lacks inside = lacks i (omega arith)
 -- a front part without the start of an end stays
 front_stays : (s front back after : List ℕ) → s ≡ front ++ back
     → ((i : ℕ) → i < length front → LacksTextAt end s i)
-    → ((v w : ℕ) → ends_escaped_behind v w back ≡ after)
+    → ((v w : ℕ) → ends_escaped_after v w back ≡ after)
     → ends_escaped s ≡ front ++ after
 front_stays s front back after parts lacks escaped =
     let P : List ℕ → Type 0 = λ l. (i : ℕ) → i < length front → LacksTextAt end (0 ∷ 0 ∷ l) i in

@@ -1,5 +1,6 @@
 -- Entities of characters, and of the bytes of one.
-use Rattle.std.proofs.Common.{◌≡◌, ◌≤◌, ◌<◌, ℕ, suc, List, [], ◌∷◌, ◌++◌, length, get_or, encode_utf8, refl, sym, subst, ⊎_elim, append-nil, arith, Option, Some, None, is_some, true, false}
+use Rattle.std.proofs.Common.{◌≡◌, ◌≤◌, ◌<◌, ℕ, suc, List, [], ◌∷◌, ◌++◌, length, get_or, encode_utf8, refl, sym, subst, ⊎_elim, append-nil, arith, Option}
+use Rattle.std.proofs.Common.{Some, None, is_some, true, false}
 use Rattle.std.proofs.lemmas.Bool.{cases_lt, false≢true}
 use Rattle.std.proofs.lemmas.Bool.Decides.{nat_tests}
 use Rattle.std.proofs.lemmas.Str.{inside_one}

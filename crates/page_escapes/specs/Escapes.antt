@@ -2,14 +2,14 @@
 use Rattle.std.specs.Prelude.{ℕ, ◌==◌, ◌&&◌, List, [], ◌∷◌, ◌++◌, codes, flat_map, if◌then◌else◌}
 
 -- a text after these two bytes, in which each `>` after `]]` is `&gt;`
-abbrev pub ends_escaped_behind : ℕ → ℕ → List ℕ → List ℕ
-ends_escaped_behind before last [] = []
-ends_escaped_behind before last (b ∷ rest) =
-    (if before == 93 && last == 93 && b == 62 then codes "&gt;" else b ∷ []) ++ ends_escaped_behind last b rest
+abbrev pub ends_escaped_after : ℕ → ℕ → List ℕ → List ℕ
+ends_escaped_after before last [] = []
+ends_escaped_after before last (b ∷ rest) =
+    (if before == 93 && last == 93 && b == 62 then codes "&gt;" else b ∷ []) ++ ends_escaped_after last b rest
 
 -- each `]]>` as `]]&gt;`
 abbrev pub ends_escaped : List ℕ → List ℕ
-ends_escaped text = ends_escaped_behind 0 0 text
+ends_escaped text = ends_escaped_after 0 0 text
 
 -- & &amp;  < &lt;  > &gt;  " &quot;  ' &#039;
 abbrev pub entity : ℕ → List ℕ

@@ -1,5 +1,6 @@
 -- Of two dates the earlier one is the smaller text.
-use Rattle.std.proofs.Common.{◌≡◌, inl, inr, ◌<◌, ◌≤◌, ℕ, zero, suc, ◌+◌, ◌-◌, ◌*◌, ◌==◌, ◌&&◌, Bool, true, List, [], ◌∷◌, length, take, drop, codes, pos, Option, Some, None, nat_lt, nat_le, Ordering, Less, Equal, Greater, refl, sym, ap, ◌∙◌, arith, true≢false}
+use Rattle.std.proofs.Common.{◌≡◌, inl, inr, ◌<◌, ◌≤◌, ℕ, zero, suc, ◌+◌, ◌-◌, ◌*◌, ◌==◌, ◌&&◌, Bool, true, List, [], ◌∷◌, length, take, drop, codes, pos}
+use Rattle.std.proofs.Common.{Option, Some, None, nat_lt, nat_le, Ordering, Less, Equal, Greater, refl, sym, ap, ◌∙◌, arith, true≢false}
 use Rattle.std.specs.Prelude.{slice_index, slice_range}
 use Rattle.std.specs.Ordering.{nat_cmp, ordering_then, is_ge, is_le}
 use Rattle.std.specs.Cmp.Lexicographic.{slice_cmp}

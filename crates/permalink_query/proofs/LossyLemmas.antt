@@ -1,5 +1,7 @@
 -- A text with U+FFFD for what is not UTF-8 has the name or the number of the bytes, since names and numbers are ASCII.
-use Rattle.std.proofs.Common.{◌≡◌, inl, inr, Bool, true, false, List, [], ◌∷◌, ◌++◌, ℕ, zero, suc, ◌+◌, ◌-◌, ◌*◌, ◌/◌, ◌%◌, length, take, None, Some, Option, option_and_then, option_map, map, if◌then◌else◌, nat_lt, nat_le, nat_eq, ◌≤◌, lit<, refl, sym, ap, arith, ◌∙◌, ◌&&◌, eq-eqb}
+use Rattle.std.proofs.Common.{◌≡◌, inl, inr, Bool, true, false, List, [], ◌∷◌, ◌++◌, ℕ, zero, suc, ◌+◌, ◌-◌, ◌*◌, ◌/◌, ◌%◌, length, take, None, Some}
+use Rattle.std.proofs.Common.{Option, option_and_then, option_map, map, if◌then◌else◌, nat_lt, nat_le, nat_eq, ◌≤◌, lit<, refl, sym, ap, arith, ◌∙◌, ◌&&◌}
+use Rattle.std.proofs.Common.{eq-eqb}
 use Rattle.std.proofs.lemmas.Bool.{cases_Bool, and_parts, and_right, ltb-true, leb-true, lt-ltb}
 use Rattle.std.proofs.lemmas.Str.{IsUtf8-from_ascii, utf8_lossy-IsUtf8, utf8_lossy_step}
 use Rattle.std.proofs.lemmas.List.Folds.{list_all-append, find-append}

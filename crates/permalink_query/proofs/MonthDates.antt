@@ -1,5 +1,6 @@
 -- The dates of a month are those between its first and its last second.
-use Rattle.std.proofs.Common.{◌≡◌, ◌≤◌, ℕ, ◌&&◌, true, List, [], length, take, drop, pos, Some, Ordering, Less, Equal, Greater, refl, sym, ap, subst, ◌∙◌, arith}
+use Rattle.std.proofs.Common.{◌≡◌, ◌≤◌, ℕ, ◌&&◌, true, List, [], length, take, drop, pos, Some, Ordering, Less, Equal, Greater, refl, sym, ap, subst, ◌∙◌}
+use Rattle.std.proofs.Common.{arith}
 use Rattle.std.specs.Prelude.{slice_index}
 use Rattle.std.specs.Ordering.{nat_cmp, ordering_then, is_eq, is_ge, is_le}
 use Rattle.std.proofs.lemmas.Bool.Decides.{nat_tests}
@@ -11,7 +12,8 @@ use Rattle.site_records.specs.Digits.{number}
 use Rattle.site_records.specs.Dates.{is_post_date}
 use Rattle.permalink_query.specs.Months.{is_month, month_text, month_start, month_end, is_in_month}
 use Rattle.permalink_query.proofs.MonthLemmas.{IsMonth, month_bounds, number-two, number-four, days_bounds}
-use Rattle.permalink_query.proofs.DateOrder.{by_bytes, Moment, IsWritten, IsBound, written, bound, in_time, from_day, to_day, after_day, before_day, then_joined, ge_then, le_then, then_equal, field, mark}
+use Rattle.permalink_query.proofs.DateOrder.{by_bytes, Moment, IsWritten, IsBound, written, bound, in_time, from_day, to_day, after_day, before_day}
+use Rattle.permalink_query.proofs.DateOrder.{then_joined, ge_then, le_then, then_equal, field, mark}
 
 module _ (year month : ℕ) (is : is_month year month ≡ true) where
   is_bound : IsMonth year month

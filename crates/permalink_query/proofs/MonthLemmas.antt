@@ -1,5 +1,6 @@
 -- The first and the last moment of a month are dates of posts.
-use Rattle.std.proofs.Common.{◌≡◌, ◌<◌, ◌≤◌, Bool, true, ◌&&◌, List, [], ◌∷◌, ◌++◌, ℕ, ◌+◌, ◌-◌, ◌*◌, ◌/◌, ◌%◌, ◌==◌, ◌||◌, ℤ, pos, false, lit≤, if◌then◌else◌, Some, codes, nat_le, refl, ap, arith, ◌∙◌}
+use Rattle.std.proofs.Common.{◌≡◌, ◌<◌, ◌≤◌, Bool, true, ◌&&◌, List, [], ◌∷◌, ◌++◌, ℕ, ◌+◌, ◌-◌, ◌*◌, ◌/◌, ◌%◌, ◌==◌, ◌||◌, ℤ, pos, false, lit≤}
+use Rattle.std.proofs.Common.{if◌then◌else◌, Some, codes, nat_le, refl, ap, arith, ◌∙◌}
 use Rattle.std.proofs.lemmas.Bool.{le-leb, leb-true, and_parts}
 use Rattle.jiff.specs.Words.{days_in_month, is_leap_year}
 use Rattle.site_records.specs.Digits.{number, number_from, is_digit}

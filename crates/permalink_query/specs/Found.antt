@@ -1,5 +1,6 @@
 -- Which posts a query finds.
-use Rattle.std.specs.Prelude.{Bool, true, false, not, ℕ, ◌-◌, ◌*◌, ◌&&◌, ◌||◌, nat_le, take, drop, if◌then◌else◌, List, [], ◌∷◌, filter, codes, Option, Some, None, is_some, option_and_then, unwrap_or}
+use Rattle.std.specs.Prelude.{Bool, true, false, not, ℕ, ◌-◌, ◌*◌, ◌&&◌, ◌||◌, nat_le, take, drop, if◌then◌else◌, List, [], ◌∷◌, filter, codes, Option}
+use Rattle.std.specs.Prelude.{Some, None, is_some, option_and_then, unwrap_or}
 use Rattle.std.specs.Option.{option_to_list, option_map_or}
 use Rattle.std.specs.Str.{bytes_eq}
 use Rattle.site_records.specs.Texts.{text_named}

@@ -1,5 +1,6 @@
 -- What SQL's comparisons say of texts and numbers.
-use Rattle.std.proofs.Common.{◌≡◌, inl, inr, ℕ, ℤ, pos, suc, List, [], ◌∷◌, map, length, Bool, true, false, ◌&&◌, ◌||◌, ◌==◌, cond, Some, Ordering, Less, Equal, Greater, refl, sym, ap, ◌∙◌, arith, true≢false}
+use Rattle.std.proofs.Common.{◌≡◌, inl, inr, ℕ, ℤ, pos, suc, List, [], ◌∷◌, map, length, Bool, true, false, ◌&&◌, ◌||◌, ◌==◌, cond, Some, Ordering, Less}
+use Rattle.std.proofs.Common.{Equal, Greater, refl, sym, ap, ◌∙◌, arith, true≢false}
 use Rattle.std.specs.Ordering.{is_eq, nat_cmp, int_cmp}
 use Rattle.std.specs.Cmp.Lexicographic.{slice_cmp}
 use Rattle.std.specs.FinMap.{slice_cmp-IsAntisymmetric, nat_cmp-IsAntisymmetric}

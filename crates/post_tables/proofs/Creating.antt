@@ -1,5 +1,6 @@
 -- What the statements make that define the tables.
-use Rattle.std.proofs.Common.{◌≡◌, ◌⊎◌, inl, inr, ℕ, List, [], ◌∷◌, ◌++◌, map, true, false, None, Ok, Err, Result, OnOk, ◌<◌, ◌^◌, lit≤, refl, sym, ap, subst, ◌∙◌}
+use Rattle.std.proofs.Common.{◌≡◌, ◌⊎◌, inl, inr, ℕ, List, [], ◌∷◌, ◌++◌, map, true, false, None, Ok, Err, Result, OnOk, ◌<◌, ◌^◌, lit≤, refl, sym, ap}
+use Rattle.std.proofs.Common.{subst, ◌∙◌}
 use Rattle.std.specs.List.{AllByRecursion}
 use Rattle.sqlite.specs.Order.{Row}
 use Rattle.sqlite.specs.declared.error.Error.{Error}
@@ -22,8 +23,10 @@ use Rattle.sqlite_catalog.specs.Calls.{CreatesTable}
 use Rattle.sqlite_tied.specs.Compute.{everything}
 use Rattle.sqlite.proofs.Callers.{IsPlain, command_of, statement_of, runs_as}
 use Rattle.post_tables.specs.Rows.{no_rows}
-use Rattle.post_tables.specs.Schema.{no_schema, post_schema, option_schema, template_schema, table_schema, site_schema, create_post, create_option, create_template, create_active, create_index, post_table, sequence_table, option_table, template_table, active_table}
-use Rattle.post_tables.specs.Stored.{IsBare, IsSite, ArePosts, AreNamed, IsCounter, AreGiven, rows_of, text_rest, text_in, no_rest, nothing_in, named_in, post_in, top_in}
+use Rattle.post_tables.specs.Schema.{no_schema, post_schema, option_schema, template_schema, table_schema, site_schema, create_post, create_option}
+use Rattle.post_tables.specs.Schema.{create_template, create_active, create_index, post_table, sequence_table, option_table, template_table, active_table}
+use Rattle.post_tables.specs.Stored.{IsBare, IsSite, ArePosts, AreNamed, IsCounter, AreGiven, rows_of, text_rest, text_in, no_rest, nothing_in, named_in}
+use Rattle.post_tables.specs.Stored.{post_in, top_in}
 use Rattle.post_tables.proofs.Texts.{post_is, sequence_is, option_is, template_is, active_is, index_is}
 use Rattle.post_tables.proofs.Memory.{wrote}
 

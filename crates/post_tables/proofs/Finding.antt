@@ -1,5 +1,6 @@
 -- What the queries for an ID return, also within a transaction.
-use Rattle.std.proofs.Common.{◌≡◌, inl, inr, ℕ, pos, negsuc, List, [], ◌∷◌, map, filter, Bool, false, not, ◌==◌, codes, Option, Some, None, Ok, Err, Result, IfOk, Vec, is_some, nat_eq, length, ◌≤◌, lit≤, refl, sym, ap, subst, ◌∙◌}
+use Rattle.std.proofs.Common.{◌≡◌, inl, inr, ℕ, pos, negsuc, List, [], ◌∷◌, map, filter, Bool, false, not, ◌==◌, codes, Option, Some, None, Ok, Err}
+use Rattle.std.proofs.Common.{Result, IfOk, Vec, is_some, nat_eq, length, ◌≤◌, lit≤, refl, sym, ap, subst, ◌∙◌}
 use Rattle.std.specs.declared.alloc.Global.{Global}
 use Rattle.std.specs.Option.{option_to_list}
 use Rattle.std.specs.List.{IsDistinct}

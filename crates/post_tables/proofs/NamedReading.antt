@@ -1,5 +1,6 @@
 -- What the query of a table of names returns.
-use Rattle.std.proofs.Common.{◌≡◌, inl, inr, ℕ, pos, negsuc, List, [], ◌∷◌, drop, map, filter, true, false, Ordering, Less, Equal, Greater, refl, sym, ap, subst, ◌∙◌, true≢false}
+use Rattle.std.proofs.Common.{◌≡◌, inl, inr, ℕ, pos, negsuc, List, [], ◌∷◌, drop, map, filter, true, false, Ordering, Less, Equal, Greater, refl, sym, ap}
+use Rattle.std.proofs.Common.{subst, ◌∙◌, true≢false}
 use Rattle.std.specs.List.{AllByRecursion, IsDistinct}
 use Rattle.std.specs.Ordering.{is_eq, eq_by_cmp, match_ordering}
 use Rattle.std.specs.Cmp.Lexicographic.{nat_list_cmp_total}

@@ -1,5 +1,6 @@
 -- What the query of a part of the posts returns.
-use Rattle.std.proofs.Common.{◌≡◌, inl, inr, ℕ, zero, suc, nat_lt, lit<, pos, List, [], ◌∷◌, map, filter, take, drop, Bool, true, false, ◌&&◌, cond, codes, Ok, Err, Result, IfOk, Vec, Less, refl, sym, ap, subst, ◌∙◌}
+use Rattle.std.proofs.Common.{◌≡◌, inl, inr, ℕ, zero, suc, nat_lt, lit<, pos, List, [], ◌∷◌, map, filter, take, drop, Bool, true, false, ◌&&◌, cond, codes}
+use Rattle.std.proofs.Common.{Ok, Err, Result, IfOk, Vec, Less, refl, sym, ap, subst, ◌∙◌}
 use Rattle.std.specs.List.{AllByRecursion, IsDistinct}
 use Rattle.std.specs.Str.{bytes_eq}
 use Rattle.std.specs.declared.alloc.Global.{Global}

@@ -1,5 +1,6 @@
 -- What is true of a part of the posts of any site.
-use Rattle.std.proofs.Common.{◌≡◌, inl, inr, ℕ, zero, suc, List, [], ◌∷◌, map, filter, take, drop, true, false, Some, Less, refl, sym, ap, subst, ◌∙◌, ◌==◌, ◌+◌, arith}
+use Rattle.std.proofs.Common.{◌≡◌, inl, inr, ℕ, zero, suc, List, [], ◌∷◌, map, filter, take, drop, true, false, Some, Less, refl, sym, ap, subst, ◌∙◌}
+use Rattle.std.proofs.Common.{◌==◌, ◌+◌, arith}
 use Rattle.std.specs.Prelude.{All, ◌≤◌}
 use Rattle.std.specs.List.{AllByRecursion, IsDistinct, list_all}
 use Rattle.std.specs.List.Sorted.{IsStrictlySortedBy}

@@ -6,7 +6,8 @@ use Rattle.sqlite.specs.Tree.{Trees}
 use Rattle.site_records.specs.declared.post.Post.{Post}
 use Rattle.post_tables.specs.Schema.{site_schema}
 use Rattle.post_tables.specs.Rows.{Rows, Named, Names}
-use Rattle.post_tables.specs.Stored.{AreSound, ArePosts, AreNamed, IsCounter, AreGiven, rows_in, text_rest, text_in, no_rest, nothing_in, named_in, post_in, top_in}
+use Rattle.post_tables.specs.Stored.{AreSound, ArePosts, AreNamed, IsCounter, AreGiven, rows_in, text_rest, text_in, no_rest, nothing_in, named_in}
+use Rattle.post_tables.specs.Stored.{post_in, top_in}
 
 -- the other tables are as they were
 abbrev pub Others : ℕ → Trees → Trees → Type 0

@@ -1,5 +1,6 @@
 -- Why a query over the tables is refused: an allocation failed, or it would have gone past the limit on its steps.
-use Rattle.std.proofs.Common.{◌≡◌, ◌≢◌, inl, inr, ℕ, List, [], true, false, Ok, Err, Result, IfErr, length, append-nil, sym, ap, subst, subst₂, ◌∙◌, arith, true≢false}
+use Rattle.std.proofs.Common.{◌≡◌, ◌≢◌, inl, inr, ℕ, List, [], true, false, Ok, Err, Result, IfErr, length, append-nil, sym, ap, subst, subst₂, ◌∙◌, arith}
+use Rattle.std.proofs.Common.{true≢false}
 use Rattle.std.specs.Prelude.{nat_le}
 use Rattle.std.proofs.lemmas.Bool.{leb-true}
 use Rattle.sqlite.specs.Order.{Row}

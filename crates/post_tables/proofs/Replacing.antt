@@ -16,7 +16,8 @@ use Rattle.sqlite.specs.Held.{Held, state}
 use Rattle.sqlite.specs.Steps.{over_memory}
 use Rattle.sqlite.specs.Effect.{Database, value_rows}
 use Rattle.sqlite.specs.Does.{Tally, Does}
-use Rattle.sqlite.specs.Rows.{Task, Written, Judged, Clears, Puts, Upserts, Tries, TriesEach, nothing, joined, higher, mended, rowids_for, Then, Gives, count_of, stamped}
+use Rattle.sqlite.specs.Rows.{Task, Written, Judged, Clears, Puts, Upserts, Tries, TriesEach, nothing, joined, higher, mended, rowids_for, Then, Gives}
+use Rattle.sqlite.specs.Rows.{count_of, stamped}
 use Rattle.sqlite.specs.Listing.{understood}
 use Rattle.sqlite.specs.State.{mode_of, Executes}
 use Rattle.sqlite_rules.specs.Calls.{ids_of}

@@ -3,7 +3,8 @@ use Rattle.std.proofs.Common.{◌≡◌, Ok, refl}
 use Rattle.sqlite.specs.Compile.{table_defined_by, index_defined_by}
 use Rattle.sqlite_tied.specs.Compute.{everything}
 use Rattle.sqlite.specs.Does.{sequence_text}
-use Rattle.post_tables.specs.Schema.{create_post, create_option, create_template, create_active, create_index, post_table, sequence_table, option_table, template_table, active_table, date_index, post_checks}
+use Rattle.post_tables.specs.Schema.{create_post, create_option, create_template, create_active, create_index, post_table, sequence_table, option_table}
+use Rattle.post_tables.specs.Schema.{template_table, active_table, date_index, post_checks}
 
 pub post_is : table_defined_by create_post ≡ Ok post_table
 unfolding everything post_checks

@@ -1,5 +1,6 @@
 -- What an edit makes of the post with an ID.
-use Rattle.std.proofs.Common.{◌≡◌, inl, inr, ℕ, pos, negsuc, List, [], ◌∷◌, map, filter, Bool, true, false, not, ◌==◌, codes, Option, option_map, Some, None, unwrap_or, Ok, Bor, refl, sym, ap, subst, ◌∙◌, arith}
+use Rattle.std.proofs.Common.{◌≡◌, inl, inr, ℕ, pos, negsuc, List, [], ◌∷◌, map, filter, Bool, true, false, not, ◌==◌, codes, Option, option_map, Some}
+use Rattle.std.proofs.Common.{None, unwrap_or, Ok, Bor, refl, sym, ap, subst, ◌∙◌, arith}
 use Rattle.std.specs.List.{IsDistinct}
 use Rattle.std.specs.Prelude.{IfSome, IsUtf8}
 use Rattle.site_records.specs.Dates.{is_post_date}

@@ -1,5 +1,6 @@
 -- How the tables hold the rows of a site, and what stays true of them.
-use Rattle.std.specs.Prelude.{⊤, Bool, IsUtf8, Option, None, if◌then◌else◌, codes, ◌≡◌, ℕ, ℤ, pos, negsuc, false, true, List, [], ◌∷◌, drop, map, IsTrue, bytes_eq, ◌<◌, ◌≤◌, ◌^◌, Result, OnOk, OnErr}
+use Rattle.std.specs.Prelude.{⊤, Bool, IsUtf8, Option, None, if◌then◌else◌, codes, ◌≡◌, ℕ, ℤ, pos, negsuc, false, true, List, [], ◌∷◌, drop, map, IsTrue}
+use Rattle.std.specs.Prelude.{bytes_eq, ◌<◌, ◌≤◌, ◌^◌, Result, OnOk, OnErr}
 use Rattle.std.specs.List.{AllByRecursion, list_any}
 use Rattle.std.specs.Ordering.{is_eq, nat_cmp}
 use Rattle.std.specs.FinMap.{FinMap, from_entries}

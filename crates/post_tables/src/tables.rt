@@ -100,7 +100,7 @@ fn next_id(conn: &mut Connection<MemStore>) -> Result<u32, TablesFault>
 impl Tables {
     /// A law: whatever calls were made, the IDs of posts ascend, so that no two posts have the same one, and none is
     /// above the largest that was ever given. The call changes nothing: it carries these facts.
-    pub fn ids_stand_once(&self)
+    pub fn ids_occur_once(&self)
         ensures once { IsStrictlySortedBy nat_cmp (map (λ p. p.id) self.now.posts) }
         ensures given { All (λ p. p.id ≤ self.now.largest) self.now.posts }
     {

@@ -1,5 +1,6 @@
 -- Maps of texts, seen as pairs of bytes, and the fold over the items.
-use Rattle.std.proofs.Common.{◌≡◌, ℕ, suc, ◌<◌, arith, Bool, true, false, cond, List, [], ◌∷◌, ◌++◌, length, get_or, Some, None, String, string_bytes, refl, ap, sym, ◌∙◌}
+use Rattle.std.proofs.Common.{◌≡◌, ℕ, suc, ◌<◌, arith, Bool, true, false, cond, List, [], ◌∷◌, ◌++◌, length, get_or, Some, None, String, string_bytes}
+use Rattle.std.proofs.Common.{refl, ap, sym, ◌∙◌}
 use Rattle.std.specs.Prelude.{map, option_map, bytes_eq, string_eq, fold, ◌==◌, ◌||◌, encode_utf8_all}
 use Rattle.std.specs.Str.{IsUtf8, IsAscii, chars}
 use Rattle.std.specs.List.{AllZip, list_any}

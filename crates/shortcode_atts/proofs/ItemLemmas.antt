@@ -1,5 +1,6 @@
 -- The items of a text: each leaves a shorter rest, and a text has one list of items only.
-use Rattle.std.proofs.Common.{◌≡◌, ℕ, zero, suc, ◌+◌, ◌<◌, ◌≤◌, Bool, true, false, not, List, [], ◌∷◌, length, drop, Option, Some, None, refl, sym, ap, ◌∙◌, subst, arith, length-drop}
+use Rattle.std.proofs.Common.{◌≡◌, ℕ, zero, suc, ◌+◌, ◌<◌, ◌≤◌, Bool, true, false, not, List, [], ◌∷◌, length, drop, Option, Some, None, refl, sym, ap}
+use Rattle.std.proofs.Common.{◌∙◌, subst, arith, length-drop}
 use Rattle.std.specs.Prelude.{◌==◌, take_while, nat_lt, option_map}
 use Rattle.std.specs.List.{prefix_len}
 use Rattle.std.specs.Option.{option_or, option_map_or}
@@ -12,7 +13,8 @@ use Rattle.shortcode_atts.specs.Steps.{◌>>=◌, only_if}
 use Rattle.shortcode_atts.proofs.StepLemmas.{bind_some, only_if-some}
 use Rattle.shortcode_atts.specs.Found.{first_of}
 use Rattle.shortcode_atts.specs.NameByte.{is_name_byte}
-use Rattle.shortcode_atts.specs.Items.{is_white, is_word_char, is_bare_char, after_run, skip_white, after_char, is_ended, run_at, quoted_at, spelled_at, value_at, Item, named_at, single_at, item_at, IsItems, items_within, items_of}
+use Rattle.shortcode_atts.specs.Items.{is_white, is_word_char, is_bare_char, after_run, skip_white, after_char, is_ended, run_at, quoted_at, spelled_at}
+use Rattle.shortcode_atts.specs.Items.{value_at, Item, named_at, single_at, item_at, IsItems, items_within, items_of}
 
 -- the rest is shorter than cs, or no longer
 abbrev IsShorter : List ℕ → List ℕ × List ℕ → Type 0

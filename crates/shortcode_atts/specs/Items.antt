@@ -1,7 +1,8 @@
 -- The items of an attribute text (Shortcode API, shortcode_parse_atts and get_shortcode_atts_regex).
 -- A text is here the list of its characters.
 -- Characters: `"` is 34, `'` 39, `=` 61.
-use Rattle.std.specs.Prelude.{◌≡◌, ℕ, zero, suc, Bool, true, false, not, ◌&&◌, ◌||◌, ◌==◌, if◌then◌else◌, nat_lt, nat_le, List, [], ◌∷◌, length, drop, take_while, Option, Some, None}
+use Rattle.std.specs.Prelude.{◌≡◌, ℕ, zero, suc, Bool, true, false, not, ◌&&◌, ◌||◌, ◌==◌, if◌then◌else◌, nat_lt, nat_le, List, [], ◌∷◌, length, drop}
+use Rattle.std.specs.Prelude.{take_while, Option, Some, None}
 use Rattle.std.specs.List.{prefix_len}
 use Rattle.std.specs.Option.{option_or, option_map_or}
 use Rattle.shortcode_atts.specs.Steps.{◌>>=◌, only_if}

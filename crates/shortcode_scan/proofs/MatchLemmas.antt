@@ -16,7 +16,8 @@ use Rattle.shortcode_scan.specs.declared.Piece.TheVariants.{Plain, Match}
 use Rattle.shortcode_atts.specs.Steps.{◌>>=◌, only_if}
 use Rattle.shortcode_atts.specs.NameByte.{is_name_byte}
 use Rattle.shortcode_atts.proofs.StepLemmas.{bind_some, only_if-some}
-use Rattle.shortcode_scan.specs.Matches.{closing_tag, closing_from, is_doubled, core_of, without_content, with_closing, name_start, name_at, bracket_from, with_extras, match_at, span}
+use Rattle.shortcode_scan.specs.Matches.{closing_tag, closing_from, is_doubled, core_of, without_content, with_closing, name_start, name_at, bracket_from}
+use Rattle.shortcode_scan.specs.Matches.{with_extras, match_at, span}
 use Rattle.shortcode_scan.specs.Live.{AreSameNames}
 use Rattle.shortcode_scan.specs.Pieces.{start_of, end_of}
 use Rattle.shortcode_scan.proofs.PlaceLemmas.{first_place-some, first_place-none_later}

@@ -1,5 +1,6 @@
 -- The pieces that the matches cut a text into: exactly one list.
-use Rattle.std.proofs.Common.{◌≡◌, ℕ, zero, suc, ◌+◌, ◌<◌, ◌≤◌, Bool, true, false, List, [], ◌∷◌, ◌++◌, length, Option, Some, None, refl, sym, ◌∙◌, ap, subst, drop, arith, inl, inr, append_assoc}
+use Rattle.std.proofs.Common.{◌≡◌, ℕ, zero, suc, ◌+◌, ◌<◌, ◌≤◌, Bool, true, false, List, [], ◌∷◌, ◌++◌, length, Option, Some, None, refl, sym, ◌∙◌, ap}
+use Rattle.std.proofs.Common.{subst, drop, arith, inl, inr, append_assoc}
 use Rattle.std.specs.Prelude.{◌==◌, slice_index, slice_range, nat_lt, is_some}
 use Rattle.std.specs.Option.{option_map_or}
 use Rattle.std.proofs.Math.Seq.{drop-length}
@@ -14,9 +15,11 @@ use Rattle.shortcode_atts.proofs.StepLemmas.{bind_some}
 use Rattle.shortcode_scan.specs.Places.{first_place}
 use Rattle.shortcode_scan.specs.Matches.{bracket_from, match_at, span}
 use Rattle.shortcode_scan.specs.Live.{AreSameNames}
-use Rattle.shortcode_scan.specs.Pieces.{plain_between, NoMatch, PiecesFrom, IsPieces, match_from, pieces_within, pieces_of, BeginsNotPlain, start_of, end_of, joined}
+use Rattle.shortcode_scan.specs.Pieces.{plain_between, NoMatch, PiecesFrom, IsPieces, match_from, pieces_within, pieces_of, BeginsNotPlain, start_of}
+use Rattle.shortcode_scan.specs.Pieces.{end_of, joined}
 use Rattle.shortcode_scan.proofs.PlaceLemmas.{first_place-some, first_place-none_is}
-use Rattle.shortcode_scan.proofs.MatchLemmas.{match_at-elsewhere, match_at-unended, match_at-unnamed, match_at-within, match_at-not_plain, match_at-lies, match_at-alike}
+use Rattle.shortcode_scan.proofs.MatchLemmas.{match_at-elsewhere, match_at-unended, match_at-unnamed, match_at-within, match_at-not_plain, match_at-lies}
+use Rattle.shortcode_scan.proofs.MatchLemmas.{match_at-alike}
 
 module _ (names : List (List ℕ)) (text : List ℕ) where
   pub NoMatch-join : (i j k : ℕ) → NoMatch names text i j → NoMatch names text j k → NoMatch names text i k

@@ -1,5 +1,6 @@
 -- Each span of a piece lies between two characters of the text.
-use Rattle.std.proofs.Common.{◌≡◌, ℕ, zero, suc, ◌+◌, ◌-◌, ◌<◌, ◌≤◌, Bool, true, false, List, [], ◌∷◌, ◌++◌, length, drop, Option, Some, None, refl, sym, ap, ◌∙◌, subst, arith, inl, inr, get_or, get_or-drop, length-append, add-zero}
+use Rattle.std.proofs.Common.{◌≡◌, ℕ, zero, suc, ◌+◌, ◌-◌, ◌<◌, ◌≤◌, Bool, true, false, List, [], ◌∷◌, ◌++◌, length, drop, Option, Some, None, refl, sym}
+use Rattle.std.proofs.Common.{ap, ◌∙◌, subst, arith, inl, inr, get_or, get_or-drop, length-append, add-zero}
 use Rattle.std.specs.Prelude.{◌==◌, ◌&&◌, slice_index, take_while, nat_lt, codes, IsUtf8, IsCharBoundary, if◌then◌else◌}
 use Rattle.std.specs.List.{prefix_len, AllByRecursion}
 use Rattle.std.proofs.lemmas.List.{get_or_past, get_or_push}
@@ -16,7 +17,8 @@ use Rattle.shortcode_scan.specs.declared.matches.Core.{Core}
 use Rattle.shortcode_scan.specs.declared.Piece.{Piece}
 use Rattle.shortcode_scan.specs.declared.Piece.TheVariants.{Plain, Match}
 use Rattle.shortcode_scan.specs.Spans.{IsSpanOf, HasSpansOf, unescaped}
-use Rattle.shortcode_scan.specs.Matches.{span, name_start, name_at, is_doubled, closing_tag, closing_from, bracket_from, core_of, without_content, with_closing, with_extras, match_at}
+use Rattle.shortcode_scan.specs.Matches.{span, name_start, name_at, is_doubled, closing_tag, closing_from, bracket_from, core_of, without_content}
+use Rattle.shortcode_scan.specs.Matches.{with_closing, with_extras, match_at}
 use Rattle.shortcode_scan.specs.Pieces.{PiecesFrom, IsPieces, BeginsNotPlain}
 use Rattle.shortcode_scan.proofs.PlaceLemmas.{first_place-some}
 use Rattle.shortcode_atts.proofs.StepLemmas.{bind_some, only_if-some}

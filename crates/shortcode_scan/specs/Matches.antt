@@ -1,6 +1,7 @@
 -- Where a shortcode lies in a text (Shortcode API, get_shortcode_regex).
 -- Bytes: `[` is 91, `]` is 93, `/` is 47.
-use Rattle.std.specs.Prelude.{ℕ, ◌+◌, ◌-◌, Bool, ◌&&◌, ◌==◌, if◌then◌else◌, nat_lt, List, ◌++◌, length, drop, slice_index, take_while, bytes_eq, codes, Option, Some, None}
+use Rattle.std.specs.Prelude.{ℕ, ◌+◌, ◌-◌, Bool, ◌&&◌, ◌==◌, if◌then◌else◌, nat_lt, List, ◌++◌, length, drop, slice_index, take_while, bytes_eq, codes}
+use Rattle.std.specs.Prelude.{Option, Some, None}
 use Rattle.std.specs.List.{list_any}
 use Rattle.memchr.specs.Find.{occurs_at}
 use Rattle.shortcode_atts.specs.Steps.{◌>>=◌, only_if}

@@ -1,5 +1,6 @@
 -- How the shortcodes of a text cut it into pieces (Shortcode API, do_shortcode: leftmost first, in one pass).
-use Rattle.std.specs.Prelude.{◌≡◌, ℕ, zero, suc, ◌+◌, ◌<◌, ◌≤◌, if◌then◌else◌, nat_lt, List, [], ◌∷◌, ◌++◌, length, slice_range, flat_map, is_some, Option, Some, None}
+use Rattle.std.specs.Prelude.{◌≡◌, ℕ, zero, suc, ◌+◌, ◌<◌, ◌≤◌, if◌then◌else◌, nat_lt, List, [], ◌∷◌, ◌++◌, length, slice_range, flat_map, is_some, Option}
+use Rattle.std.specs.Prelude.{Some, None}
 use Rattle.std.specs.Option.{option_map_or}
 use Rattle.shortcode_atts.specs.Steps.{◌>>=◌}
 use Rattle.shortcode_scan.specs.Places.{first_place}

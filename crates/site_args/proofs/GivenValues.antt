@@ -1,5 +1,6 @@
 -- The value that the arguments give an option that reads a number.
-use Rattle.std.proofs.Common.{◌≡◌, ◌⊎◌, ◌∙◌, ◌<◌, ℕ, pos, true, List, [], ◌∷◌, map, length, zero, suc, Option, Some, None, codes, refl, sym, ap, subst, inl, inr, arith, ◌≤◌, ◌^◌, Result, Ok}
+use Rattle.std.proofs.Common.{◌≡◌, ◌⊎◌, ◌∙◌, ◌<◌, ℕ, pos, true, List, [], ◌∷◌, map, length, zero, suc, Option, Some, None, codes, refl, sym, ap, subst}
+use Rattle.std.proofs.Common.{inl, inr, arith, ◌≤◌, ◌^◌, Result, Ok}
 use Rattle.std.specs.Prelude.{option_map, option_and_then, slice_get, unwrap_or}
 use Rattle.std.specs.List.{All, slice_index_or}
 use Rattle.std.specs.Str.{bytes_eq}
@@ -7,7 +8,8 @@ use Rattle.std.specs.Borrow.{Bor}
 use Rattle.std.specs.Str.Parse.{ParsesUnsigned}
 use Rattle.std.proofs.lemmas.Slice.Eq.{bytes_eq-Decides}
 use Rattle.std.proofs.lemmas.List.Elements.{All-get_or}
-use Rattle.clap.specs.Words.{Rule, Text, args_of, groups_of, app_of, rule_of, found_of, matched_of, one_text, without_minus, parser_of, IsParsedFrom, SameRules, IsSignedIn, Accepts, read_as, reading_of, ReadsOne}
+use Rattle.clap.specs.Words.{Rule, Text, args_of, groups_of, app_of, rule_of, found_of, matched_of, one_text, without_minus, parser_of, IsParsedFrom}
+use Rattle.clap.specs.Words.{SameRules, IsSignedIn, Accepts, read_as, reading_of, ReadsOne}
 use Rattle.clap.specs.Facts.{Entry, EntryPasses, HasReading, PassesArg, parser_of_value}
 use Rattle.clap.specs.declared.builder.arg.Arg.{Arg}
 use Rattle.clap.specs.declared.builder.command.Command.{Command}

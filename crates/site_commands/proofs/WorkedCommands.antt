@@ -7,7 +7,8 @@ use Rattle.serde_json.specs.Data.{null, string, array, no_items, item, object, n
 use Rattle.site_records.specs.declared.post.PostKind.TheVariants.{Post, Page}
 use Rattle.site_records.specs.declared.post.PostStatus.TheVariants.{Publish, Draft}
 use Rattle.site_commands.specs.Tree.{tree_of}
-use Rattle.site_commands.specs.Asked.{put, edit, delete, option, activate, deactivate, template, import, get, command_of, put_of, edit_of, delete_of, option_of, activate_of, deactivate_of, template_of, import_of, get_of}
+use Rattle.site_commands.specs.Asked.{put, edit, delete, option, activate, deactivate, template, import, get, command_of, put_of, edit_of, delete_of}
+use Rattle.site_commands.specs.Asked.{option_of, activate_of, deactivate_of, template_of, import_of, get_of}
 use Rattle.site_values.specs.Named.{option_named}
 use Rattle.site_commands.specs.Worked.{line_command}
 

@@ -6,7 +6,8 @@ use Rattle.serde_json.proofs.OnLiterals.{serde_json_on_literals}
 use Rattle.site_records.specs.Dates.{is_post_date}
 use Rattle.site_records.specs.declared.post.PostKind.TheVariants.{Page}
 use Rattle.site_records.specs.declared.post.PostStatus.TheVariants.{Draft}
-use Rattle.template_trees.specs.Trees.{template_of, tree_of, is_template_name, part_named, all_of, node_of, node_in, element_of, item_of, fits, count_of, text_bytes}
+use Rattle.template_trees.specs.Trees.{template_of, tree_of, is_template_name, part_named, all_of, node_of, node_in, element_of, item_of, fits, count_of}
+use Rattle.template_trees.specs.Trees.{text_bytes}
 use Rattle.site_import.specs.declared.fault.Section.TheVariants.{Text, Root, Version, Posts, Options, Front, Templates, Active}
 use Rattle.site_import.specs.declared.fault.ImportFault.TheVariants.{BadImport, BadDate, BadTemplate}
 use Rattle.site_import.specs.Walks.{whole, entry_of}
@@ -20,7 +21,8 @@ use Rattle.site_import.specs.Worked.{no_records}
 
 -- what computes in the files below
 computes : ℕ
-unfolding site_file_in site_file_of records_in shape_of posts_of options_of front_of templates_of active_of is_post_date template_of tree_of is_template_name part_named all_of
+unfolding site_file_in site_file_of records_in shape_of posts_of options_of front_of
+    templates_of active_of is_post_date template_of tree_of is_template_name part_named all_of
     node_of node_in element_of item_of fits count_of text_bytes serde_json_on_literals is_utf8 chars digits
 computes = 0
 
@@ -64,7 +66,17 @@ pub other_keys : site_file_in (codes "{\"version\":1,\"front\":0,\"x\":null}") �
 unfolding computes
 other_keys = refl
 
-pub page : site_file_in (codes "{\"version\":1,\"posts\":[{\"id\":7,\"kind\":\"page\",\"status\":\"draft\",\"title\":\"T\",\"content\":\"C\",\"date\":\"2024-05-01 10:00:00\"}]}") ≡ Ok (record no_records { posts = record { id = 7; kind = Page; status = Draft; title = codes "T"; content = codes "C"; date = codes "2024-05-01 10:00:00" } ∷ [] })
+pub page : site_file_in (codes "{\"version\":1,\"posts\":[{\"id\":7,\"kind\":\"page\",\"status\":\"draft\",\"title\":\"T\",\"content\":\"C\",\"date\":\"2024-05-01 10:00:00\"}]}")
+    ≡ Ok (record no_records {
+      posts = record {
+        id = 7;
+        kind = Page;
+        status = Draft;
+        title = codes "T";
+        content = codes "C";
+        date = codes "2024-05-01 10:00:00";
+      } ∷ [];
+    })
 unfolding computes
 page = refl
 
@@ -72,19 +84,23 @@ pub null_posts : site_file_in (codes "{\"version\":1,\"posts\":null}") ≡ Err (
 unfolding computes
 null_posts = refl
 
-pub post_without_content : site_file_in (codes "{\"version\":1,\"posts\":[{\"id\":1,\"kind\":\"post\",\"status\":\"publish\",\"title\":\"T\",\"date\":\"2024-05-01 10:00:00\"}]}") ≡ Err (BadImport (entry_of Posts 0))
+pub post_without_content : site_file_in (codes "{\"version\":1,\"posts\":[{\"id\":1,\"kind\":\"post\",\"status\":\"publish\",\"title\":\"T\",\"date\":\"2024-05-01 10:00:00\"}]}")
+    ≡ Err (BadImport (entry_of Posts 0))
 unfolding computes
 post_without_content = refl
 
-pub id_0 : site_file_in (codes "{\"version\":1,\"posts\":[{\"id\":0,\"kind\":\"post\",\"status\":\"publish\",\"title\":\"T\",\"content\":\"C\",\"date\":\"2024-05-01 10:00:00\"}]}") ≡ Err (BadImport (entry_of Posts 0))
+pub id_0 : site_file_in (codes "{\"version\":1,\"posts\":[{\"id\":0,\"kind\":\"post\",\"status\":\"publish\",\"title\":\"T\",\"content\":\"C\",\"date\":\"2024-05-01 10:00:00\"}]}")
+    ≡ Err (BadImport (entry_of Posts 0))
 unfolding computes
 id_0 = refl
 
-pub second_date : site_file_in (codes "{\"version\":1,\"posts\":[{\"id\":1,\"kind\":\"post\",\"status\":\"publish\",\"title\":\"T\",\"content\":\"C\",\"date\":\"2024-05-01 10:00:00\"},{\"id\":2,\"kind\":\"post\",\"status\":\"publish\",\"title\":\"T\",\"content\":\"C\",\"date\":\"2024-02-30 10:00:00\"}]}") ≡ Err (BadDate (entry_of Posts 1))
+pub second_date : site_file_in (codes "{\"version\":1,\"posts\":[{\"id\":1,\"kind\":\"post\",\"status\":\"publish\",\"title\":\"T\",\"content\":\"C\",\"date\":\"2024-05-01 10:00:00\"},{\"id\":2,\"kind\":\"post\",\"status\":\"publish\",\"title\":\"T\",\"content\":\"C\",\"date\":\"2024-02-30 10:00:00\"}]}")
+    ≡ Err (BadDate (entry_of Posts 1))
 unfolding computes
 second_date = refl
 
-pub first_post_first : site_file_in (codes "{\"version\":1,\"posts\":[{\"id\":1,\"kind\":\"post\",\"status\":\"publish\",\"title\":\"T\",\"content\":\"C\",\"date\":\"2024-02-30 10:00:00\"},0]}") ≡ Err (BadDate (entry_of Posts 0))
+pub first_post_first : site_file_in (codes "{\"version\":1,\"posts\":[{\"id\":1,\"kind\":\"post\",\"status\":\"publish\",\"title\":\"T\",\"content\":\"C\",\"date\":\"2024-02-30 10:00:00\"},0]}")
+    ≡ Err (BadDate (entry_of Posts 0))
 unfolding computes
 first_post_first = refl
 
@@ -126,15 +142,18 @@ pub active_number : site_file_in (codes "{\"version\":1,\"active\":[\"once\",1]}
 unfolding computes
 active_number = refl
 
-pub front_page : site_file_in (codes "{\"version\":2,\"front\":{\"show\":\"page\",\"page\":7}}") ≡ Ok (record no_records { options = (codes "show_on_front", codes "page") ∷ (codes "page_on_front", codes "7") ∷ [] })
+pub front_page : site_file_in (codes "{\"version\":2,\"front\":{\"show\":\"page\",\"page\":7}}")
+    ≡ Ok (record no_records { options = (codes "show_on_front", codes "page") ∷ (codes "page_on_front", codes "7") ∷ [] })
 unfolding computes
 front_page = refl
 
-pub front_posts : site_file_in (codes "{\"version\":2,\"front\":{\"show\":\"posts\",\"page\":0}}") ≡ Ok (record no_records { options = (codes "show_on_front", codes "posts") ∷ [] })
+pub front_posts : site_file_in (codes "{\"version\":2,\"front\":{\"show\":\"posts\",\"page\":0}}")
+    ≡ Ok (record no_records { options = (codes "show_on_front", codes "posts") ∷ [] })
 unfolding computes
 front_posts = refl
 
-pub front_after_options : site_file_in (codes "{\"version\":2,\"front\":{\"show\":\"posts\"},\"options\":{\"show_on_front\":\"page\",\"x\":\"1\"}}") ≡ Ok (record no_records { options = (codes "show_on_front", codes "page") ∷ (codes "x", codes "1") ∷ (codes "show_on_front", codes "posts") ∷ [] })
+pub front_after_options : site_file_in (codes "{\"version\":2,\"front\":{\"show\":\"posts\"},\"options\":{\"show_on_front\":\"page\",\"x\":\"1\"}}")
+    ≡ Ok (record no_records { options = (codes "show_on_front", codes "page") ∷ (codes "x", codes "1") ∷ (codes "show_on_front", codes "posts") ∷ [] })
 unfolding computes
 front_after_options = refl
 

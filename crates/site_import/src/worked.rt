@@ -37,7 +37,16 @@ pub fn worked_site_files()
 
     // Posts, with each of their keys.
     ensures page { site_file_in (codes "{\"version\":1,\"posts\":[{\"id\":7,\"kind\":\"page\",\"status\":\"draft\",\"title\":\"T\",\"content\":\"C\",\"date\":\"2024-05-01 10:00:00\"}]}")
-        ≡ Ok (record no_records { posts = record { id = 7; kind = PostKind.Page; status = PostStatus.Draft; title = codes "T"; content = codes "C"; date = codes "2024-05-01 10:00:00" } ∷ [] }) }
+        ≡ Ok (record no_records {
+          posts = record {
+            id = 7;
+            kind = PostKind.Page;
+            status = PostStatus.Draft;
+            title = codes "T";
+            content = codes "C";
+            date = codes "2024-05-01 10:00:00";
+          } ∷ [];
+        }) }
     ensures null_posts { site_file_in (codes "{\"version\":1,\"posts\":null}")
         ≡ Err (ImportFault.BadImport (whole Section.Posts)) }
     ensures post_without_content { site_file_in (codes "{\"version\":1,\"posts\":[{\"id\":1,\"kind\":\"post\",\"status\":\"publish\",\"title\":\"T\",\"date\":\"2024-05-01 10:00:00\"}]}")
@@ -71,11 +80,17 @@ pub fn worked_site_files()
 
     // What the front shows: options after the others, in version 2 alone.
     ensures front_page { site_file_in (codes "{\"version\":2,\"front\":{\"show\":\"page\",\"page\":7}}")
-        ≡ Ok (record no_records { options = (codes "show_on_front", codes "page") ∷ (codes "page_on_front", codes "7") ∷ [] }) }
+        ≡ Ok (record no_records {
+          options =
+              (codes "show_on_front", codes "page") ∷ (codes "page_on_front", codes "7") ∷ [];
+        }) }
     ensures front_posts { site_file_in (codes "{\"version\":2,\"front\":{\"show\":\"posts\",\"page\":0}}")
         ≡ Ok (record no_records { options = (codes "show_on_front", codes "posts") ∷ [] }) }
     ensures front_after_options { site_file_in (codes "{\"version\":2,\"front\":{\"show\":\"posts\"},\"options\":{\"show_on_front\":\"page\",\"x\":\"1\"}}")
-        ≡ Ok (record no_records { options = (codes "show_on_front", codes "page") ∷ (codes "x", codes "1") ∷ (codes "show_on_front", codes "posts") ∷ [] }) }
+        ≡ Ok (record no_records {
+          options = (codes "show_on_front", codes "page")
+              ∷ (codes "x", codes "1") ∷ (codes "show_on_front", codes "posts") ∷ [];
+        }) }
     ensures front_in_version_1 { site_file_in (codes "{\"version\":1,\"front\":{\"show\":\"page\",\"page\":7}}")
         ≡ Ok no_records }
     ensures front_x { site_file_in (codes "{\"version\":2,\"front\":{\"show\":\"x\"}}")

@@ -55,7 +55,12 @@ module _ (rows : Rows) (options templates : Option Texts) (active : Option (List
   without_found = record { options = up.options; templates = up.templates; active = up.active; found = none rows }
 
   with_posts : (posts : List Post) (largest : ℕ) → Keeps (record rows { posts = posts; largest = largest })
-  with_posts posts largest = record { options = up.options; templates = up.templates; active = up.active; found = none (record rows { posts = posts; largest = largest }) }
+  with_posts posts largest = record {
+    options = up.options;
+    templates = up.templates;
+    active = up.active;
+    found = none (record rows { posts = posts; largest = largest });
+  }
 
   pub put-up : (kind : PostKind) (status : PostStatus) (title content date : Text) → After Keeps (put rows kind status title content date)
   put-up kind status title content date = put-after Keeps rows without_found with_posts kind status title content date

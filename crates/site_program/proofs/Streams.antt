@@ -1,5 +1,7 @@
 -- Lemmas on a stretch of input whose lines are carried out one after another.
-use Rattle.std.proofs.Common.{arith, ◌≡◌, ◌≢◌, ◌⊎◌, inl, inr, ℕ, suc, ◌+◌, ◌-◌, ◌<◌, ◌≤◌, List, [], ◌∷◌, ◌++◌, ◌∙◌, Option, Some, None, Result, Ok, Err, zero, Bool, true, false, refl, sym, subst, ap, length, take, drop, get_or, append_assoc, append-nil, eq-eqb, length-append, take-append-drop, flat_map}
+use Rattle.std.proofs.Common.{arith, ◌≡◌, ◌≢◌, ◌⊎◌, inl, inr, ℕ, suc, ◌+◌, ◌-◌, ◌<◌, ◌≤◌, List, [], ◌∷◌, ◌++◌, ◌∙◌, Option, Some, None, Result, Ok, Err}
+use Rattle.std.proofs.Common.{zero, Bool, true, false, refl, sym, subst, ap, length, take, drop, get_or, append_assoc, append-nil, eq-eqb, length-append}
+use Rattle.std.proofs.Common.{take-append-drop, flat_map}
 use Rattle.std.specs.Prelude.{◌==◌, is_err, OnOk, IfErr}
 use Rattle.std.proofs.lemmas.Grind.{common_steps, flat_map-append}
 use Rattle.std.proofs.lemmas.List.Elements.{All-push, All-append, All-from_get_or, All-nil}

@@ -20,7 +20,8 @@ abbrev pub size_of : Post → ℕ
 size_of p = length p.title + length p.content
 
 -- what is kept is what a request would find
-pub record KeepsUp (rows : Rows) (kept_options kept_templates : Option Texts) (kept_active : Option (List Text)) (kept_found : List (Text × Found)) : Type 0 where
+pub record KeepsUp (rows : Rows) (kept_options kept_templates : Option Texts)
+    (kept_active : Option (List Text)) (kept_found : List (Text × Found)) : Type 0 where
   pub options : IfSome kept_options (λ texts. texts ≡ options_of rows)
   pub templates : IfSome kept_templates (λ texts. texts ≡ templates_of rows)
   pub active : IfSome kept_active (λ names. names ≡ active_of rows)

@@ -100,12 +100,12 @@ module _ (engine : Engine) (settings : Settings) where
     refused_move left now OutOfMemory w v n is = tt
 
     -- the job under way has made an invocation
-    pub more_move : (left now : Trace Text) (x : result.Turn) (later : World) → left ≡ run.turn_gives x later now → x ≡ turn.More
+    pub more_move : (left now : Trace Text) (x : result.Turn) (later : World) → left ≡ run.trace_of_turn x later now → x ≡ turn.More
         → then_items engine settings (begun world left (Some hand)) items ≡ Turn later (then_items engine settings (begun later now (Some hand)) items)
     more_move left now x later is more = rw (is, more) refl
 
     -- the job under way is done, and its result was handed on
-    pub done_move : (left now : Trace Text) (x : result.Turn) (text : Text) (later last : World) → left ≡ run.turn_gives x later now → x ≡ turn.Done text
+    pub done_move : (left now : Trace Text) (x : result.Turn) (text : Text) (later last : World) → left ≡ run.trace_of_turn x later now → x ≡ turn.Done text
         → handed_on hand later text ≡ Done last tt
         → then_items engine settings (begun world left (Some hand)) items ≡ each (placed_pass engine settings) last items
     done_move left now x text later last is done handed = rw (is, done, handed) refl

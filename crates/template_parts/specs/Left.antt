@@ -86,23 +86,23 @@ module _ {S : Type 0} where
   IsIdleAtEnd (Ok stop.Turned) run = ⊤
   IsIdleAtEnd (Err fault) run = ⊤
 
-abbrev pub move_gives : Moved → World → Work → Work
-move_gives moved.Turned world now = Turn world now
-move_gives moved.On world now = now
-move_gives moved.Over world now = Done world tt
+abbrev pub work_of_move : Moved → World → Work → Work
+work_of_move moved.Turned world now = Turn world now
+work_of_move moved.On world now = now
+work_of_move moved.Over world now = Done world tt
 
 abbrev pub Moves : Work → Result Moved RunFault → World → Work → Type 0
-Moves left (Ok move) world now = left ≡ move_gives move world now
+Moves left (Ok move) world now = left ≡ work_of_move move world now
 Moves left (Err TooManyCalls) world now = left ≡ Refused TooManyCalls
 Moves left (Err TooDeep) world now = left ≡ Refused TooDeep
 Moves left (Err OutOfMemory) world now = ⊤
 
-abbrev pub stop_gives : Stop → World → Work → Work
-stop_gives stop.Turned world now = Turn world now
-stop_gives stop.Over world now = Done world tt
+abbrev pub work_of_stop : Stop → World → Work → Work
+work_of_stop stop.Turned world now = Turn world now
+work_of_stop stop.Over world now = Done world tt
 
 abbrev pub Stops : Work → Result Stop RunFault → World → Work → Type 0
-Stops left (Ok stop) world now = left ≡ stop_gives stop world now
+Stops left (Ok stop) world now = left ≡ work_of_stop stop world now
 Stops left (Err TooManyCalls) world now = left ≡ Refused TooManyCalls
 Stops left (Err TooDeep) world now = left ≡ Refused TooDeep
 Stops left (Err OutOfMemory) world now = ⊤

@@ -3,7 +3,8 @@ use Rattle.std.proofs.Common.{◌≡◌, ◌∙◌, ℕ, [], ◌∷◌, codes, r
 use Rattle.std.specs.Fmt.{digits}
 use Rattle.std.specs.Str.{is_utf8, chars}
 use Rattle.hook_machine.specs.World.{loaded}
-use Rattle.hook_machine.specs.Meaning.{deeper, group_pass, priorities_pass, pass, filter_pass, action_pass, handled, piece_pass, pieces_pass, shortcodes_pass, answered, follow, invoked, invoked_with, invoke_within, invoke, filtered, acted}
+use Rattle.hook_machine.specs.Meaning.{deeper, group_pass, priorities_pass, pass, filter_pass, action_pass, handled, piece_pass, pieces_pass}
+use Rattle.hook_machine.specs.Meaning.{shortcodes_pass, answered, follow, invoked, invoked_with, invoke_within, invoke, filtered, acted}
 use Rattle.post_tables.specs.Rows.{Rows}
 use Rattle.site_replies.specs.declared.reply.Refusal.TheVariants.{TooManyCalls}
 use Rattle.shortcode_scan.specs.Places.{first_place}

@@ -1,5 +1,5 @@
 use Rattle.hook_registry.proofs.Behind.{group-changed, after-changed}
-use Rattle.hook_registry.proofs.laws.changes_behind.Goals as goal
+use Rattle.hook_registry.proofs.laws.later_priorities_stay.Goals as goal
 
 pub returns-clause-groups : goal.returns-clause-groups
 returns-clause-groups c = group-changed

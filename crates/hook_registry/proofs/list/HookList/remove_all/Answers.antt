@@ -8,7 +8,8 @@ use Rattle.hook_registry.proofs.Kept.{others-kept}
 use Rattle.hook_registry.proofs.list.HookList.remove_all.Goals as goal
 
 pub returns-in-None : goal.returns-in-None
-returns-in-None c = rw (c.in-None.is, ← c.self.view_is) (ap (λ es. by_priority (map kept es)) c.clear.ensures.empty ∙ filter_other-none (by_priority (map kept c.self.inside.accepted.entries)))
+returns-in-None c = rw (c.in-None.is, ← c.self.view_is)
+    (ap (λ es. by_priority (map kept es)) c.clear.ensures.empty ∙ filter_other-none (by_priority (map kept c.self.inside.accepted.entries)))
 
 pub returns-in-Some : goal.returns-in-Some
 returns-in-Some c =

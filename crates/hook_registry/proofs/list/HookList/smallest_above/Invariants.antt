@@ -1,7 +1,7 @@
 use Rattle.std.proofs.Common.{◌≡◌, take}
 use Rattle.hook_registry.specs.Kept.{number_above}
 use Rattle.hook_registry.proofs.Kept.{least_keys}
-use Rattle.hook_registry.proofs.list.HookList.least_above.Given as goal
+use Rattle.hook_registry.proofs.list.HookList.smallest_above.Given as goal
 
 -- the smallest one of the keys passed
 abbrev pub invariant-loop-key : goal.invariant-loop-key

@@ -1,6 +1,6 @@
 use Rattle.std.proofs.Common.{◌≡◌, take, ◌==◌}
 use Rattle.hook_registry.proofs.Kept.{least_keys}
-use Rattle.hook_registry.proofs.list.HookList.least_of.Given as goal
+use Rattle.hook_registry.proofs.list.HookList.smallest_of.Given as goal
 
 -- the smallest one of the keys passed
 abbrev pub invariant-loop-key : goal.invariant-loop-key

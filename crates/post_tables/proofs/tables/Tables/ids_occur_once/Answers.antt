@@ -3,7 +3,7 @@ use Rattle.std.specs.Prelude.{All}
 use Rattle.std.specs.List.Sorted.{IsStrictlySortedBy}
 use Rattle.std.specs.Ordering.{nat_cmp}
 use Rattle.post_tables.proofs.PartLemmas.{ids_rise, site_rises, site_given}
-use Rattle.post_tables.proofs.tables.Tables.ids_stand_once.Goals as goal
+use Rattle.post_tables.proofs.tables.Tables.ids_occur_once.Goals as goal
 
 pub returns-clause-once : goal.returns-clause-once
 returns-clause-once c = subst (λ s. IsStrictlySortedBy nat_cmp (map (λ p. p.id) s.posts)) c.self.view_is

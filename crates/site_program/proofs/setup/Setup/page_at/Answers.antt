@@ -15,7 +15,8 @@ returns-clause-ok g c =
     let t : c.in_ok-templates.templates ≡ templates_of rows = search rules in
     let a : c.as_slice-3.result.now ≡ active_of rows = search rules in
     let f : c.in_ok-found.found ≡ found_by rows c.args.path.now = search rules in
-    IfOk-weaker c.page_reply-reply.result (λ reply. reply_data reply ≡ page_of engine calls c.in_ok-found.found c.as_slice-2.result.now c.in_ok-templates.templates
+    IfOk-weaker c.page_reply-reply.result
+    (λ reply. reply_data reply ≡ page_of engine calls c.in_ok-found.found c.as_slice-2.result.now c.in_ok-templates.templates
     c.as_slice-3.result.now)
     (λ reply. reply_data reply ≡ request engine calls rows c.args.path.now)
     (λ reply is. request-is engine calls rows c.args.path.now (reply_data reply) c.in_ok-found.found c.as_slice-2.result.now c.in_ok-templates.templates

@@ -3,10 +3,12 @@ use Rattle.std.proofs.lemmas.Grind.{common_steps}
 use Rattle.std.proofs.KnownBytes.{Appends-nil}
 use Rattle.site_program.specs.Lines.{IsLine, max_line}
 use Rattle.site_program.specs.Stream.{IsTooLong}
-use Rattle.site_program.proofs.Streams.{Takes-nil, Takes-held, Takes-line, on_every_ok, sound_without_memory, IsLine-nil, IsLine-before, IsLine-whole, IsTooLong-before, IsTooLong-whole, whole_line, fault_at, FaultsAt-finish, some_of, no_newline_found}
+use Rattle.site_program.proofs.Streams.{Takes-nil, Takes-held, Takes-line, on_every_ok, sound_without_memory, IsLine-nil, IsLine-before, IsLine-whole}
+use Rattle.site_program.proofs.Streams.{IsTooLong-before, IsTooLong-whole, whole_line, fault_at, FaultsAt-finish, some_of, no_newline_found}
 use Rattle.std.proofs.lemmas.Result.{err_from_is_err_and, IfOk-weaker, IfErr-weaker}
 use Rattle.site_program.proofs.setup.Setup.take_chunk.Goals as goal
-use Rattle.site_program.proofs.setup.Setup.take_chunk.Goals.{then-left-eq0-via-then-left-eq0, then-left-eq0-via-else-left-eq0+then-end-len, then-left-eq0-2-via-then-left-eq0-2, then-left-eq0-2-via-else-left-eq0-2+then-rest-len}
+use Rattle.site_program.proofs.setup.Setup.take_chunk.Goals.{then-left-eq0-via-then-left-eq0, then-left-eq0-via-else-left-eq0+then-end-len}
+use Rattle.site_program.proofs.setup.Setup.take_chunk.Goals.{then-left-eq0-2-via-then-left-eq0-2, then-left-eq0-2-via-else-left-eq0-2+then-rest-len}
 
 -- a line too many, or one too long
 pub returns-then-left-eq0-clause-err : goal.returns-then-left-eq0-clause-err

@@ -6,7 +6,8 @@ use Rattle.std.proofs.lemmas.Grind.{common_steps}
 use Rattle.std.proofs.lemmas.Bool.{eqb-true}
 use Rattle.std.proofs.lemmas.Result.{err_from_is_err_and}
 use Rattle.site_program.proofs.Streams.{some_of}
-use Rattle.site_program.proofs.Endings.{falls, faults_but_read, Stops-from_read, Stops-from_faults, Faults-after, Takes-trans, Consumes-none, ServesAll-from, ServesAll-from_last, Stops-from_last, replies_told}
+use Rattle.site_program.proofs.Endings.{falls, faults_but_read, Stops-from_read, Stops-from_faults, Faults-after, Takes-trans, Consumes-none}
+use Rattle.site_program.proofs.Endings.{ServesAll-from, ServesAll-from_last, Stops-from_last, replies_told}
 use Rattle.site_program.proofs.site.Site.serve.Goals as goal
 use Rattle.site_program.proofs.site.Site.serve.Goals.{then-not-is_empty+in_ok-reply_to, else-not-is_empty}
 
