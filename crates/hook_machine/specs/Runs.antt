@@ -34,12 +34,17 @@ module _ {S : Type 0} where
   abbrev pub IsReady : Run S → Type 0
   IsReady run = (fault_of run ≡ None) × IsIdle run
 
+  -- the stated replies, and the plugins of the run
+  abbrev pub engine_of : (ℕ → Call → Reply) → (S → ℕ) → Run S → Engine
+  engine_of says number run = engine_with says (shapes_of number run.plugins.now)
+
   -- a call of a run that has returned a fault returns it again; after any other call, the run has the fault that the
-  -- call returned, if it did
-  pub record KeepsFault {A : Type 0} (before : Run S) (result : Result A RunFault) (after : Run S) : Type 0 where
+  -- call returned, if it did; and its plugins stay as they are
+  pub record Keeps (says : ℕ → Call → Reply) (number : S → ℕ) {A : Type 0} (before : Run S) (result : Result A RunFault) (after : Run S) : Type 0 where
     pub again : IfSome (fault_of before) (λ fault. result ≡ Err fault)
     pub sound : OnOk result (fault_of after ≡ None)
     pub fault : IfErr result (λ fault. fault_of after ≡ Some fault)
+    pub engine : engine_of says number after ≡ engine_of says number before
 
   -- what the run has still to do
   abbrev pub left_of : Engine → Run S → Trace Text
@@ -50,10 +55,6 @@ module _ {S : Type 0} where
   IsIdleAtEnd (Ok turn.More) run = ⊤
   IsIdleAtEnd (Ok (turn.Done x)) run = IsIdle run
   IsIdleAtEnd (Err fault) run = ⊤
-
-  -- the stated replies, and the plugins of the run
-  abbrev pub engine_of : (ℕ → Call → Reply) → (S → ℕ) → Run S → Engine
-  engine_of says number run = engine_with says (shapes_of number run.plugins.now)
 
 -- the fault of a result
 abbrev pub fault_in : {A : Type 0} → Result A RunFault → Option RunFault

@@ -143,7 +143,7 @@ impl<'a, S: Stated> Run<'a, S> {
     ghost use Rattle.hook_machine.specs.Moves.{Turns};
     ghost use Rattle.hook_machine.specs.Jobs.{job_left};
     ghost use Rattle.hook_machine.specs.Runs.{world_of, fault_of, engine_of, left_of, CanBegin, IsIdle, IsIdleAtEnd};
-    ghost use Rattle.hook_machine.specs.Runs.{KeepsFault};
+    ghost use Rattle.hook_machine.specs.Runs.{Keeps};
 
     /// Makes a run with nothing registered and nothing printed, of a site with these active plugins and options, that
     /// may make that many invocations. If an option has two values, the first counts.
@@ -181,8 +181,7 @@ impl<'a, S: Stated> Run<'a, S> {
             OnOk result (world_of self.new ≡ loaded (engine_of S.says S.number self.old).plugins
             (world_of self.old)) }
         ensures memory { fault_of self.old ≡ None → IfErr result (λ fault. fault ≡ RunFault.OutOfMemory) }
-        ensures fault { KeepsFault self.old result self.new }
-        ensures engine { engine_of S.says S.number self.new ≡ engine_of S.says S.number self.old }
+        ensures keeps { Keeps S.says S.number self.old result self.new }
     {
         if let Some(fault) = self.fault {
             return Err(fault);
@@ -210,8 +209,7 @@ impl<'a, S: Stated> Run<'a, S> {
         ensures filtered { fault_of self.old ≡ None →
             RunsAs (filtered (engine_of S.says S.number self.old) (world_of self.old) hook.now value args.now) result
             (world_of self.new) }
-        ensures fault { KeepsFault self.old result self.new }
-        ensures engine { engine_of S.says S.number self.new ≡ engine_of S.says S.number self.old }
+        ensures keeps { Keeps S.says S.number self.old result self.new }
     {
         if let Some(fault) = self.fault {
             return Err(fault);
@@ -241,8 +239,7 @@ impl<'a, S: Stated> Run<'a, S> {
         ensures acted { fault_of self.old ≡ None →
             RunsAs (acted (engine_of S.says S.number self.old) (world_of self.old) hook.now args.now) result
             (world_of self.new) }
-        ensures fault { KeepsFault self.old result self.new }
-        ensures engine { engine_of S.says S.number self.new ≡ engine_of S.says S.number self.old }
+        ensures keeps { Keeps S.says S.number self.old result self.new }
     {
         if let Some(fault) = self.fault {
             return Err(fault);
@@ -270,8 +267,7 @@ impl<'a, S: Stated> Run<'a, S> {
         ensures replaced { fault_of self.old ≡ None →
             RunsAs (replaced (engine_of S.says S.number self.old) (world_of self.old) text.now) result
             (world_of self.new) }
-        ensures fault { KeepsFault self.old result self.new }
-        ensures engine { engine_of S.says S.number self.new ≡ engine_of S.says S.number self.old }
+        ensures keeps { Keeps S.says S.number self.old result self.new }
     {
         if let Some(fault) = self.fault {
             return Err(fault);
@@ -295,8 +291,7 @@ impl<'a, S: Stated> Run<'a, S> {
             (engine_of S.says S.number self.old) (world_of self.old) job) }
         ensures same { world_of self.new ≡ world_of self.old }
         ensures succeeds { fault_of self.old ≡ None → IsOk result }
-        ensures fault { KeepsFault self.old result self.new }
-        ensures engine { engine_of S.says S.number self.new ≡ engine_of S.says S.number self.old }
+        ensures keeps { Keeps S.says S.number self.old result self.new }
     {
         if let Some(fault) = self.fault {
             return Err(fault);
@@ -312,8 +307,7 @@ impl<'a, S: Stated> Run<'a, S> {
             Turns (left_of (engine_of S.says S.number self.old) self.old) result (world_of self.new)
             (left_of (engine_of S.says S.number self.old) self.new) }
         ensures idle { IsIdleAtEnd result self.new }
-        ensures fault { KeepsFault self.old result self.new }
-        ensures engine { engine_of S.says S.number self.new ≡ engine_of S.says S.number self.old }
+        ensures keeps { Keeps S.says S.number self.old result self.new }
     {
         if let Some(fault) = self.fault {
             return Err(fault);
@@ -332,8 +326,7 @@ impl<'a, S: Stated> Run<'a, S> {
             OnOk result (world_of self.new ≡ record (world_of self.old)
             { output = (world_of self.old).output ++ text.now }) }
         ensures memory { fault_of self.old ≡ None → IfErr result (λ fault. fault ≡ RunFault.OutOfMemory) }
-        ensures fault { KeepsFault self.old result self.new }
-        ensures engine { engine_of S.says S.number self.new ≡ engine_of S.says S.number self.old }
+        ensures keeps { Keeps S.says S.number self.old result self.new }
     {
         if let Some(fault) = self.fault {
             return Err(fault);
@@ -355,8 +348,7 @@ impl<'a, S: Stated> Run<'a, S> {
             IfOk result (λ text. (text ≡ (world_of self.old).output) ×
             (world_of self.new ≡ record (world_of self.old) { output = [] })) }
         ensures succeeds { fault_of self.old ≡ None → IsOk result }
-        ensures fault { KeepsFault self.old result self.new }
-        ensures engine { engine_of S.says S.number self.new ≡ engine_of S.says S.number self.old }
+        ensures keeps { Keeps S.says S.number self.old result self.new }
     {
         if let Some(fault) = self.fault {
             return Err(fault);

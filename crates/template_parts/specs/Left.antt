@@ -1,5 +1,7 @@
 -- What a page has still to do.
-use Rattle.std.specs.Prelude.{◌≡◌, ℕ, zero, suc, ◌+◌, ◌*◌, ◌<◌, List, length, Option, None, Some, Result, Ok, Err, ⊤}
+use Rattle.std.specs.Prelude.{◌≡◌, ℕ, zero, suc, ◌+◌, ◌*◌, ◌<◌, List, length, Option, None, Some, Result, Ok, Err, OnOk, IfOk, IfErr, ⊤}
+use Rattle.hook_changes.specs.declared.reply.Call.{Call}
+use Rattle.hook_changes.specs.declared.reply.Reply.{Reply}
 use Rattle.site_records.specs.declared.post.Post.{Post}
 use Rattle.template_trees.specs.declared.tree.Item.{Item}
 use Rattle.hook_machine.specs.World.{Text, World}
@@ -8,7 +10,7 @@ use Rattle.hook_machine.specs.declared.fault.RunFault.TheVariants.{TooManyCalls,
 use Rattle.hook_machine.specs.declared.run.Run.{Run}
 use Rattle.hook_machine.specs.Trace.{Trace, Done, Refused, Turn, and_then}
 use Rattle.hook_machine.specs.Meaning.{Engine}
-use Rattle.hook_machine.specs.Runs.{world_of, fault_of, left_of, IsIdle}
+use Rattle.hook_machine.specs.Runs.{world_of, fault_of, engine_of, left_of, IsIdle, IsReady}
 use Rattle.page_escapes.specs.Escapes.{ends_escaped, html_escaped}
 use Rattle.template_parts.specs.declared.settings.Settings.{Settings}
 use Rattle.template_parts.specs.declared.item.Shown.{Shown}
@@ -70,7 +72,22 @@ module _ {S : Type 0} where
   abbrev pub IsBegun : Engine → Work → Run S → Option Hand → Type 0
   IsBegun engine work run hand = (work ≡ begun (world_of run) (left_of engine run) hand) × (fault_of run ≡ None) × (hand ≡ None → IsIdle run)
 
-  -- the same for a run
+  -- a run has begun some work, as `IsBegun` says, and has the plugins that it had; or memory ran out
+  pub record Begins (says : ℕ → Call → Reply) (number : S → ℕ) (before : Run S) (result : Result (Option Hand) RunFault) (after : Run S)
+      (work : Engine → World → Work) : Type 0 where
+    pub begun : IfOk result (IsBegun (engine_of says number before) (work (engine_of says number before) (world_of before)) after)
+    pub memory : IfErr result (λ fault. fault ≡ OutOfMemory)
+    pub engine : engine_of says number after ≡ engine_of says number before
+
+  -- a run has done some work without a callback, and has the plugins that it had; or memory ran out
+  pub record Finishes (says : ℕ → Call → Reply) (number : S → ℕ) (before : Run S) (result : Result (Unit {0}) RunFault) (after : Run S)
+      (work : World → Work) : Type 0 where
+    pub done : OnOk result (work (world_of before) ≡ Done (world_of after) tt)
+    pub ready : OnOk result (IsReady after)
+    pub memory : IfErr result (λ fault. fault ≡ OutOfMemory)
+    pub engine : engine_of says number after ≡ engine_of says number before
+
+  -- what is left of a page with a run
   abbrev pub run_left : Engine → Settings → List Post → Run S → Ahead → Work
   run_left engine settings posts run ahead = ahead_of engine settings posts (world_of run) (left_of engine run) ahead
 

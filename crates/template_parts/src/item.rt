@@ -1,10 +1,9 @@
 //! Beginning an item of a page, and handing on the result of its job.
-ghost use Rattle.std.specs.Prelude.{◌≡◌, [], ◌∷◌, IfOk, IfErr, OnOk, option_map, codes, decimal};
-ghost use Rattle.hook_machine.specs.Runs.{world_of, fault_of, engine_of, IsReady};
-ghost use Rattle.hook_machine.specs.Trace.{Done};
-ghost use Rattle.template_parts.specs.Pages.{printed, permalink, shown_pass, action_pass};
+ghost use Rattle.std.specs.Prelude.{◌≡◌, [], ◌∷◌, IfOk, option_map, decimal};
+ghost use Rattle.hook_machine.specs.Runs.{IsReady};
+ghost use Rattle.template_parts.specs.Pages.{printed, permalink, shown_pass, title_pass, content_pass, action_pass};
 ghost use Rattle.template_parts.specs.Pages.{post_tag_pass, tag_pass, item_pass};
-ghost use Rattle.template_parts.specs.Left.{shown_as, handed_on, IsBegun};
+ghost use Rattle.template_parts.specs.Left.{shown_as, handed_on, Begins, Finishes};
 
 use crate::settings::Settings;
 use callback_store::Stated;
@@ -36,10 +35,7 @@ pub enum Hand {
 /// Prints a text as it is.
 fn print<S: Stated>(run: &mut Run<'_, S>, text: &str) -> Result<Option<Hand>, RunFault>
     requires { IsReady run.old }
-    ensures begun { IfOk result (IsBegun (engine_of S.says S.number run.old) (printed (world_of run.old) text.now)
-        run.new) }
-    ensures memory { IfErr result (λ fault. fault ≡ RunFault.OutOfMemory) }
-    ensures engine { engine_of S.says S.number run.new ≡ engine_of S.says S.number run.old }
+    ensures { Begins S.says S.number run.old result run.new (λ engine world. printed world text.now) }
 {
     run.print(text)?;
     Ok(None)
@@ -52,10 +48,8 @@ fn print_escaped<S: Stated>(
     text: &str,
 ) -> Result<Option<Hand>, RunFault>
     requires { IsReady run.old }
-    ensures begun { IfOk result (IsBegun (engine_of S.says S.number run.old) (printed (world_of run.old)
-        (shown_as Shown.HtmlEscaped text.now)) run.new) }
-    ensures memory { IfErr result (λ fault. fault ≡ RunFault.OutOfMemory) }
-    ensures engine { engine_of S.says S.number run.new ≡ engine_of S.says S.number run.old }
+    ensures { Begins S.says S.number run.old result run.new
+        (λ engine world. printed world (shown_as Shown.HtmlEscaped text.now)) }
 {
     let escaped = escape_html(alloc, text)?;
     print(run, escaped.as_str())
@@ -68,10 +62,7 @@ fn print_permalink<S: Stated>(
     post: &Post,
 ) -> Result<Option<Hand>, RunFault>
     requires { IsReady run.old }
-    ensures begun { IfOk result (IsBegun (engine_of S.says S.number run.old) (printed (world_of run.old)
-        (permalink post.now)) run.new) }
-    ensures memory { IfErr result (λ fault. fault ≡ RunFault.OutOfMemory) }
-    ensures engine { engine_of S.says S.number run.new ≡ engine_of S.says S.number run.old }
+    ensures { Begins S.says S.number run.old result run.new (λ engine world. printed world (permalink post.now)) }
 {
     let path = permalink(alloc, post)?;
     print(run, path.as_str())
@@ -85,10 +76,8 @@ pub(crate) fn start_action<S: Stated>(
     hook: &str,
 ) -> Result<Option<Hand>, RunFault>
     requires { IsReady run.old }
-    ensures begun { IfOk result (IsBegun (engine_of S.says S.number run.old) (action_pass
-        (engine_of S.says S.number run.old) settings.now (world_of run.old) hook.now) run.new) }
-    ensures memory { IfErr result (λ fault. fault ≡ RunFault.OutOfMemory) }
-    ensures engine { engine_of S.says S.number run.new ≡ engine_of S.says S.number run.old }
+    ensures { Begins S.says S.number run.old result run.new
+        (λ engine world. action_pass engine settings.now world hook.now) }
 {
     let hook = Text::copied(alloc, hook)?;
     let args = Listed::empty(alloc);
@@ -107,11 +96,8 @@ fn start_filter<S: Stated>(
     shown: Shown,
 ) -> Result<Option<Hand>, RunFault>
     requires { IsReady run.old }
-    ensures begun { IfOk result (IsBegun (engine_of S.says S.number run.old) (shown_pass
-        (engine_of S.says S.number run.old) settings.now (shown_as shown) (world_of run.old) hook.now value args)
-        run.new) }
-    ensures memory { IfErr result (λ fault. fault ≡ RunFault.OutOfMemory) }
-    ensures engine { engine_of S.says S.number run.new ≡ engine_of S.says S.number run.old }
+    ensures { Begins S.says S.number run.old result run.new
+        (λ engine world. shown_pass engine settings.now (shown_as shown) world hook.now value args) }
 {
     let hook = Text::copied(alloc, hook)?;
     run.start(Job::Filters { hook, value, args })?;
@@ -127,11 +113,8 @@ fn start_title<S: Stated>(
     shown: Shown,
 ) -> Result<Option<Hand>, RunFault>
     requires { IsReady run.old }
-    ensures begun { IfOk result (IsBegun (engine_of S.says S.number run.old) (shown_pass
-        (engine_of S.says S.number run.old) settings.now (shown_as shown) (world_of run.old) (codes "the_title")
-        post.now.title (decimal post.now.id ∷ [])) run.new) }
-    ensures memory { IfErr result (λ fault. fault ≡ RunFault.OutOfMemory) }
-    ensures engine { engine_of S.says S.number run.new ≡ engine_of S.says S.number run.old }
+    ensures { Begins S.says S.number run.old result run.new
+        (λ engine world. title_pass engine settings.now (shown_as shown) post.now world) }
 {
     let title = post.title.clone()?;
     let args = number_argument(alloc, post.id)?;
@@ -146,11 +129,8 @@ fn start_content<S: Stated>(
     post: &Post,
 ) -> Result<Option<Hand>, RunFault>
     requires { IsReady run.old }
-    ensures begun { IfOk result (IsBegun (engine_of S.says S.number run.old) (shown_pass
-        (engine_of S.says S.number run.old) settings.now (shown_as Shown.EndsEscaped) (world_of run.old)
-        (codes "the_content") post.now.content []) run.new) }
-    ensures memory { IfErr result (λ fault. fault ≡ RunFault.OutOfMemory) }
-    ensures engine { engine_of S.says S.number run.new ≡ engine_of S.says S.number run.old }
+    ensures { Begins S.says S.number run.old result run.new
+        (λ engine world. content_pass engine settings.now post.now world) }
 {
     let content = post.content.clone()?;
     let args = Listed::empty(alloc);
@@ -174,10 +154,8 @@ fn begin_post_tag<S: Stated>(
     tag: PostTag,
 ) -> Result<Option<Hand>, RunFault>
     requires { IsReady run.old }
-    ensures begun { IfOk result (IsBegun (engine_of S.says S.number run.old) (post_tag_pass
-        (engine_of S.says S.number run.old) settings.now post.now (world_of run.old) tag) run.new) }
-    ensures memory { IfErr result (λ fault. fault ≡ RunFault.OutOfMemory) }
-    ensures engine { engine_of S.says S.number run.new ≡ engine_of S.says S.number run.old }
+    ensures { Begins S.says S.number run.old result run.new
+        (λ engine world. post_tag_pass engine settings.now post.now world tag) }
 {
     match tag {
         PostTag::TheTitle => start_title(alloc, run, settings, post, Shown::Plain),
@@ -199,11 +177,8 @@ fn begin_tag<S: Stated>(
     tag: Tag,
 ) -> Result<Option<Hand>, RunFault>
     requires { IsReady run.old }
-    ensures begun { IfOk result (IsBegun (engine_of S.says S.number run.old) (tag_pass
-        (engine_of S.says S.number run.old) settings.now (option_map (λ p. p.now) post.entry) (world_of run.old) tag)
-        run.new) }
-    ensures memory { IfErr result (λ fault. fault ≡ RunFault.OutOfMemory) }
-    ensures engine { engine_of S.says S.number run.new ≡ engine_of S.says S.number run.old }
+    ensures { Begins S.says S.number run.old result run.new
+        (λ engine world. tag_pass engine settings.now (option_map (λ p. p.now) post.entry) world tag) }
 {
     match tag {
         Tag::OfPost(tag) => match post {
@@ -226,11 +201,8 @@ pub(crate) fn begin_item<S: Stated>(
     item: &Item,
 ) -> Result<Option<Hand>, RunFault>
     requires { IsReady run.old }
-    ensures begun { IfOk result (IsBegun (engine_of S.says S.number run.old) (item_pass
-        (engine_of S.says S.number run.old) settings.now (option_map (λ p. p.now) post.entry) (world_of run.old)
-        item.now) run.new) }
-    ensures memory { IfErr result (λ fault. fault ≡ RunFault.OutOfMemory) }
-    ensures engine { engine_of S.says S.number run.new ≡ engine_of S.says S.number run.old }
+    ensures { Begins S.says S.number run.old result run.new
+        (λ engine world. item_pass engine settings.now (option_map (λ p. p.now) post.entry) world item.now) }
 {
     match item {
         Item::Text(text) => print(run, text.as_str()),
@@ -247,10 +219,7 @@ pub(crate) fn hand_on<S: Stated>(
     text: Text,
 ) -> Result<(), RunFault>
     requires { IsReady run.old }
-    ensures handed { OnOk result (handed_on hand (world_of run.old) text ≡ Done (world_of run.new) tt) }
-    ensures ready { OnOk result (IsReady run.new) }
-    ensures memory { IfErr result (λ fault. fault ≡ RunFault.OutOfMemory) }
-    ensures engine { engine_of S.says S.number run.new ≡ engine_of S.says S.number run.old }
+    ensures { Finishes S.says S.number run.old result run.new (λ world. handed_on hand world text) }
 {
     match hand {
         Hand::Printed(shown) => print_shown(alloc, run, shown, text),
@@ -265,10 +234,7 @@ fn print_shown<S: Stated>(
     text: Text,
 ) -> Result<(), RunFault>
     requires { IsReady run.old }
-    ensures shown { OnOk result (printed (world_of run.old) (shown_as shown text) ≡ Done (world_of run.new) tt) }
-    ensures ready { OnOk result (IsReady run.new) }
-    ensures memory { IfErr result (λ fault. fault ≡ RunFault.OutOfMemory) }
-    ensures engine { engine_of S.says S.number run.new ≡ engine_of S.says S.number run.old }
+    ensures { Finishes S.says S.number run.old result run.new (λ world. printed world (shown_as shown text)) }
 {
     match shown {
         Shown::Plain => run.print(text.as_str()),

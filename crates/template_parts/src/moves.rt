@@ -1,8 +1,8 @@
 //! Going on with a page, item by item, until a callback was invoked or nothing is left.
-ghost use Rattle.std.specs.Prelude.{◌≡◌, None, IfOk, IfErr, OnOk, option_map};
+ghost use Rattle.std.specs.Prelude.{◌≡◌, None, OnOk, option_map};
 ghost use Rattle.hook_machine.specs.Runs.{world_of, fault_of, engine_of, IsIdle, IsReady};
 ghost use Rattle.template_parts.specs.Places.{post_at};
-ghost use Rattle.template_parts.specs.Left.{step_pass, IsBegun, run_left, IsIdleIfOver};
+ghost use Rattle.template_parts.specs.Left.{step_pass, Begins, run_left, IsIdleIfOver};
 ghost use Rattle.template_parts.specs.Left.{IsIdleAtEnd, Moves, Stops, Shortens};
 
 use crate::item::{Hand, begin_item, hand_on, start_action};
@@ -62,10 +62,8 @@ fn begin_step<S: Stated>(
     step: Step,
 ) -> Result<Option<Hand>, RunFault>
     requires { IsReady run.old }
-    ensures begun { IfOk result (IsBegun (engine_of S.says S.number run.old) (step_pass
-        (engine_of S.says S.number run.old) settings.now posts.now (world_of run.old) step) run.new) }
-    ensures memory { IfErr result (λ fault. fault ≡ RunFault.OutOfMemory) }
-    ensures engine { engine_of S.says S.number run.new ≡ engine_of S.says S.number run.old }
+    ensures { Begins S.says S.number run.old result run.new
+        (λ engine world. step_pass engine settings.now posts.now world step) }
 {
     let post = post_at(posts, step.post);
     match step.place {

@@ -4,9 +4,14 @@ use Rattle.template_parts.specs.Left.{IsBegun}
 use Rattle.template_parts.proofs.Moving.{hook_step}
 use Rattle.template_parts.proofs.moves.begin_step.Goals as goal
 
-pub returns-in-Hook-clause-begun : goal.returns-in-Hook-clause-begun
-returns-in-Hook-clause-begun g c =
+pub returns-in-Hook : goal.returns-in-Hook
+returns-in-Hook g c =
     let engine = engine_of g.S.Stated.says g.S.Stated.number c.args.run.now in
     let same =
     hook_step engine c.args.settings.now c.args.posts.now (world_of c.args.run.now) c.args.step c.in-Hook.hook c.name.result.now c.in-Hook.is c.name.ensures in
-    subst (λ work. IfOk c.start_action.result (IsBegun engine work c.start_action.new.run)) same c.start_action.ensures.begun
+    let begins = c.start_action.ensures in
+    record {
+      begun = subst (λ work. IfOk c.start_action.result (IsBegun engine work c.start_action.new.run)) same begins.begun;
+      memory = begins.memory;
+      engine = begins.engine;
+    }
