@@ -1,10 +1,11 @@
-"""Edits whose verdicts are known, of a crate made for them: the runner must tell what refuses an edit."""
+"""Edits whose verdicts are known, of a crate made for them: the runner must tell what refuses an edit, and see a
+refusal once."""
 
 import tempfile
 from pathlib import Path
 
 from edits import read_edits
-from rounds import try_edits
+from refusals import Refusals, try_unseen
 
 FILES = {
     "crates.txt": "sample:\n",
@@ -55,6 +56,8 @@ EDITS = [
     ("counts_two", True, "after", {"    u16::from(n) + 1": "    u16::from(n) + 2"}),
     ("means_the_same", False, "second_after", {"    u32::from(next) + 1": "    1 + u32::from(next)"}),
 ]
+# Those that must be refused.
+WELL = [f"sample/{stem}" for stem, refused, _, _ in EDITS if refused]
 
 
 def text_of(turned, changes):
@@ -78,11 +81,32 @@ def self_test(toolchain):
             file = Path(room, f"{stem}.edit")
             file.write_text(text_of(turned, changes), encoding="utf-8")
             edits.append(read_edits(crate.name, crate.folder, file))
-        with tempfile.TemporaryDirectory(prefix="wrong-bodies-") as kept:
-            verdicts = try_edits(toolchain, crate, edits, kept)
+        refusals = Refusals(toolchain, Path(room, "refusals"), from_nothing=True)
+        verdicts = tried(toolchain, crate, edits, refusals)
+        lines = seen_once(toolchain, crate, [it for it in edits if it.label in WELL], refusals)
     wanted = {f"sample/{stem}": refused for stem, refused, _, _ in EDITS}
-    lines = []
     for refused, line in verdicts:
         label = line.partition(":")[0]
         lines.append((wanted.pop(label) == refused, f"self-test: {line[:160]}"))
     return lines + [(False, f"self-test: {label}: no verdict") for label in wanted]
+
+
+def tried(toolchain, crate, edits, refusals):
+    with tempfile.TemporaryDirectory(prefix="wrong-bodies-") as kept:
+        return try_unseen(toolchain, crate, edits, kept, refusals)[0]
+
+
+def checks_of(toolchain, crate):
+    return toolchain.spent.get(crate.name, (0, 0.0))[0]
+
+
+def seen_once(toolchain, crate, edits, refusals):
+    """Whether edits that were refused are not tried again, and are once a file of the crate has changed."""
+    before = checks_of(toolchain, crate)
+    again = tried(toolchain, crate, edits, refusals)
+    is_seen = all(refused for refused, _ in again) and checks_of(toolchain, crate) == before
+    with open(f"{crate.folder}/src/lib.rt", "a", encoding="utf-8") as file:
+        file.write("\n// One more line.\n")
+    anew = tried(toolchain, crate, edits, refusals)
+    is_tried = all(refused for refused, _ in anew) and checks_of(toolchain, crate) > before
+    return [(is_seen, "self-test: a refusal is seen once"), (is_tried, "self-test: and again once the crate has changed")]
