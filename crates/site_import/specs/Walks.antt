@@ -1,14 +1,19 @@
 -- How a site file is read: up to its first fault, or all of it.
-use Rattle.std.specs.Prelude.{ℕ, ◌+◌, List, [], ◌∷◌, Option, None, Some, Result, Ok, Err}
+use Rattle.std.specs.Prelude.{◌≡◌, ◌≢◌, ℕ, ◌+◌, List, [], ◌∷◌, Option, None, Some, Result, Ok, Err}
 use Rattle.serde_json.specs.Data.{Data, Items, no_items, item, Members, no_members, member}
 use Rattle.site_import.specs.declared.fault.Section.{Section}
 use Rattle.site_import.specs.declared.fault.Place.{Place}
 use Rattle.site_import.specs.declared.fault.ImportFault.{ImportFault}
-use Rattle.site_import.specs.declared.fault.ImportFault.TheVariants.{BadImport}
+use Rattle.site_import.specs.declared.fault.ImportFault.TheVariants.{BadImport, OutOfMemory}
 
 -- what was read, or the first fault
 abbrev pub Read : Type 0 → Type 0
 Read A = Result A ImportFault
+
+-- the result is what is meant: what was read, or the first fault; or memory ran out
+abbrev pub Reads : {A : Type 0} → Read A → Read A → Type 0
+Reads meant (Ok found) = meant ≡ Ok found
+Reads meant (Err fault) = fault ≢ OutOfMemory → meant ≡ Err fault
 
 -- the place of a section itself
 abbrev pub whole : Section → Place

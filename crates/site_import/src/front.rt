@@ -1,7 +1,7 @@
 //! What a site file says about the front.
-ghost use Rattle.std.specs.Prelude.{◌≡◌, ◌≢◌, Ok, Err, IfOk, IfErr, option_map};
+ghost use Rattle.std.specs.Prelude.{◌≡◌, IfOk, option_map};
 ghost use Rattle.serde_json.specs.View.{view};
-ghost use Rattle.site_import.specs.Walks.{section_of};
+ghost use Rattle.site_import.specs.Walks.{Reads, section_of};
 ghost use Rattle.site_import.specs.Front.{shown_in, options_for, front_of};
 
 use crate::fault::{ImportFault, Place, Section};
@@ -29,9 +29,8 @@ fn read_shown(value: &Value) -> Option<Shown>
 }
 
 /// Returns the options that say what the front shows.
-fn options_for(alloc: Global, shown: Shown) -> Result<Listed<(Text, Text)>, ImportFault>
-    ensures ok { IfOk result (λ options. options ≡ options_for shown) }
-    ensures err { IfErr result (λ fault. fault ≡ ImportFault.OutOfMemory) }
+fn options_for(alloc: Global, shown: Shown) -> Result<Listed<(Text, Text)>, AllocError>
+    ensures { IfOk result (λ options. options ≡ options_for shown) }
 {
     let mut options = Listed::empty(alloc);
     match shown {
@@ -52,14 +51,12 @@ fn option(alloc: Global, name: &str, value: &str) -> Result<(Text, Text), AllocE
 
 #[tactic(auto, unfolding(crate::specs::Front::front_of))]
 fn read_section(alloc: Global, value: &Value) -> Result<Listed<(Text, Text)>, ImportFault>
-    ensures ok { IfOk result (λ options. front_of (view value.now) ≡ Ok options) }
-    ensures err { IfErr result (λ fault. fault ≢ ImportFault.OutOfMemory
-        → front_of (view value.now) ≡ Err fault) }
+    ensures { Reads (front_of (view value.now)) result }
 {
     let Some(shown) = read_shown(value) else {
         return Err(ImportFault::BadImport(Place::whole(Section::Front)));
     };
-    options_for(alloc, shown)
+    Ok(options_for(alloc, shown)?)
 }
 
 /// Reads the section `front` of a site file, which may be missing, as the options that it sets.
@@ -67,10 +64,7 @@ pub(crate) fn read_front(
     alloc: Global,
     found: Option<&Value>,
 ) -> Result<Listed<(Text, Text)>, ImportFault>
-    ensures ok { IfOk result (λ options. section_of front_of (option_map (λ v. view v.now) found.entry)
-        ≡ Ok options) }
-    ensures err { IfErr result (λ fault. fault ≢ ImportFault.OutOfMemory
-        → section_of front_of (option_map (λ v. view v.now) found.entry) ≡ Err fault) }
+    ensures { Reads (section_of front_of (option_map (λ v. view v.now) found.entry)) result }
 {
     match found {
         Some(value) => read_section(alloc, value),

@@ -1,7 +1,7 @@
 //! The options of a site file.
-ghost use Rattle.std.specs.Prelude.{◌≡◌, ◌≢◌, Ok, Err, IfOk, IfErr, option_map};
+ghost use Rattle.std.specs.Prelude.{option_map};
 ghost use Rattle.serde_json.specs.View.{view, members_view};
-ghost use Rattle.site_import.specs.Walks.{each_from, section_of, members_of};
+ghost use Rattle.site_import.specs.Walks.{Reads, each_from, section_of, members_of};
 ghost use Rattle.site_import.specs.Options.{option_at, options_of};
 
 use crate::fault::{ImportFault, Place, Section};
@@ -16,9 +16,7 @@ fn read_option(
     value: &Value,
     entry: usize,
 ) -> Result<(Text, Text), ImportFault>
-    ensures ok { IfOk result (λ pair. option_at entry (name.now, view value.now) ≡ Ok pair) }
-    ensures err { IfErr result (λ fault. fault ≢ ImportFault.OutOfMemory
-        → option_at entry (name.now, view value.now) ≡ Err fault) }
+    ensures { Reads (option_at entry (name.now, view value.now)) result }
 {
     let place = Place::entry_of(Section::Options, entry);
     let Some(name) = option_named(name) else {
@@ -37,10 +35,7 @@ fn read_each(
     alloc: Global,
     members: &Map<String, Value>,
 ) -> Result<Listed<(Text, Text)>, ImportFault>
-    ensures ok { IfOk result (λ pairs.
-        each_from option_at 0 (members_of (members_view members.now.entries)) ≡ Ok pairs) }
-    ensures err { IfErr result (λ fault. fault ≢ ImportFault.OutOfMemory
-        → each_from option_at 0 (members_of (members_view members.now.entries)) ≡ Err fault) }
+    ensures { Reads (each_from option_at 0 (members_of (members_view members.now.entries))) result }
 {
     let count = members.len();
     let mut pairs = Listed::empty(alloc);
@@ -55,9 +50,7 @@ fn read_each(
 
 #[tactic(auto, unfolding(crate::specs::Options::options_of))]
 fn read_section(alloc: Global, value: &Value) -> Result<Listed<(Text, Text)>, ImportFault>
-    ensures ok { IfOk result (λ pairs. options_of (view value.now) ≡ Ok pairs) }
-    ensures err { IfErr result (λ fault. fault ≢ ImportFault.OutOfMemory
-        → options_of (view value.now) ≡ Err fault) }
+    ensures { Reads (options_of (view value.now)) result }
 {
     let Some(members) = value.as_object() else {
         return Err(ImportFault::BadImport(Place::whole(Section::Options)));
@@ -70,9 +63,7 @@ pub(crate) fn read_options(
     alloc: Global,
     found: Option<&Value>,
 ) -> Result<Listed<(Text, Text)>, ImportFault>
-    ensures ok { IfOk result (λ pairs. section_of options_of (option_map (λ v. view v.now) found.entry) ≡ Ok pairs) }
-    ensures err { IfErr result (λ fault. fault ≢ ImportFault.OutOfMemory
-        → section_of options_of (option_map (λ v. view v.now) found.entry) ≡ Err fault) }
+    ensures { Reads (section_of options_of (option_map (λ v. view v.now) found.entry)) result }
 {
     match found {
         Some(value) => read_section(alloc, value),

@@ -1,8 +1,8 @@
 //! The posts of a site file.
-ghost use Rattle.std.specs.Prelude.{◌≡◌, ◌≢◌, Some, Ok, Err, IfOk, IfErr, map, option_map, codes};
+ghost use Rattle.std.specs.Prelude.{◌≡◌, Some, IfOk, map, option_map, codes};
 ghost use Rattle.serde_json.specs.View.{view};
 ghost use Rattle.site_values.specs.Tree.{with_found, text_at};
-ghost use Rattle.site_import.specs.Walks.{each_from, section_of};
+ghost use Rattle.site_import.specs.Walks.{Reads, each_from, section_of};
 ghost use Rattle.site_import.specs.Posts.{post_by, shape_of, post_at, posts_in, posts_of};
 
 use crate::fault::{ImportFault, Place, Section};
@@ -72,9 +72,7 @@ fn copied(alloc: Global, row: &PostRow<'_>, date: PostDate) -> Result<Post, Allo
 }
 
 fn read_post(alloc: Global, value: &Value, entry: usize) -> Result<Post, ImportFault>
-    ensures ok { IfOk result (λ post. post_at entry (view value.now) ≡ Ok post) }
-    ensures err { IfErr result (λ fault. fault ≢ ImportFault.OutOfMemory
-        → post_at entry (view value.now) ≡ Err fault) }
+    ensures { Reads (post_at entry (view value.now)) result }
 {
     let place = Place::entry_of(Section::Posts, entry);
     let Some(row) = read_row(value) else {
@@ -90,9 +88,7 @@ fn read_post(alloc: Global, value: &Value, entry: usize) -> Result<Post, ImportF
 }
 
 fn read_each(alloc: Global, values: &[Value]) -> Result<Listed<Post>, ImportFault>
-    ensures ok { IfOk result (λ posts. each_from post_at 0 (map view values.now) ≡ Ok posts) }
-    ensures err { IfErr result (λ fault. fault ≢ ImportFault.OutOfMemory
-        → each_from post_at 0 (map view values.now) ≡ Err fault) }
+    ensures { Reads (each_from post_at 0 (map view values.now)) result }
 {
     let mut posts = Listed::empty(alloc);
     for (entry, value) in values.iter().enumerate() {
@@ -102,9 +98,7 @@ fn read_each(alloc: Global, values: &[Value]) -> Result<Listed<Post>, ImportFaul
 }
 
 fn read_list(alloc: Global, values: &[Value]) -> Result<Listed<Post>, ImportFault>
-    ensures ok { IfOk result (λ posts. posts_in (map view values.now) ≡ Ok posts) }
-    ensures err { IfErr result (λ fault. fault ≢ ImportFault.OutOfMemory
-        → posts_in (map view values.now) ≡ Err fault) }
+    ensures { Reads (posts_in (map view values.now)) result }
 {
     if values.len() > MAX_POSTS {
         return Err(ImportFault::TooLarge(Place::whole(Section::Posts)));
@@ -114,9 +108,7 @@ fn read_list(alloc: Global, values: &[Value]) -> Result<Listed<Post>, ImportFaul
 
 #[tactic(auto, using(crate::proofs::Walks::list_of_view), unfolding(crate::specs::Posts::posts_of))]
 fn read_section(alloc: Global, value: &Value) -> Result<Listed<Post>, ImportFault>
-    ensures ok { IfOk result (λ posts. posts_of (view value.now) ≡ Ok posts) }
-    ensures err { IfErr result (λ fault. fault ≢ ImportFault.OutOfMemory
-        → posts_of (view value.now) ≡ Err fault) }
+    ensures { Reads (posts_of (view value.now)) result }
 {
     let Some(values) = value.as_array() else {
         return Err(ImportFault::BadImport(Place::whole(Section::Posts)));
@@ -126,9 +118,7 @@ fn read_section(alloc: Global, value: &Value) -> Result<Listed<Post>, ImportFaul
 
 /// Reads the section `posts` of a site file, which may be missing.
 pub(crate) fn read_posts(alloc: Global, found: Option<&Value>) -> Result<Listed<Post>, ImportFault>
-    ensures ok { IfOk result (λ posts. section_of posts_of (option_map (λ v. view v.now) found.entry) ≡ Ok posts) }
-    ensures err { IfErr result (λ fault. fault ≢ ImportFault.OutOfMemory
-        → section_of posts_of (option_map (λ v. view v.now) found.entry) ≡ Err fault) }
+    ensures { Reads (section_of posts_of (option_map (λ v. view v.now) found.entry)) result }
 {
     match found {
         Some(value) => read_section(alloc, value),

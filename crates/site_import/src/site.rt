@@ -2,6 +2,7 @@
 ghost use Rattle.std.specs.Prelude.{◌≡◌, ◌≢◌, ◌≤◌, ◌++◌, Ok, Err, IfOk, IfErr, All, option_map};
 ghost use Rattle.serde_json.specs.View.{view};
 ghost use Rattle.site_records.specs.Ids.{max_id};
+ghost use Rattle.site_import.specs.Walks.{Reads};
 ghost use Rattle.site_import.specs.Site.{version_of, front_in, options_in, records_in, site_file_of, site_file_in};
 
 use crate::active::read_active;
@@ -48,9 +49,7 @@ fn read_all_options(
     value: &Value,
     version: u64,
 ) -> Result<Listed<(Text, Text)>, ImportFault>
-    ensures ok { IfOk result (λ options. options_in version (view value.now) ≡ Ok options) }
-    ensures err { IfErr result (λ fault. fault ≢ ImportFault.OutOfMemory
-        → options_in version (view value.now) ≡ Err fault) }
+    ensures { Reads (options_in version (view value.now)) result }
 {
     let options = read_options(alloc, value.get("options"))?;
     let front = read_front(alloc, front_in(value, version))?;
@@ -70,9 +69,7 @@ fn joined(
 
 #[tactic(auto, unfolding(crate::specs::Site::records_in))]
 fn read_sections(alloc: Global, value: &Value, version: u64) -> Result<SiteRecords, ImportFault>
-    ensures ok { IfOk result (λ records. records_in version (view value.now) ≡ Ok records) }
-    ensures err { IfErr result (λ fault. fault ≢ ImportFault.OutOfMemory
-        → records_in version (view value.now) ≡ Err fault) }
+    ensures { Reads (records_in version (view value.now)) result }
 {
     Ok(SiteRecords {
         posts: read_posts(alloc, value.get("posts"))?,
@@ -84,9 +81,7 @@ fn read_sections(alloc: Global, value: &Value, version: u64) -> Result<SiteRecor
 
 #[tactic(auto, unfolding(crate::specs::Site::site_file_of))]
 fn read_records(alloc: Global, value: &Value) -> Result<SiteRecords, ImportFault>
-    ensures ok { IfOk result (λ records. site_file_of (view value.now) ≡ Ok records) }
-    ensures err { IfErr result (λ fault. fault ≢ ImportFault.OutOfMemory
-        → site_file_of (view value.now) ≡ Err fault) }
+    ensures { Reads (site_file_of (view value.now)) result }
 {
     if !value.is_object() {
         return Err(ImportFault::BadImport(Place::whole(Section::Root)));

@@ -2,7 +2,7 @@
 ghost use Rattle.std.specs.Prelude.{◌≡◌, ◌≢◌, Ok, Err, IfOk, IfErr, option_map};
 ghost use Rattle.serde_json.specs.View.{view, members_view};
 ghost use Rattle.template_trees.specs.Trees.{template_of};
-ghost use Rattle.site_import.specs.Walks.{each_from, section_of, members_of};
+ghost use Rattle.site_import.specs.Walks.{Reads, each_from, section_of, members_of};
 ghost use Rattle.site_import.specs.Templates.{template_at, templates_of};
 
 use crate::fault::{ImportFault, Place, Section};
@@ -36,9 +36,7 @@ fn read_one(
     value: &Value,
     entry: usize,
 ) -> Result<(Text, Text), ImportFault>
-    ensures ok { IfOk result (λ pair. template_at entry (name.now, view value.now) ≡ Ok pair) }
-    ensures err { IfErr result (λ fault. fault ≢ ImportFault.OutOfMemory
-        → template_at entry (name.now, view value.now) ≡ Err fault) }
+    ensures { Reads (template_at entry (name.now, view value.now)) result }
 {
     let _template = read_tree(alloc, name, value, entry)?;
     let text = template_text(alloc, value)?;
@@ -49,10 +47,7 @@ fn read_each(
     alloc: Global,
     members: &Map<String, Value>,
 ) -> Result<Listed<(Text, Text)>, ImportFault>
-    ensures ok { IfOk result (λ pairs. each_from template_at 0 (members_of (members_view members.now.entries))
-        ≡ Ok pairs) }
-    ensures err { IfErr result (λ fault. fault ≢ ImportFault.OutOfMemory
-        → each_from template_at 0 (members_of (members_view members.now.entries)) ≡ Err fault) }
+    ensures { Reads (each_from template_at 0 (members_of (members_view members.now.entries))) result }
 {
     let count = members.len();
     let mut pairs = Listed::empty(alloc);
@@ -67,9 +62,7 @@ fn read_each(
 
 #[tactic(auto, unfolding(crate::specs::Templates::templates_of))]
 fn read_section(alloc: Global, value: &Value) -> Result<Listed<(Text, Text)>, ImportFault>
-    ensures ok { IfOk result (λ pairs. templates_of (view value.now) ≡ Ok pairs) }
-    ensures err { IfErr result (λ fault. fault ≢ ImportFault.OutOfMemory
-        → templates_of (view value.now) ≡ Err fault) }
+    ensures { Reads (templates_of (view value.now)) result }
 {
     let Some(members) = value.as_object() else {
         return Err(ImportFault::BadImport(Place::whole(Section::Templates)));
@@ -82,9 +75,7 @@ pub(crate) fn read_templates(
     alloc: Global,
     found: Option<&Value>,
 ) -> Result<Listed<(Text, Text)>, ImportFault>
-    ensures ok { IfOk result (λ pairs. section_of templates_of (option_map (λ v. view v.now) found.entry) ≡ Ok pairs) }
-    ensures err { IfErr result (λ fault. fault ≢ ImportFault.OutOfMemory
-        → section_of templates_of (option_map (λ v. view v.now) found.entry) ≡ Err fault) }
+    ensures { Reads (section_of templates_of (option_map (λ v. view v.now) found.entry)) result }
 {
     match found {
         Some(value) => read_section(alloc, value),

@@ -8,7 +8,7 @@ pub loop-name-preserved : goal.loop-name-preserved
 loop-name-preserved c =
     let i = c.loop-name.invariant in
     let cut = c.in-Some.ensures.steps in
-    let read = ap (λ n. option_at c.loop-name.entry (n, view c.in-Some.value.now)) (sym c.as_str.ensures.value) ∙ c.in_ok-read_option.ensures.ok in
+    let read = ap (λ n. option_at c.loop-name.entry (n, view c.in-Some.value.now)) (sym c.as_str.ensures.value) ∙ c.in_ok-read_option.ensures in
     let pushed = c.in_ok-push.ensures.ok in
     record {
       walked = rw pushed (members_step option_at _ _ _ _ _ _ _ _ i.walked cut read);
