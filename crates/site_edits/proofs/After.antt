@@ -13,7 +13,8 @@ use Rattle.template_trees.specs.Trees.{is_template_name, template_of}
 use Rattle.template_trees.specs.declared.fault.TemplateFault.{TemplateFault}
 use Rattle.template_trees.specs.declared.tree.Template.{Template}
 use Rattle.site_replies.specs.Reply.{ReplyData}
-use Rattle.site_edits.specs.Edits.{put, edit, edited, delete, set_option, set_active, if_given, max_id}
+use Rattle.site_edits.specs.Edits.{put, edit, edited, delete, set_option, set_active, if_given}
+use Rattle.site_records.specs.Ids.{max_id}
 use Rattle.site_values.specs.Limits.{fits, max_title, max_content, max_value}
 use Rattle.site_edits.specs.Templates.{stored, set_template}
 

@@ -15,7 +15,8 @@ use Rattle.template_trees.specs.declared.tree.Template.{Template}
 use Rattle.site_import.specs.Walks.{Read}
 use Rattle.site_import.specs.Site.{site_file_of}
 use Rattle.site_replies.specs.Reply.{ReplyData}
-use Rattle.site_edits.specs.Edits.{put, edit, edited, delete, set_option, set_active, if_given, max_id}
+use Rattle.site_edits.specs.Edits.{put, edit, edited, delete, set_option, set_active, if_given}
+use Rattle.site_records.specs.Ids.{max_id}
 use Rattle.site_values.specs.Limits.{fits, max_title, max_content, max_value}
 use Rattle.site_edits.specs.Templates.{stored, set_template}
 use Rattle.site_edits.specs.Imports.{are_known, imported, import}

@@ -16,7 +16,8 @@ use Rattle.site_import.specs.Walks.{Read}
 use Rattle.site_import.specs.Site.{site_file_of}
 use Rattle.site_replies.specs.declared.reply.Refusal.{Refusal}
 use Rattle.site_replies.specs.Reply.{ReplyData, refused}
-use Rattle.site_edits.specs.Edits.{put, edit, edited, delete, set_option, set_active, if_given, max_id}
+use Rattle.site_edits.specs.Edits.{put, edit, edited, delete, set_option, set_active, if_given}
+use Rattle.site_records.specs.Ids.{max_id}
 use Rattle.site_values.specs.Limits.{fits, max_title, max_content, max_value}
 use Rattle.site_edits.specs.Templates.{stored, set_template}
 use Rattle.site_edits.specs.Imports.{are_known, imported, import}

@@ -4,16 +4,13 @@ use Rattle.std.specs.FinMap.{insert}
 use Rattle.std.specs.Option.{option_map_or}
 use Rattle.callback_store.specs.Shape.{Shape, load_of}
 use Rattle.site_records.specs.Dates.{is_post_date}
+use Rattle.site_records.specs.Ids.{max_id}
 use Rattle.site_records.specs.declared.post.PostKind.{PostKind}
 use Rattle.site_records.specs.declared.post.PostStatus.{PostStatus}
 use Rattle.post_tables.specs.Rows.{Rows, Text, PostEdit, with_new, has_post, edited_posts, without_post, set_name}
 use Rattle.site_values.specs.Limits.{max_title, max_content, max_value, fits}
 use Rattle.site_replies.specs.declared.reply.Refusal.TheVariants.{NoSuchPost, BadDate, UnknownPlugin, TooLarge, IdsUsedUp}
 use Rattle.site_replies.specs.Reply.{ReplyData, done, done_id, refused}
-
--- the largest ID of a post
-abbrev pub max_id : ℕ
-max_id = 2147483647
 
 -- if an edit leaves a text out, nothing of it can be wrong
 abbrev pub if_given : (Text → Bool) → Option Text → Bool

@@ -1,10 +1,9 @@
 //! The commands that change posts, options and active plugins.
-ghost use Rattle.std.specs.Prelude.{◌≡◌, IfOk, IfErr, OnErr, option_map, true, false, nat_le, length};
+ghost use Rattle.std.specs.Prelude.{◌≡◌, option_map, true, false, nat_le, length};
 ghost use Rattle.callback_store.specs.Shape.{shapes_of};
-ghost use Rattle.site_replies.specs.Reply.{reply_data};
 ghost use Rattle.site_values.specs.Limits.{fits};
 ghost use Rattle.site_edits.specs.Edits.{put, edit, edited, delete, set_option, set_active, if_given};
-ghost use Rattle.site_edits.specs.Late.{may_be_late};
+ghost use Rattle.site_edits.specs.Carried.{CarriesOut};
 ghost use Rattle.post_tables.specs.Rows.{edit_by};
 
 use crate::fault::StoreFault;
@@ -32,11 +31,7 @@ pub fn put(
     content: &str,
     date: &str,
 ) -> Result<SiteReply, StoreFault>
-    ensures ok { IfOk result (λ reply. (tables.new, reply_data reply)
-        ≡ put tables.old kind status title.now content.now date.now) }
-    ensures err { OnErr result (tables.new ≡ tables.old) }
-    ensures late { IfErr result (λ fault. fault ≡ StoreFault.Store → may_be_late tables.old.step_limit
-        (put tables.old kind status title.now content.now date.now).1 ≡ true) }
+    ensures { CarriesOut tables.old (put tables.old kind status title.now content.now date.now) result tables.new }
 {
     if title.len() > MAX_TITLE || content.len() > MAX_CONTENT {
         return Ok(SiteReply::Refused(Refusal::TooLarge));
@@ -61,11 +56,8 @@ pub fn edit(
     content: Option<&str>,
     date: Option<&str>,
 ) -> Result<SiteReply, StoreFault>
-    ensures ok { IfOk result (λ reply. (tables.new, reply_data reply)
-        ≡ edit tables.old id (edit_by status title.entry content.entry date.entry)) }
-    ensures err { OnErr result (tables.new ≡ tables.old) }
-    ensures late { IfErr result (λ fault. fault ≡ StoreFault.Store → may_be_late tables.old.step_limit
-        (edit tables.old id (edit_by status title.entry content.entry date.entry)).1 ≡ true) }
+    ensures { CarriesOut tables.old (edit tables.old id (edit_by status title.entry content.entry date.entry))
+        result tables.new }
 {
     if !fits_if_given(title, MAX_TITLE) || !fits_if_given(content, MAX_CONTENT) {
         return Ok(SiteReply::Refused(Refusal::TooLarge));
@@ -89,11 +81,8 @@ fn edit_post(
     content: Option<&str>,
     date: Option<&PostDate>,
 ) -> Result<SiteReply, StoreFault>
-    ensures ok { IfOk result (λ reply. (tables.new, reply_data reply)
-        ≡ edited tables.old id (edit_by status title.entry content.entry date.entry)) }
-    ensures err { OnErr result (tables.new ≡ tables.old) }
-    ensures late { IfErr result (λ fault. fault ≡ StoreFault.Store → may_be_late tables.old.step_limit
-        (edited tables.old id (edit_by status title.entry content.entry date.entry)).1 ≡ true) }
+    ensures { CarriesOut tables.old (edited tables.old id (edit_by status title.entry content.entry date.entry))
+        result tables.new }
 {
     match tables.edit_post(id, status, title, content, date) {
         Ok(()) => Ok(SiteReply::Ok),
@@ -105,10 +94,7 @@ fn edit_post(
 /// Deletes the post. Refused as `NoSuchPost`.
 #[tactic(auto, unfolding(crate::specs::Edits::delete))]
 pub fn delete(tables: &mut Tables, id: u32) -> Result<SiteReply, StoreFault>
-    ensures ok { IfOk result (λ reply. (tables.new, reply_data reply) ≡ delete tables.old id) }
-    ensures err { OnErr result (tables.new ≡ tables.old) }
-    ensures late { IfErr result (λ fault. fault ≡ StoreFault.Store
-        → may_be_late tables.old.step_limit (delete tables.old id).1 ≡ true) }
+    ensures { CarriesOut tables.old (delete tables.old id) result tables.new }
 {
     match tables.delete_post(id) {
         Ok(()) => Ok(SiteReply::Ok),
@@ -120,11 +106,7 @@ pub fn delete(tables: &mut Tables, id: u32) -> Result<SiteReply, StoreFault>
 /// Sets the option to the value. Refused as `TooLarge`.
 #[tactic(auto, unfolding(crate::specs::Edits::set_option))]
 pub fn set_option(tables: &mut Tables, name: &str, value: &str) -> Result<SiteReply, StoreFault>
-    ensures ok { IfOk result
-        (λ reply. (tables.new, reply_data reply) ≡ set_option tables.old name.now value.now) }
-    ensures err { OnErr result (tables.new ≡ tables.old) }
-    ensures late { IfErr result (λ fault. fault ≡ StoreFault.Store
-        → may_be_late tables.old.step_limit (set_option tables.old name.now value.now).1 ≡ true) }
+    ensures { CarriesOut tables.old (set_option tables.old name.now value.now) result tables.new }
 {
     if value.len() > MAX_VALUE {
         return Ok(SiteReply::Refused(Refusal::TooLarge));
@@ -141,11 +123,8 @@ pub fn set_active<S: Stated>(
     plugin: &str,
     active: bool,
 ) -> Result<SiteReply, StoreFault>
-    ensures ok { IfOk result (λ reply. (tables.new, reply_data reply)
-        ≡ set_active (shapes_of S.number plugins.now) tables.old plugin.now active) }
-    ensures err { OnErr result (tables.new ≡ tables.old) }
-    ensures late { IfErr result (λ fault. fault ≡ StoreFault.Store → may_be_late tables.old.step_limit
-        (set_active (shapes_of S.number plugins.now) tables.old plugin.now active).1 ≡ true) }
+    ensures { CarriesOut tables.old (set_active (shapes_of S.number plugins.now) tables.old plugin.now active)
+        result tables.new }
 {
     if plugins.load_of(plugin).is_none() {
         return Ok(SiteReply::Refused(Refusal::UnknownPlugin));

@@ -1,10 +1,10 @@
 //! The command that adds what a site file holds.
-ghost use Rattle.std.specs.Prelude.{◌≡◌, ◌≢◌, ◌≤◌, Ok, IfOk, IfErr, OnOk, OnErr, All, true};
+ghost use Rattle.std.specs.Prelude.{◌≡◌, ◌≢◌, ◌≤◌, Ok, IfOk, IfErr, OnOk, All};
 ghost use Rattle.callback_store.specs.Shape.{shapes_of};
 ghost use Rattle.serde_json.specs.View.{view};
 ghost use Rattle.site_replies.specs.Reply.{reply_data};
 ghost use Rattle.site_edits.specs.Imports.{import, imported, import_refusal, added, are_known};
-ghost use Rattle.site_edits.specs.Late.{may_be_late};
+ghost use Rattle.site_edits.specs.Carried.{CarriesOut};
 
 use crate::fault::StoreFault;
 use callback_store::{Plugins, Stated};
@@ -25,11 +25,8 @@ pub fn import<S: Stated>(
     tables: &mut Tables,
     site: &Value,
 ) -> Result<SiteReply, StoreFault>
-    ensures ok { IfOk result (λ reply. (tables.new, reply_data reply)
-        ≡ import (shapes_of S.number plugins.now) tables.old (view site.now)) }
-    ensures err { OnErr result (tables.new ≡ tables.old) }
-    ensures late { IfErr result (λ fault. fault ≡ StoreFault.Store → may_be_late tables.old.step_limit
-        (import (shapes_of S.number plugins.now) tables.old (view site.now)).1 ≡ true) }
+    ensures { CarriesOut tables.old (import (shapes_of S.number plugins.now) tables.old (view site.now))
+        result tables.new }
 {
     match read_site_value(alloc, site) {
         Ok(file) => add_known(plugins, tables, &file.records),
@@ -44,11 +41,8 @@ fn add_known<S: Stated>(
     records: &SiteRecords,
 ) -> Result<SiteReply, StoreFault>
     requires { All (λ p. (1 ≤ p.id) × (p.id ≤ 2147483647)) records.now.posts }
-    ensures ok { IfOk result (λ reply. (tables.new, reply_data reply)
-        ≡ imported (shapes_of S.number plugins.now) tables.old (Ok records.now)) }
-    ensures err { OnErr result (tables.new ≡ tables.old) }
-    ensures late { IfErr result (λ fault. fault ≡ StoreFault.Store → may_be_late tables.old.step_limit
-        (imported (shapes_of S.number plugins.now) tables.old (Ok records.now)).1 ≡ true) }
+    ensures { CarriesOut tables.old (imported (shapes_of S.number plugins.now) tables.old (Ok records.now))
+        result tables.new }
 {
     if !are_known(plugins, records.active.as_slice()) {
         return Ok(SiteReply::Refused(Refusal::UnknownPlugin));
@@ -81,10 +75,7 @@ fn refused_import(fault: ImportFault) -> Result<SiteReply, StoreFault>
 
 fn add_records(tables: &mut Tables, records: &SiteRecords) -> Result<SiteReply, StoreFault>
     requires { All (λ p. (1 ≤ p.id) × (p.id ≤ 2147483647)) records.now.posts }
-    ensures ok { IfOk result (λ reply. (tables.new, reply_data reply) ≡ added tables.old records.now) }
-    ensures err { OnErr result (tables.new ≡ tables.old) }
-    ensures late { IfErr result (λ fault. fault ≡ StoreFault.Store
-        → may_be_late tables.old.step_limit (added tables.old records.now).1 ≡ true) }
+    ensures { CarriesOut tables.old (added tables.old records.now) result tables.new }
 {
     match tables.import(records) {
         Ok(()) => Ok(SiteReply::Ok),

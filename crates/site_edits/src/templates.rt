@@ -1,9 +1,7 @@
 //! The command that stores templates.
-ghost use Rattle.std.specs.Prelude.{◌≡◌, IfOk, IfErr, OnErr, true};
 ghost use Rattle.serde_json.specs.View.{view};
-ghost use Rattle.site_replies.specs.Reply.{reply_data};
 ghost use Rattle.site_edits.specs.Templates.{set_template, removed};
-ghost use Rattle.site_edits.specs.Late.{may_be_late};
+ghost use Rattle.site_edits.specs.Carried.{CarriesOut};
 
 use crate::fault::StoreFault;
 use post_tables::Tables;
@@ -21,11 +19,7 @@ pub fn set_template(
     name: &str,
     body: &Value,
 ) -> Result<SiteReply, StoreFault>
-    ensures ok { IfOk result (λ reply. (tables.new, reply_data reply)
-        ≡ set_template tables.old name.now (view body.now)) }
-    ensures err { OnErr result (tables.new ≡ tables.old) }
-    ensures late { IfErr result (λ fault. fault ≡ StoreFault.Store → may_be_late tables.old.step_limit
-        (set_template tables.old name.now (view body.now)).1 ≡ true) }
+    ensures { CarriesOut tables.old (set_template tables.old name.now (view body.now)) result tables.new }
 {
     if body.is_null() {
         return remove_template(tables, name);
@@ -43,10 +37,7 @@ pub fn set_template(
 }
 
 fn remove_template(tables: &mut Tables, name: &str) -> Result<SiteReply, StoreFault>
-    ensures ok { IfOk result (λ reply. (tables.new, reply_data reply) ≡ removed tables.old name.now) }
-    ensures err { OnErr result (tables.new ≡ tables.old) }
-    ensures late { IfErr result (λ fault. fault ≡ StoreFault.Store
-        → may_be_late tables.old.step_limit (removed tables.old name.now).1 ≡ true) }
+    ensures { CarriesOut tables.old (removed tables.old name.now) result tables.new }
 {
     if !is_template_name(name) {
         return Ok(SiteReply::Refused(Refusal::BadTemplate));

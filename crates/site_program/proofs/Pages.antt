@@ -1,7 +1,7 @@
 -- Lemmas on the reply to a request.
 use Rattle.std.proofs.Common.{◌≡◌, ◌≢◌, ◌≤◌, inl, inr, ℕ, Bool, true, List, ◌∙◌, Ok, Err, refl, sym, ap, length}
 use Rattle.std.proofs.lemmas.Bool.{le-leb}
-use Rattle.std.specs.Prelude.{Result, IfErr, false, ◌||◌}
+use Rattle.std.specs.Prelude.{Result, IfErr, OnErr, false, ◌||◌}
 use Rattle.hook_machine.specs.World.{Text, World, fresh, loaded}
 use Rattle.hook_machine.specs.declared.fault.RunFault.{RunFault}
 use Rattle.hook_machine.specs.declared.fault.RunFault.TheVariants as fault
@@ -19,6 +19,11 @@ use Rattle.site_edits.specs.declared.fault.StoreFault.{StoreFault}
 use Rattle.site_edits.specs.declared.fault.StoreFault.TheVariants as store
 use Rattle.site_program.specs.Step.{got, max_path}
 use Rattle.site_program.specs.Requests.{Texts, settings_for, page_pass, page_of, options_of, templates_of, active_of, found_by, shown, refusal_of, request}
+
+-- what holds of every error
+pub on_any_err : {A E X : Type 0} (r : Result A E) → X → OnErr r X
+on_any_err (Ok found) x = tt
+on_any_err (Err e) x = x
 
 -- ---- the page of what was found
 

@@ -1,13 +1,11 @@
 //! The commands that change what a site has stored. Each first forgets what it may change of what is kept.
-ghost use Rattle.std.specs.Prelude.{◌≡◌, IfOk, IfErr, OnErr, true};
 ghost use Rattle.callback_store.specs.Shape.{shapes_of};
 ghost use Rattle.serde_json.specs.View.{view};
 ghost use Rattle.post_tables.specs.Rows.{edit_by};
-ghost use Rattle.site_replies.specs.Reply.{reply_data};
 ghost use Rattle.site_edits.specs.Edits.{put, edit, delete, set_option, set_active};
 ghost use Rattle.site_edits.specs.Templates.{set_template};
 ghost use Rattle.site_edits.specs.Imports.{import};
-ghost use Rattle.site_edits.specs.Late.{may_be_late};
+ghost use Rattle.site_edits.specs.Carried.{CarriesOut};
 
 use crate::stored::Stored;
 use callback_store::{Plugins, Stated};
@@ -29,11 +27,7 @@ impl Stored {
         content: &str,
         date: &str,
     ) -> Result<SiteReply, StoreFault>
-        ensures ok { IfOk result (λ reply. (self.new, reply_data reply)
-            ≡ put self.old kind status title.now content.now date.now) }
-        ensures err { OnErr result (self.new ≡ self.old) }
-        ensures late { IfErr result (λ fault. fault ≡ StoreFault.Store → may_be_late self.old.step_limit
-            (put self.old kind status title.now content.now date.now).1 ≡ true) }
+        ensures { CarriesOut self.old (put self.old kind status title.now content.now date.now) result self.new }
     {
         self.found = Listed::empty(alloc);
         put(&mut self.tables, kind, status, title, content, date)
@@ -49,11 +43,8 @@ impl Stored {
         content: Option<&str>,
         date: Option<&str>,
     ) -> Result<SiteReply, StoreFault>
-        ensures ok { IfOk result (λ reply. (self.new, reply_data reply)
-            ≡ edit self.old id (edit_by status title.entry content.entry date.entry)) }
-        ensures err { OnErr result (self.new ≡ self.old) }
-        ensures late { IfErr result (λ fault. fault ≡ StoreFault.Store → may_be_late self.old.step_limit
-            (edit self.old id (edit_by status title.entry content.entry date.entry)).1 ≡ true) }
+        ensures { CarriesOut self.old (edit self.old id (edit_by status title.entry content.entry date.entry))
+            result self.new }
     {
         self.found = Listed::empty(alloc);
         edit(&mut self.tables, id, status, title, content, date)
@@ -61,10 +52,7 @@ impl Stored {
 
     /// Deletes the post.
     pub(crate) fn delete(&mut self, alloc: Global, id: u32) -> Result<SiteReply, StoreFault>
-        ensures ok { IfOk result (λ reply. (self.new, reply_data reply) ≡ delete self.old id) }
-        ensures err { OnErr result (self.new ≡ self.old) }
-        ensures late { IfErr result (λ fault. fault ≡ StoreFault.Store
-            → may_be_late self.old.step_limit (delete self.old id).1 ≡ true) }
+        ensures { CarriesOut self.old (delete self.old id) result self.new }
     {
         self.found = Listed::empty(alloc);
         delete(&mut self.tables, id)
@@ -77,11 +65,7 @@ impl Stored {
         name: &str,
         value: &str,
     ) -> Result<SiteReply, StoreFault>
-        ensures ok { IfOk result
-            (λ reply. (self.new, reply_data reply) ≡ set_option self.old name.now value.now) }
-        ensures err { OnErr result (self.new ≡ self.old) }
-        ensures late { IfErr result (λ fault. fault ≡ StoreFault.Store
-            → may_be_late self.old.step_limit (set_option self.old name.now value.now).1 ≡ true) }
+        ensures { CarriesOut self.old (set_option self.old name.now value.now) result self.new }
     {
         self.options = None;
         self.found = Listed::empty(alloc);
@@ -95,11 +79,8 @@ impl Stored {
         plugin: &str,
         active: bool,
     ) -> Result<SiteReply, StoreFault>
-        ensures ok { IfOk result (λ reply. (self.new, reply_data reply)
-            ≡ set_active (shapes_of S.number plugins.now) self.old plugin.now active) }
-        ensures err { OnErr result (self.new ≡ self.old) }
-        ensures late { IfErr result (λ fault. fault ≡ StoreFault.Store → may_be_late self.old.step_limit
-            (set_active (shapes_of S.number plugins.now) self.old plugin.now active).1 ≡ true) }
+        ensures { CarriesOut self.old (set_active (shapes_of S.number plugins.now) self.old plugin.now active)
+            result self.new }
     {
         self.active = None;
         set_active(plugins, &mut self.tables, plugin, active)
@@ -112,11 +93,7 @@ impl Stored {
         name: &str,
         body: &Value,
     ) -> Result<SiteReply, StoreFault>
-        ensures ok { IfOk result (λ reply. (self.new, reply_data reply)
-            ≡ set_template self.old name.now (view body.now)) }
-        ensures err { OnErr result (self.new ≡ self.old) }
-        ensures late { IfErr result (λ fault. fault ≡ StoreFault.Store → may_be_late self.old.step_limit
-            (set_template self.old name.now (view body.now)).1 ≡ true) }
+        ensures { CarriesOut self.old (set_template self.old name.now (view body.now)) result self.new }
     {
         self.templates = None;
         set_template(alloc, &mut self.tables, name, body)
@@ -129,11 +106,8 @@ impl Stored {
         plugins: &Plugins<S>,
         site: &Value,
     ) -> Result<SiteReply, StoreFault>
-        ensures ok { IfOk result (λ reply. (self.new, reply_data reply)
-            ≡ import (shapes_of S.number plugins.now) self.old (view site.now)) }
-        ensures err { OnErr result (self.new ≡ self.old) }
-        ensures late { IfErr result (λ fault. fault ≡ StoreFault.Store → may_be_late self.old.step_limit
-            (import (shapes_of S.number plugins.now) self.old (view site.now)).1 ≡ true) }
+        ensures { CarriesOut self.old (import (shapes_of S.number plugins.now) self.old (view site.now))
+            result self.new }
     {
         let Stored {
             tables,

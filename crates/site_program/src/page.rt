@@ -1,5 +1,5 @@
 //! The pages of a site.
-ghost use Rattle.std.specs.Prelude.{◌≡◌, IfOk, OnErr, IfErr, true};
+ghost use Rattle.std.specs.Prelude.{◌≡◌, IfOk, IfErr};
 ghost use Rattle.callback_store.specs.Shape.{shapes_of};
 ghost use Rattle.hook_machine.specs.World.{fresh, loaded};
 ghost use Rattle.hook_machine.specs.Outcomes.{engine_with};
@@ -8,7 +8,7 @@ ghost use Rattle.hook_machine.specs.Runs as runs;
 ghost use Rattle.site_replies.specs.Reply.{reply_data};
 ghost use Rattle.template_parts.specs.Pages.{IsPage, IsRefusedBy};
 ghost use Rattle.site_edits.specs.Faults.{IsReadFault};
-ghost use Rattle.site_edits.specs.Late.{may_be_late};
+ghost use Rattle.site_edits.specs.Carried.{CarriesOut};
 ghost use Rattle.site_program.specs.Requests.{request, page_pass, page_of};
 
 use crate::settings::settings_for;
@@ -39,12 +39,8 @@ impl<'p, S: Stated> Setup<'p, S> {
         path: &str,
         cache: &mut PieceCache,
     ) -> Result<SiteReply, StoreFault>
-        ensures ok { IfOk result (λ reply. (stored.new, reply_data reply)
-            ≡ got (engine_of S.says S.number self.now) (calls_of self.now) stored.old path.now) }
-        ensures err { OnErr result (stored.new ≡ stored.old) }
-        ensures late { IfErr result (λ fault. fault ≡ StoreFault.Store → may_be_late stored.old.step_limit
-            (got (engine_of S.says S.number self.now) (calls_of self.now) stored.old path.now).1
-            ≡ true) }
+        ensures { CarriesOut stored.old (got (engine_of S.says S.number self.now) (calls_of self.now) stored.old
+            path.now) result stored.new }
     {
         if path.len() > MAX_PATH {
             return Ok(SiteReply::Refused(Refusal::TooLarge));

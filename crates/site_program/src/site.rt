@@ -1,5 +1,5 @@
 //! A site, and what it does at one line.
-ghost use Rattle.std.specs.Prelude.{◌≡◌, ◌≤◌, IfOk, IfErr, OnErr, true};
+ghost use Rattle.std.specs.Prelude.{◌≡◌, ◌≤◌, IfOk, IfErr};
 ghost use Rattle.post_tables.specs.Rows.{no_rows};
 ghost use Rattle.site_commands.specs.Asked.{asked_by};
 ghost use Rattle.site_replies.specs.Reply.{reply_data};
@@ -93,7 +93,7 @@ impl<'p, S: Stated> Setup<'p, S> {
     ghost use Rattle.site_replies.specs.declared.reply.Refusal.{Refusal};
     ghost use Rattle.site_replies.specs.Reply.{refused};
     ghost use Rattle.site_program.specs.Site.{engine_of, calls_of};
-    ghost use Rattle.site_edits.specs.Late.{may_be_late};
+    ghost use Rattle.site_edits.specs.Carried.{CarriesOut};
     ghost use Rattle.site_program.specs.Step.{IsReply, steps_of, carried_out};
 
     /// Carries out one line over what is stored.
@@ -122,12 +122,7 @@ impl<'p, S: Stated> Setup<'p, S> {
         line: &[u8],
         cache: &mut PieceCache,
     ) -> Result<SiteReply, StoreFault>
-        ensures ok { IfOk result (λ reply.
-            (stored.new, reply_data reply) ≡ steps_of S.says S.number self.now stored.old line.now) }
-        ensures err { OnErr result (stored.new ≡ stored.old) }
-        ensures late { IfErr result (λ fault. fault ≡ StoreFault.Store
-            → may_be_late stored.old.step_limit
-            (steps_of S.says S.number self.now stored.old line.now).1 ≡ true) }
+        ensures { CarriesOut stored.old (steps_of S.says S.number self.now stored.old line.now) result stored.new }
     {
         let Some(tree) = read_line(self.alloc, line)? else {
             return Ok(SiteReply::Refused(Refusal::BadCommand));
@@ -145,14 +140,8 @@ impl<'p, S: Stated> Setup<'p, S> {
         command: Command<'_>,
         cache: &mut PieceCache,
     ) -> Result<SiteReply, StoreFault>
-        ensures ok { IfOk result (λ reply. (stored.new, reply_data reply) ≡ carried_out
-            (engine_of S.says S.number self.now) (calls_of self.now) stored.old
-            (Some (asked_by command.entry))) }
-        ensures err { OnErr result (stored.new ≡ stored.old) }
-        ensures late { IfErr result (λ fault. fault ≡ StoreFault.Store
-            → may_be_late stored.old.step_limit (carried_out
-            (engine_of S.says S.number self.now) (calls_of self.now) stored.old
-            (Some (asked_by command.entry))).1 ≡ true) }
+        ensures { CarriesOut stored.old (carried_out (engine_of S.says S.number self.now) (calls_of self.now)
+            stored.old (Some (asked_by command.entry))) result stored.new }
     {
         match command {
             Command::Put {

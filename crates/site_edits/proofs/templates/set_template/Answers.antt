@@ -2,6 +2,6 @@ use Rattle.std.proofs.Common.{rules}
 use Rattle.site_edits.specs.Templates.{set_template}
 use Rattle.site_edits.proofs.templates.set_template.Goals as goal
 
-pub returns-clause-ok : goal.returns-clause-ok
+pub returns : goal.returns
 unfolding set_template
-returns-clause-ok c = search rules
+returns c = search rules
