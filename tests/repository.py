@@ -39,10 +39,9 @@ def has_tests(name):
     return any("#[test]" in it.read_text(encoding="utf-8") for it in (ROOT / "crates" / name / "src").rglob("*.rt"))
 
 
-def sum_of(name, parts):
-    """A sum of a crate's files in some of its folders."""
+def sum_of(folder, parts):
+    """A sum of the files in some parts of a crate's folder."""
     found = hashlib.sha256()
-    folder = ROOT / "crates" / name
-    for path in sorted(it for part in parts for it in (folder / part).rglob("*") if it.is_file()):
+    for path in sorted(it for part in parts for it in Path(folder, part).rglob("*") if it.is_file()):
         found.update(f"{path.relative_to(folder)}\0".encode() + path.read_bytes() + b"\0")
     return found.hexdigest()
