@@ -1,12 +1,13 @@
 """One check of a crate with some texts of its own changed."""
 
-import importlib.machinery
-import importlib.util
 import os
 import re
 import shutil
 import subprocess
 import tempfile
+import threading
+
+from toolchain import ToolchainFault, load
 
 # A function's verdict, as `fn hook_changes::kept::Text::new: not proved`.
 VERDICT = re.compile(r"^fn ([\w:+]+): (.*)$", re.M)
@@ -23,20 +24,12 @@ LAST_LINE = re.compile(r"^(logic=|only=)", re.M)
 UNANSWERED = re.compile(r"no proof: expected answers in \S+; `search` did not prove (.*)")
 
 
-class ToolchainFault(Exception):
-    """The toolchain isn't there, or stopped without a verdict."""
-
-
 class Rejected(Exception):
     """The text doesn't compile, so the prover wasn't asked."""
 
 
 class NoFunction(Rejected):
     """The crate has no function of the name that an edit says it turns."""
-
-
-def processors():
-    return len(os.sched_getaffinity(0))
 
 
 class Said:
@@ -78,15 +71,11 @@ class Toolchain:
     """The prover, called as `rt must-fail` calls it."""
 
     def __init__(self):
-        rt = shutil.which("rt")
-        if not rt:
-            raise ToolchainFault("the command 'rt' of the Rattle toolchain isn't on the PATH")
-        library = os.path.join(os.path.dirname(os.path.realpath(rt)), "rtlib.py")
-        loader = importlib.machinery.SourceFileLoader("rtlib", library)
-        self.rtlib = importlib.util.module_from_spec(importlib.util.spec_from_loader("rtlib", loader))
-        loader.exec_module(self.rtlib)
-        # Its first call sets a signal's handler, which only the main thread may.
+        self.rtlib = load().rtlib
         self.guard = self.rtlib.guarded()
+        with open(os.path.join(self.rtlib.KIT, "KIT-ID"), "rb") as file:
+            self.identity = file.read()
+        self.building = threading.Lock()
         # How many checks each crate had, and their seconds of a processor.
         self.spent = {}
 
@@ -95,10 +84,12 @@ class Toolchain:
         return sorted(self.rtlib.crates_below(str(root)), key=lambda it: len(it.below()))
 
     def build_below(self, crate):
-        """Builds the libraries below a crate if they have changed."""
+        """Builds the libraries below a crate if they have changed, one at a time: other crates stand on them too."""
         for library in crate.below():
-            if library.build_rlib(["--jobs", "1"], anew=False):
-                raise ToolchainFault(f"its library {library.name} isn't proved")
+            with self.building, tempfile.TemporaryFile("w+", errors="replace") as library.out:
+                if library.build_rlib(["--jobs", "1"], anew=False):
+                    library.out.seek(0)
+                    raise ToolchainFault(f"its library {library.name} isn't proved:\n{library.out.read()}")
 
     def check(self, crate, texts, functions, kept):
         """Checks these functions of a copy of the crate, with these texts in place of its own, over what kept holds."""

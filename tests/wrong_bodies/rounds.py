@@ -1,11 +1,23 @@
 """Rounds: which edits share a check, and what each check shows of them."""
 
 from pathlib import Path
+from typing import NamedTuple
 
 from checks import NoFunction, Rejected
 
 # How often an edit is tried in company before it is tried alone.
 TRIES = 2
+
+
+class Verdict(NamedTuple):
+    """Whether an edit was refused, its label, and what refused it or why it doesn't count as refused."""
+
+    refused: bool
+    label: str
+    said: str
+
+    def __str__(self):
+        return f"{'' if self.refused else 'FAILED: '}{self.label}: {self.said}"
 
 
 class Round:
@@ -64,18 +76,18 @@ def try_round(toolchain, made, kept):
 def judged(edit, said, is_alone):
     """An edit's verdict, or None if another round has to show it."""
     if isinstance(said, Rejected):
-        return False, f"{edit.label}: BAD EDIT: the prover can't be asked: {said}"
+        return Verdict(False, edit.label, f"BAD EDIT: the prover can't be asked: {said}")
     refusal = said.refusal(edit)
     if refusal:
-        return True, f"{edit.label}: refused by {edit.turns}: {refusal[:160]}"
+        return Verdict(True, edit.label, f"refused by {edit.turns}: {refusal[:160]}")
     verdict = said.verdict(edit)
     if verdict is None:
-        return False, f"{edit.label}: BAD EDIT: the check has no function {edit.turns}"
+        return Verdict(False, edit.label, f"BAD EDIT: the check has no function {edit.turns}")
     if verdict == "proved":
-        return False, f"{edit.label}: NOT REFUSED: {edit.turns} is still proved"
+        return Verdict(False, edit.label, f"NOT REFUSED: {edit.turns} is still proved")
     if is_alone:
         why = "; ".join(" ".join(it.split())[:200] for it in said.goals(edit)) or verdict
-        return False, f"{edit.label}: NOT SHOWN: {edit.turns} is not proved, but by no goal of its contract: {why}"
+        return Verdict(False, edit.label, f"NOT SHOWN: {edit.turns} is not proved, but by no goal of its contract: {why}")
     return None
 
 

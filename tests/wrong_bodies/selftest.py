@@ -1,17 +1,33 @@
-"""Edits whose verdicts are known, of a crate made for them: the runner must tell what refuses an edit, and see a
-refusal once."""
+"""Edits whose verdicts are known, of a crate made for them: the runner must tell what refuses an edit, and try it again
+just when something that the refusal rests on has changed."""
 
 import tempfile
 from pathlib import Path
 
 from edits import read_edits
-from refusals import Refusals, try_unseen
+from record import Record, try_and_record
+from rounds import Verdict
 
 FILES = {
-    "crates.txt": "sample:\n",
+    "crates.txt": "numbers:\nsample: numbers\n",
+    "crates/numbers/src/lib.rt": """\
+//! A function of the library below.
+#![tactic(auto)]
+
+ghost use Rattle.std.specs.Prelude.{◌≡◌, ◌+◌};
+
+/// The number after another.
+pub fn next(n: u16) -> u32
+    ensures { result ≡ n + 1 }
+{
+    1 + u32::from(n)
+}
+""",
     "crates/sample/src/lib.rt": """\
 //! Small functions, of which edits are tried.
 #![tactic(auto)]
+
+use numbers::next;
 
 ghost use Rattle.std.specs.Prelude.{◌≡◌, ◌+◌};
 
@@ -30,12 +46,12 @@ pub fn after(n: u8) -> u16
     u16::from(n) + 1
 }
 
-/// The second number after another.
-pub fn second_after(n: u8) -> u32
-    ensures { result ≡ n + 2 }
+/// The third number after another.
+pub fn third_after(n: u8) -> u32
+    ensures { result ≡ n + 3 }
 {
-    let next = after(n);
-    u32::from(next) + 1
+    let last = next(after(n));
+    1 + last
 }
 """,
     "crates/sample/proofs/Lib.antt": "",
@@ -54,10 +70,8 @@ EDITS = [
     ("renames_a_local", False, "is_digit", {"    let some =": "    let any =", "    some && n": "    any && n"}),
     ("is_let_through", False, "is_digit", {"    some && n < 10": "    some && n < 11"}),
     ("counts_two", True, "after", {"    u16::from(n) + 1": "    u16::from(n) + 2"}),
-    ("means_the_same", False, "second_after", {"    u32::from(next) + 1": "    1 + u32::from(next)"}),
+    ("means_the_same", False, "third_after", {"    1 + last": "    last + 1"}),
 ]
-# Those that must be refused.
-WELL = [f"sample/{stem}" for stem, refused, _, _ in EDITS if refused]
 
 
 def text_of(turned, changes):
@@ -68,45 +82,80 @@ def text_of(turned, changes):
     return "\n".join(lines) + "\n"
 
 
-def self_test(toolchain):
-    """Whether each edit got the verdict that it must get, with a line that says so."""
-    with tempfile.TemporaryDirectory(prefix="wrong-bodies-sample-") as room:
-        for path, text in FILES.items():
-            file = Path(room, path)
-            file.parent.mkdir(parents=True, exist_ok=True)
-            file.write_text(text, encoding="utf-8")
-        crate = toolchain.crates(room)[0]
-        edits = []
-        for stem, _, turned, changes in EDITS:
-            file = Path(room, f"{stem}.edit")
-            file.write_text(text_of(turned, changes), encoding="utf-8")
-            edits.append(read_edits(crate.name, crate.folder, file))
-        refusals = Refusals(toolchain, Path(room, "refusals"), from_nothing=True)
-        verdicts = tried(toolchain, crate, edits, refusals)
-        lines = seen_once(toolchain, crate, [it for it in edits if it.label in WELL], refusals)
-    wanted = {f"sample/{stem}": refused for stem, refused, _, _ in EDITS}
-    for refused, line in verdicts:
-        label = line.partition(":")[0]
-        lines.append((wanted.pop(label) == refused, f"self-test: {line[:160]}"))
-    return lines + [(False, f"self-test: {label}: no verdict") for label in wanted]
+def sample_in(toolchain, room):
+    """The small crate, written below a folder, and its edits."""
+    for path, text in FILES.items():
+        file = Path(room, path)
+        file.parent.mkdir(parents=True, exist_ok=True)
+        file.write_text(text, encoding="utf-8")
+    crate = next(it for it in toolchain.crates(room) if it.name == "sample")
+    folder = Path(crate.folder, "wrong-bodies")
+    folder.mkdir()
+    for stem, _, turned, changes in EDITS:
+        Path(folder, f"{stem}.edit").write_text(text_of(turned, changes), encoding="utf-8")
+    return crate
 
 
-def tried(toolchain, crate, edits, refusals):
+def read(crate, stems):
+    return [read_edits(crate.name, crate.folder, Path(crate.folder, "wrong-bodies", f"{it}.edit")) for it in stems]
+
+
+def tried(toolchain, crate, edits, record):
+    """The verdicts on those edits that the record lacks."""
+    untried = record.lacks(crate, edits)
+    toolchain.build_below(crate)
     with tempfile.TemporaryDirectory(prefix="wrong-bodies-") as kept:
-        return try_unseen(toolchain, crate, edits, kept, refusals)[0]
+        return try_and_record(toolchain, crate, edits, untried, kept, record)
 
 
-def checks_of(toolchain, crate):
-    return toolchain.spent.get(crate.name, (0, 0.0))[0]
+def verdicts_are_right(toolchain, crate, record):
+    """Whether each edit gets the verdict that it must get, and the record has those that are refused."""
+    edits = read(crate, [it[0] for it in EDITS])
+    wanted = {f"sample/{stem}": refused for stem, refused, _, _ in EDITS}
+    for refused, label, said in tried(toolchain, crate, edits, record):
+        yield Verdict(wanted.pop(label) == refused, f"self-test: {label}", said)
+    for label in wanted:
+        yield Verdict(False, f"self-test: {label}", "no verdict")
+    lacking = {it.label for it in record.lacks(crate, edits)}
+    yield Verdict(lacking == {f"sample/{it[0]}" for it in EDITS if not it[1]}, "self-test: record", "has what was refused")
 
 
-def seen_once(toolchain, crate, edits, refusals):
-    """Whether edits that were refused are not tried again, and are once a file of the crate has changed."""
-    before = checks_of(toolchain, crate)
-    again = tried(toolchain, crate, edits, refusals)
-    is_seen = all(refused for refused, _ in again) and checks_of(toolchain, crate) == before
-    with open(f"{crate.folder}/src/lib.rt", "a", encoding="utf-8") as file:
-        file.write("\n// One more line.\n")
-    anew = tried(toolchain, crate, edits, refusals)
-    is_tried = all(refused for refused, _ in anew) and checks_of(toolchain, crate) > before
-    return [(is_seen, "self-test: a refusal is seen once"), (is_tried, "self-test: and again once the crate has changed")]
+def changed(path, old, new):
+    text = path.read_text(encoding="utf-8")
+    if text.count(old) != 1:
+        raise ValueError(f"{path} has the text {old!r} {text.count(old)} times")
+    path.write_text(text.replace(old, new), encoding="utf-8")
+
+
+def changes_are_noticed(toolchain, crate, path):
+    """Whether a refusal that the record at a path has isn't tried again, and is once something that it rests on has
+    changed: a body of the crate, the library below, the edit itself or the toolchain."""
+    folder, below = Path(crate.folder), Path(crate.below()[0].folder)
+    kit = [toolchain.identity]
+    changes = {
+        "and isn't tried again": lambda: None,
+        "after a change of another body": lambda: changed(folder / "src/lib.rt", "1 + last", "last + 1"),
+        "after a change of a library below": lambda: changed(below / "src/lib.rt", "1 + u32", "0 + 1 + u32"),
+        "after a change of the edit": lambda: changed(folder / "wrong-bodies/counts_two.edit", "(n) + 2", "(n) + 3"),
+        "after a change of the toolchain": lambda: kit.append(b"another kit"),
+    }
+    for at, (what, change) in enumerate(changes.items()):
+        change()
+        record = Record(path, kit[-1])
+        edits = read(crate, ["counts_two"])
+        verdicts = tried(toolchain, crate, edits, record)
+        well = len(verdicts) == (at > 0) and all(it.refused for it in verdicts)
+        well = well and not Record(path, kit[-1]).lacks(crate, edits)
+        yield Verdict(well, "self-test: a refusal is recorded", f"{what}{', tried again' if at else ''}")
+
+
+def self_test(toolchain):
+    """Whether the runner's verdicts and its record are the right ones."""
+    with tempfile.TemporaryDirectory(prefix="wrong-bodies-sample-") as room:
+        path = Path(room, "refused.txt")
+        crate = sample_in(toolchain, f"{room}/one")
+        yield from verdicts_are_right(toolchain, crate, Record(path, toolchain.identity))
+        other = sample_in(toolchain, f"{room}/other")
+        lacking = Record(path, toolchain.identity).lacks(other, read(other, ["counts_two"]))
+        yield Verdict(not lacking, "self-test: a refusal is recorded", "wherever the repository is")
+        yield from changes_are_noticed(toolchain, crate, path)

@@ -1,0 +1,87 @@
+"""The refusals that the repository records, in refused.txt: an edit is tried again only once something that its check
+reads has changed."""
+
+import hashlib
+import os
+import tempfile
+import threading
+from pathlib import Path
+
+from repository import SOURCES, sum_of
+from rounds import try_edits
+
+HERE = Path(__file__).resolve().parent
+FILE = HERE / "refused.txt"
+# The files of this runner that decide what counts as a refusal.
+JUDGES = ("checks.py", "edits.py", "rounds.py")
+HEAD = """\
+# The wrong bodies that the prover has refused. Each line has a sum of all that the wrong body's check reads, its name, and
+# the goal that refused it. Written by tests/wrong_bodies/run, and by nobody else.
+"""
+
+
+def hashed(*what):
+    return hashlib.sha256(repr(what).encode()).hexdigest()[:32]
+
+
+class Record:
+    """The recorded refusals: of each edit, by its label, the sum that it had and what refused it. Verdicts of other
+    kinds aren't recorded. A sum depends neither on the machine nor on where the repository is."""
+
+    def __init__(self, path, kit):
+        """kit is the toolchain's identity."""
+        self.path = path
+        self.lock = threading.Lock()
+        self.tools = kit, [Path(HERE, it).read_bytes() for it in JUDGES]
+        self.refusals = {}
+        if path.is_file():
+            for line in path.read_text(encoding="utf-8").splitlines():
+                if not line.startswith("#"):
+                    found, label, said = line.split(" ", 2)
+                    self.refusals[label] = found, said
+
+    def basis(self, crate):
+        """A sum of the toolchain, the judging part of this runner, and the sources of the crate and of all below it."""
+        files = [(it.name, sorted(it.of_kit), sum_of(it.folder, SOURCES)) for it in (*crate.below(), crate)]
+        return hashed(self.tools, files)
+
+    @staticmethod
+    def sum_of(basis, edit):
+        return hashed(basis, edit.label, edit.turns, edit.pairs)
+
+    def lacks(self, crate, edits):
+        """Those of a crate's edits of which no refusal is recorded that was seen over just what a check would read now."""
+        basis = self.basis(crate)
+        with self.lock:
+            return [it for it in edits if self.refusals.get(it.label, ("",))[0] != self.sum_of(basis, it)]
+
+    def keep(self, basis, crate, edits, verdicts):
+        """Records of a crate's edits those that the verdicts refuse, drops those that they don't and those that aren't
+        there any more, and writes the file."""
+        found = {it.label: self.sum_of(basis, it) for it in edits}
+        with self.lock:
+            for refused, label, said in verdicts:
+                self.refusals.pop(label, None)
+                if refused:
+                    self.refusals[label] = found[label], said
+            for label in [it for it in self.refusals if it.partition("/")[0] == crate.name and it not in found]:
+                del self.refusals[label]
+            self.write()
+
+    def write(self):
+        """Writes the file, sorted by the edits' names, apart first and then renamed, so that nobody reads half of it."""
+        lines = [f"{found} {label} {said}\n" for label, (found, said) in sorted(self.refusals.items())]
+        with tempfile.NamedTemporaryFile("w", dir=self.path.parent, delete=False, encoding="utf-8") as file:
+            file.write(HEAD + "".join(lines))
+        os.chmod(file.name, 0o644)
+        os.replace(file.name, self.path)
+
+
+def try_and_record(toolchain, crate, edits, tried, kept, record):
+    """The verdicts on some of a crate's edits; the record then has those refused."""
+    basis = record.basis(crate)
+    verdicts = try_edits(toolchain, crate, tried, kept)
+    # (if files changed meanwhile, it isn't known of which the verdicts are)
+    if record.basis(crate) == basis:
+        record.keep(basis, crate, edits, verdicts)
+    return verdicts
