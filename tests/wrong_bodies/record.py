@@ -33,12 +33,13 @@ class Record:
         self.path = path
         self.lock = threading.Lock()
         self.tools = kit, [Path(HERE, it).read_bytes() for it in JUDGES]
-        self.refusals = {}
-        if path.is_file():
-            for line in path.read_text(encoding="utf-8").splitlines():
-                if not line.startswith("#"):
-                    found, label, said = line.split(" ", 2)
-                    self.refusals[label] = found, said
+        self.refusals = self.read()
+
+    def read(self):
+        """What the file has: of each edit, by its label, its sum and what refused it."""
+        lines = self.path.read_text(encoding="utf-8").splitlines() if self.path.is_file() else []
+        words = (it.split(" ", 2) for it in lines if not it.startswith("#"))
+        return {label: (found, said) for found, label, said in words}
 
     def basis(self, crate):
         """A sum of the toolchain, the judging part of this runner, and the sources of the crate and of all below it."""
@@ -60,6 +61,8 @@ class Record:
         there any more, and writes the file."""
         found = {it.label: self.sum_of(basis, it) for it in edits}
         with self.lock:
+            # (another run may have written what it saw of another crate)
+            self.refusals = self.read()
             for refused, label, said in verdicts:
                 self.refusals.pop(label, None)
                 if refused:
