@@ -20,6 +20,10 @@ HEAD = """\
 """
 
 
+# What else the verdict on a function says: which edits shared its check decides whether what it calls is proved.
+CALLEES = "; it calls "
+
+
 def hashed(*what):
     return hashlib.sha256(repr(what).encode()).hexdigest()[:32]
 
@@ -66,7 +70,7 @@ class Record:
             for refused, label, said in verdicts:
                 self.refusals.pop(label, None)
                 if refused:
-                    self.refusals[label] = found[label], said
+                    self.refusals[label] = found[label], said.partition(CALLEES)[0]
             for label in [it for it in self.refusals if it.partition("/")[0] == crate.name and it not in found]:
                 del self.refusals[label]
             self.write()
