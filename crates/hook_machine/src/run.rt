@@ -7,6 +7,7 @@ ghost use Rattle.hook_machine.specs.Runs.{fault_in};
 use crate::fault::RunFault;
 use crate::frame::Stack;
 use crate::pass::copies;
+use crate::paused::PausedRun;
 use crate::resuming::{Job, Turn, next_turn, run_job};
 use crate::state::State;
 use callback_store::{Plugins, Stated};
@@ -17,7 +18,6 @@ use std::alloc::{AllocError, Global};
 /// A run of a request's callbacks. It borrows the plugins and copies the rest, so that no later edit reaches it.
 ///
 /// Once a call has returned a fault, each later call returns that same fault.
-#[derive(Drop)]
 pub struct Run<'a, S> {
     plugins: &'a Plugins<S>,
     state: State,
@@ -26,6 +26,19 @@ pub struct Run<'a, S> {
     /// What is left of one that has.
     stack: Stack,
     fault: Option<RunFault>,
+}
+
+/// Written out, so that a crate which owns a run calls this drop, and proves no drop of what a run owns.
+impl<'a, S> Drop for Run<'a, S> {
+    fn drop(self) {
+        let Run {
+            plugins: _,
+            state: _,
+            job: _,
+            stack: _,
+            fault: _,
+        } = self;
+    }
 }
 
 /// Makes the job of `apply_filters`.
@@ -138,12 +151,12 @@ impl<'a, S: Stated> Run<'a, S> {
     ghost use Rattle.std.specs.Prelude.{◌≡◌, ◌++◌, [], None, IfOk, IfErr, OnOk, IsOk};
     ghost use Rattle.callback_store.specs.Shape.{shapes_of};
     ghost use Rattle.hook_machine.specs.World.{fresh, loaded};
-    ghost use Rattle.hook_machine.specs.Meaning.{filtered, acted, replaced};
+    ghost use Rattle.hook_machine.specs.Meaning.{Engine, filtered, acted, replaced};
     ghost use Rattle.hook_machine.specs.Outcomes.{RunsAs, engine_with};
     ghost use Rattle.hook_machine.specs.Moves.{Turns};
     ghost use Rattle.hook_machine.specs.Jobs.{job_left};
     ghost use Rattle.hook_machine.specs.Runs.{world_of, fault_of, engine_of, left_of, CanBegin, IsIdle, IsIdleAtEnd};
-    ghost use Rattle.hook_machine.specs.Runs.{Keeps};
+    ghost use Rattle.hook_machine.specs.Runs.{Keeps, paused_world, paused_left, IsPausedIdle};
 
     /// Makes a run with nothing registered and nothing printed, of a site with these active plugins and options, that
     /// may make that many invocations. If an option has two values, the first counts.
@@ -356,9 +369,51 @@ impl<'a, S: Stated> Run<'a, S> {
         Ok(self.state.take_output())
     }
 
+    /// Puts the run aside, with all that it owns. A job that is under way is kept. Does not allocate.
+    pub fn pause(self) -> PausedRun
+        requires sound { fault_of self ≡ None }
+        ensures world { paused_world result ≡ world_of self.entry }
+        ensures left { (engine : Engine) → paused_left engine result ≡ left_of engine self.entry }
+        ensures idle { IsIdle self.entry → IsPausedIdle result }
+    {
+        let Run {
+            plugins: _,
+            state,
+            job,
+            stack,
+            fault: _,
+        } = self;
+        PausedRun { state, job, stack }
+    }
+
     /// Ends the run. All that a run owns is dropped here, for every page that ends one, so that what dropping does is
     /// proved once.
     pub fn end(self) {
         drop(self);
+    }
+}
+
+impl PausedRun {
+    ghost use Rattle.hook_machine.specs.Meaning.{Engine};
+    ghost use Rattle.hook_machine.specs.Runs.{world_of, fault_of, engine_of, left_of, IsIdle};
+    ghost use Rattle.hook_machine.specs.Runs.{paused_world, paused_left, IsPausedIdle};
+
+    /// Goes on with the run. The plugins are those that it was made with: over others it goes on as those reply. Does
+    /// not allocate.
+    pub fn resume<S: Stated>(self, plugins: &Plugins<S>) -> Run<'_, S>
+        ensures world { world_of result ≡ paused_world self }
+        ensures left { (engine : Engine) → left_of engine result ≡ paused_left engine self }
+        ensures idle { IsPausedIdle self → IsIdle result }
+        ensures sound { fault_of result ≡ None }
+        ensures engine { engine_of S.says S.number result ≡ engine_over S.says S.number plugins.entry.now }
+    {
+        let (state, job, stack) = self.into_parts();
+        Run {
+            plugins,
+            state,
+            job,
+            stack,
+            fault: None,
+        }
     }
 }

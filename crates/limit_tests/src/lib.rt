@@ -7,8 +7,12 @@ mod calls;
 #[cfg(test)]
 mod climbing;
 #[cfg(test)]
+mod inactive;
+#[cfg(test)]
 mod limits;
 #[cfg(test)]
 mod replies;
 #[cfg(test)]
 mod sites;
+#[cfg(test)]
+mod switched;

@@ -19,7 +19,7 @@ const TEN: &str = "<h2>T</h2>C<h2>T</h2>C<h2>T</h2>C<h2>T</h2>C<h2>T</h2>C\
 const STORE: Wanted = Wanted::No(Refusal::Store);
 
 /// Commands of each kind that run statements, on a site with 11 posts. Some of them are refused.
-static COMMANDS: [(&[u8], Wanted); 16] = [
+static COMMANDS: [(&[u8], Wanted); 18] = [
     (PUT, Wanted::Id(12)),
     (FRONT, Wanted::Page(200, TEN)),
     (
@@ -29,6 +29,14 @@ static COMMANDS: [(&[u8], Wanted); 16] = [
     (
         br#"{"cmd":"get","path":"/?m=202405"}"#,
         Wanted::Page(200, TEN),
+    ),
+    (
+        br#"{"cmd":"begin","path":"/?m=202405&paged=2"}"#,
+        Wanted::Id(1),
+    ),
+    (
+        br#"{"cmd":"turns","page":1,"count":1000000}"#,
+        Wanted::Page(200, "<h2>T</h2>C<h2>T</h2>C"),
     ),
     (br#"{"cmd":"get","path":"/?p=99"}"#, NOTHING),
     (

@@ -7,14 +7,15 @@ use Rattle.serde_json.specs.Data.{null, string, array, no_items, item, object, n
 use Rattle.site_records.specs.declared.post.PostKind.TheVariants.{Post, Page}
 use Rattle.site_records.specs.declared.post.PostStatus.TheVariants.{Publish, Draft}
 use Rattle.site_commands.specs.Tree.{tree_of}
-use Rattle.site_commands.specs.Asked.{put, edit, delete, option, activate, deactivate, template, import, get, command_of, put_of, edit_of, delete_of}
-use Rattle.site_commands.specs.Asked.{option_of, activate_of, deactivate_of, template_of, import_of, get_of}
+use Rattle.site_commands.specs.Asked.{put, edit, delete, option, activate, deactivate, template, import, get, begin, turns, command_of, put_of, edit_of, delete_of}
+use Rattle.site_commands.specs.Asked.{option_of, activate_of, deactivate_of, template_of, import_of, get_of, begin_of, turns_of}
 use Rattle.site_values.specs.Named.{option_named}
 use Rattle.site_commands.specs.Worked.{line_command}
 
 -- what computes in the lines below
 computes : ℕ
-unfolding tree_of command_of put_of edit_of delete_of option_of activate_of deactivate_of template_of import_of get_of serde_json_on_literals is_utf8 chars
+unfolding tree_of command_of put_of edit_of delete_of option_of activate_of deactivate_of template_of import_of get_of begin_of turns_of serde_json_on_literals is_utf8
+    chars
 computes = 0
 
 pub defaults : line_command (codes "{\"cmd\":\"put\",\"date\":\"2024-05-01 10:00:00\"}")
@@ -146,6 +147,42 @@ asked_for = refl
 pub no_path : line_command (codes "{\"cmd\":\"get\"}") ≡ None
 unfolding computes
 no_path = refl
+
+pub begun : line_command (codes "{\"cmd\":\"begin\",\"path\":\"/?p=1\"}") ≡ Some (begin (codes "/?p=1"))
+unfolding computes
+begun = refl
+
+pub no_path_to_begin : line_command (codes "{\"cmd\":\"begin\"}") ≡ None
+unfolding computes
+no_path_to_begin = refl
+
+pub turned : line_command (codes "{\"cmd\":\"turns\",\"page\":1,\"count\":3}") ≡ Some (turns 1 3)
+unfolding computes
+turned = refl
+
+pub most_turns : line_command (codes "{\"cmd\":\"turns\",\"page\":8,\"count\":1000000}") ≡ Some (turns 8 1000000)
+unfolding computes
+most_turns = refl
+
+pub more_turns : line_command (codes "{\"cmd\":\"turns\",\"page\":1,\"count\":1000001}") ≡ None
+unfolding computes
+more_turns = refl
+
+pub count_0 : line_command (codes "{\"cmd\":\"turns\",\"page\":1,\"count\":0}") ≡ None
+unfolding computes
+count_0 = refl
+
+pub page_0 : line_command (codes "{\"cmd\":\"turns\",\"page\":0,\"count\":1}") ≡ None
+unfolding computes
+page_0 = refl
+
+pub page_9 : line_command (codes "{\"cmd\":\"turns\",\"page\":9,\"count\":1}") ≡ None
+unfolding computes
+page_9 = refl
+
+pub no_count : line_command (codes "{\"cmd\":\"turns\",\"page\":1}") ≡ None
+unfolding computes
+no_count = refl
 
 pub last_value : line_command (codes "{\"path\":\"/x\",\"cmd\":\"get\",\"path\":\"/\"}") ≡ Some (get (codes "/"))
 unfolding computes

@@ -15,12 +15,15 @@ ghost use Rattle.site_commands.specs.Asked.{
   template_of,
   import_of,
   get_of,
+  begin_of,
+  turns_of,
 };
 
 use serde_json::Value;
 use site_records::{PostKind, PostStatus};
 use site_values::{
-    id_at, kind_named, option_named, status_given, status_named, text_at, text_given, text_or,
+    id_at, kind_named, number_at, option_named, status_given, status_named, text_at, text_given,
+    text_or,
 };
 
 /// A command, over the texts of its tree. Sizes of texts and paths, dates, and whether a post or a
@@ -85,7 +88,24 @@ pub enum Command<'v> {
     Get {
         path: &'v str,
     },
+    /// Open the page of a path.
+    Begin {
+        path: &'v str,
+    },
+    /// Give an open page up to `count` turns.
+    Turns {
+        /// 1 to 8.
+        page: u32,
+        /// 1 to 1,000,000.
+        count: u32,
+    },
 }
+
+// The largest number that an open page has.
+const MAX_PAGE: u32 = 8;
+
+// The most turns that a line gives.
+const MAX_TURNS: u32 = 1_000_000;
 
 /// Reads the command that a tree is, or returns `None` if it isn't one: the tree isn't an object,
 /// its `cmd` isn't a text that names a command, or a key of that command is missing and has no
@@ -105,6 +125,8 @@ pub fn read_command(value: &Value) -> Option<Command<'_>>
         "template" => read_template(value),
         "import" => read_import(value),
         "get" => read_get(value),
+        "begin" => read_begin(value),
+        "turns" => read_turns(value),
         _ => None,
     }
 }
@@ -212,4 +234,21 @@ fn read_get(value: &Value) -> Option<Command<'_>>
 {
     let path = text_at(value, "path")?;
     Some(Command::Get { path })
+}
+
+#[tactic(auto, unfolding(crate::specs::Asked::begin_of))]
+fn read_begin(value: &Value) -> Option<Command<'_>>
+    ensures { option_map asked_by result ≡ begin_of (view value.now) }
+{
+    let path = text_at(value, "path")?;
+    Some(Command::Begin { path })
+}
+
+#[tactic(auto, unfolding(crate::specs::Asked::turns_of))]
+fn read_turns(value: &Value) -> Option<Command<'_>>
+    ensures { option_map asked_by result ≡ turns_of (view value.now) }
+{
+    let page = number_at(value, "page", MAX_PAGE)?;
+    let count = number_at(value, "count", MAX_TURNS)?;
+    Some(Command::Turns { page, count })
 }

@@ -13,6 +13,8 @@ ghost use Rattle.site_commands.specs.Asked.{
   template,
   import,
   get,
+  begin,
+  turns,
 };
 ghost use Rattle.site_values.specs.Named.{option_named};
 ghost use Rattle.site_commands.specs.Worked.{line_command};
@@ -90,6 +92,25 @@ pub fn worked_commands()
     ensures asked_for { line_command (codes "{\"cmd\":\"get\",\"path\":\"/?p=1\"}")
         ≡ Some (get (codes "/?p=1")) }
     ensures no_path { line_command (codes "{\"cmd\":\"get\"}") ≡ None }
+
+    // A page is begun by its path. It is given turns by its number, 1 to 8, with a count of 1 to 1,000,000.
+    ensures begun { line_command (codes "{\"cmd\":\"begin\",\"path\":\"/?p=1\"}")
+        ≡ Some (begin (codes "/?p=1")) }
+    ensures no_path_to_begin { line_command (codes "{\"cmd\":\"begin\"}") ≡ None }
+    ensures turned { line_command (codes "{\"cmd\":\"turns\",\"page\":1,\"count\":3}")
+        ≡ Some (turns 1 3) }
+    ensures most_turns { line_command
+        (codes "{\"cmd\":\"turns\",\"page\":8,\"count\":1000000}")
+        ≡ Some (turns 8 1000000) }
+    ensures more_turns { line_command
+        (codes "{\"cmd\":\"turns\",\"page\":1,\"count\":1000001}") ≡ None }
+    ensures count_0 { line_command (codes "{\"cmd\":\"turns\",\"page\":1,\"count\":0}")
+        ≡ None }
+    ensures page_0 { line_command (codes "{\"cmd\":\"turns\",\"page\":0,\"count\":1}")
+        ≡ None }
+    ensures page_9 { line_command (codes "{\"cmd\":\"turns\",\"page\":9,\"count\":1}")
+        ≡ None }
+    ensures no_count { line_command (codes "{\"cmd\":\"turns\",\"page\":1}") ≡ None }
 
     // The last value of a repeated key counts.
     ensures last_value { line_command (codes "{\"path\":\"/x\",\"cmd\":\"get\",\"path\":\"/\"}")

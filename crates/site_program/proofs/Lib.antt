@@ -1,9 +1,14 @@
 pub mod LineLists
 pub mod Streams
 pub mod Endings
-pub mod Machine
 pub mod Pages
+pub mod Carrying
+pub mod Places
+pub mod Staying
 pub mod Refusals
 pub mod UnderNames
 pub mod Limits
+pub mod Rebuilding
 pub mod Keeping
+pub mod Bounds
+pub mod Isolation

@@ -1,34 +1,63 @@
--- A command keeps the limit on steps.
-use Rattle.std.proofs.Common.{◌≡◌, ℕ, ◌∙◌, List, Option, Some, None, true, false, refl, ap, length}
-use Rattle.std.specs.Prelude.{nat_le, option_and_then}
+-- What an edit does rests on the rows alone, and not on the limit on steps or on the open pages. No command changes the limit.
+use Rattle.std.proofs.Common.{◌≡◌, inl, inr, ℕ, ◌∙◌, List, Option, Some, None, true, false, sym, subst, ap}
+use Rattle.std.proofs.lemmas.Bool.{cases_Bool, and_left}
 use Rattle.hook_machine.specs.Meaning.{Engine}
 use Rattle.post_tables.specs.Rows.{Rows}
-use Rattle.site_commands.specs.Tree.{tree_of}
-use Rattle.site_commands.specs.Asked.{Asked, command_of}
+use Rattle.site_commands.specs.Asked.{Asked}
 use Rattle.site_commands.specs.Asked as asked
+use Rattle.site_commands.specs.Worked.{line_command}
 use Rattle.site_replies.specs.Reply.{ReplyData}
-use Rattle.site_edits.proofs.Limits.{KeepsLimit, either, put-limit, edit-limit, delete-limit, option-limit, active-limit, template-limit, import-limit}
-use Rattle.site_program.specs.Step.{step, got, carried_out, max_path}
+use Rattle.site_edits.proofs.Limits.{limited, put-same, edit-same, delete-same, option-same, active-same, template-same, import-same}
+use Rattle.site_program.specs.State.{State, Places}
+use Rattle.site_program.specs.Step.{step, carried_out, is_edit}
+use Rattle.site_program.proofs.Refusals.{carried_out-keeps}
 
-got-limit : (engine : Engine) (calls : ℕ) (rows : Rows) (path : List ℕ) → KeepsLimit rows (got engine calls rows path)
-unfolding got
-got-limit engine calls rows path = either (nat_le (length path) max_path) rows _ _ refl refl
+-- another site has the rows of a site, but this limit
+abbrev pub Follows : Option ℕ → State → State → Type 0
+Follows limit site other = other.rows ≡ limited limit site.rows
 
-carried_out-limit : (engine : Engine) (calls : ℕ) (rows : Rows) (command : Option Asked) → KeepsLimit rows (carried_out engine calls rows command)
-carried_out-limit engine calls rows None = refl
-carried_out-limit engine calls rows (Some (asked.put kind status title content date)) = put-limit rows kind status title content date
-carried_out-limit engine calls rows (Some (asked.edit id status title content date)) = edit-limit rows id _
-carried_out-limit engine calls rows (Some (asked.delete id)) = delete-limit rows id
-carried_out-limit engine calls rows (Some (asked.option name value)) = option-limit rows name value
-carried_out-limit engine calls rows (Some (asked.activate plugin)) = active-limit engine.plugins rows plugin true
-carried_out-limit engine calls rows (Some (asked.deactivate plugin)) = active-limit engine.plugins rows plugin false
-carried_out-limit engine calls rows (Some (asked.template name body)) = template-limit rows name body
-carried_out-limit engine calls rows (Some (asked.import site)) = import-limit engine.plugins rows site
-carried_out-limit engine calls rows (Some (asked.get path)) = got-limit engine calls rows path
+-- it goes on to do so, and replies as the site does
+abbrev pub DoesTheSame : Option ℕ → (done other : State × ReplyData) → Type 0
+DoesTheSame limit done other = Follows limit done.0 other.0 × (other.1 ≡ done.1)
+
+module _ (engine : Engine) (calls : ℕ) (limit : Option ℕ) where
+  module _ (site : State) (pages : Places) where
+    abbrev other : State
+    other = record { rows = limited limit site.rows; pages = pages }
+
+    pub carried_out-same : (command : Option Asked) → is_edit command ≡ true
+        → DoesTheSame limit (carried_out engine calls site command) (carried_out engine calls other command)
+    carried_out-same None none = absurd (cc)
+    carried_out-same (Some (asked.put kind status title content date)) is = put-same limit site.rows kind status title content date
+    carried_out-same (Some (asked.edit id status title content date)) is = edit-same limit site.rows id _
+    carried_out-same (Some (asked.delete id)) is = delete-same limit site.rows id
+    carried_out-same (Some (asked.option name value)) is = option-same limit site.rows name value
+    carried_out-same (Some (asked.activate plugin)) is = active-same limit site.rows engine.plugins plugin true
+    carried_out-same (Some (asked.deactivate plugin)) is = active-same limit site.rows engine.plugins plugin false
+    carried_out-same (Some (asked.template name body)) is = template-same limit site.rows name body
+    carried_out-same (Some (asked.import file)) is = import-same limit site.rows engine.plugins file
+    carried_out-same (Some (asked.get path)) none = absurd (cc)
+    carried_out-same (Some (asked.begin path)) none = absurd (cc)
+    carried_out-same (Some (asked.turns page count)) none = absurd (cc)
+
+  pub step-same : (site other : State) (line : List ℕ) → is_edit (line_command line) ≡ true → Follows limit site other
+      → DoesTheSame limit (step engine calls site line) (step engine calls other line)
+  unfolding step
+  step-same site other line stands follows =
+      subst (λ (rows : Rows).
+      DoesTheSame limit (carried_out engine calls site (line_command line)) (carried_out engine calls (record other { rows = rows }) (line_command line)))
+      (sym follows) (carried_out-same site other.pages (line_command line) stands)
+
+carried_out-limit : (engine : Engine) (calls : ℕ) (site : State) (command : Option Asked)
+    → (carried_out engine calls site command).0.rows.step_limit ≡ site.rows.step_limit
+carried_out-limit engine calls site command =
+    elim (cases_Bool (is_edit command)) [
+      | inl edits ↦ ap (λ rows. rows.step_limit) (carried_out-same engine calls site.rows.step_limit site site.pages command edits).0
+      | inr others ↦ ap (λ rows. rows.step_limit) (carried_out-keeps engine calls site command (and_left (is_edit command) _ others))
+    ]
 
 -- the rows after a line have the limit that the rows before it had
-pub step-limit : (engine : Engine) (calls : ℕ) (rows new : Rows) (line : List ℕ) (reply : ReplyData) → (new, reply) ≡ step engine calls rows line
-    → new.step_limit ≡ rows.step_limit
+pub step-limit : (engine : Engine) (calls : ℕ) (site new : State) (line : List ℕ) (reply : ReplyData) → (new, reply) ≡ step engine calls site line
+    → new.rows.step_limit ≡ site.rows.step_limit
 unfolding step
-step-limit engine calls rows new line reply done =
-    ap (λ p. p.0.step_limit) done ∙ carried_out-limit engine calls rows (option_and_then command_of (tree_of line))
+step-limit engine calls site new line reply done = ap (λ p. p.0.rows.step_limit) done ∙ carried_out-limit engine calls site (line_command line)

@@ -1,51 +1,54 @@
 -- Lemmas on the reply to a request.
 use Rattle.std.proofs.Common.{◌≡◌, ◌≢◌, ◌≤◌, inl, inr, ℕ, Bool, true, List, ◌∙◌, Ok, Err, refl, sym, ap, length}
-use Rattle.std.proofs.lemmas.Bool.{le-leb}
-use Rattle.std.specs.Prelude.{Result, IfErr, OnErr, false, ◌||◌}
+use Rattle.std.proofs.lemmas.Bool.{cond_both, le-leb}
+use Rattle.std.specs.Prelude.{Result, IfOk, IfErr, false, ◌||◌, nat_le}
 use Rattle.hook_machine.specs.World.{Text, World, fresh, loaded}
 use Rattle.hook_machine.specs.declared.fault.RunFault.{RunFault}
 use Rattle.hook_machine.specs.declared.fault.RunFault.TheVariants as fault
-use Rattle.hook_machine.specs.Trace.{Outcome, Ended, Fault}
+use Rattle.hook_machine.specs.Trace.{Outcome, Ended, Fault, outcome_of}
 use Rattle.hook_machine.specs.Meaning.{Engine}
 use Rattle.site_records.specs.declared.found.Found.{Found}
 use Rattle.post_tables.specs.Rows.{Rows}
 use Rattle.template_parts.specs.Pages as template
 use Rattle.template_parts.specs.Pages.{Work, IsPage, IsRefusedBy}
 use Rattle.template_parts.specs.declared.settings.Settings.{Settings}
-use Rattle.site_replies.specs.Reply.{ReplyData, page}
+use Rattle.template_parts.specs.declared.open_page.OpenPage.{OpenPage}
+use Rattle.template_parts.specs.Open.{open_left, status_of}
+use Rattle.site_replies.specs.declared.reply.SiteReply.{SiteReply}
+use Rattle.site_replies.specs.Reply.{ReplyData, reply_data, page}
+use Rattle.site_edits.specs.Carried.{CarriesOut}
 use Rattle.site_edits.specs.Faults.{IsReadFault}
-use Rattle.site_edits.specs.Late.{rests_on_rows, may_be_late}
+use Rattle.site_edits.specs.Late.{is_done, rests_on_rows, may_be_late}
 use Rattle.site_edits.specs.declared.fault.StoreFault.{StoreFault}
 use Rattle.site_edits.specs.declared.fault.StoreFault.TheVariants as store
 use Rattle.site_program.specs.Step.{got, max_path}
-use Rattle.site_program.specs.Requests.{Texts, settings_for, page_pass, page_of, options_of, templates_of, active_of, found_by, shown, refusal_of, request}
-
--- what holds of every error
-pub on_any_err : {A E X : Type 0} (r : Result A E) → X → OnErr r X
-on_any_err (Ok found) x = tt
-on_any_err (Err e) x = x
+use Rattle.site_program.specs.Requests.{Texts, Opened, opened, settings_for, page_pass, page_of, options_of, templates_of, active_of, found_by, shown, refusal_of, requested, request}
+use Rattle.site_program.specs.Site.{opened_as}
 
 -- ---- the page of what was found
 
 module _ (engine : Engine) (calls : ℕ) (found : Found) (options templates : Texts) (active : List Text) where
-  -- the work that the page went through is the page's work
-  pub work_is : (e : Engine) (settings : Settings) (f : Found) (world : World) → e ≡ engine → settings ≡ settings_for found.kind options templates → f ≡ found
+  -- the work of a page that was begun is the page's work
+  work_is : (settings : Settings) (f : Found) (world : World) → settings ≡ settings_for found.kind options templates → f ≡ found
       → world ≡ loaded engine.plugins (fresh calls options active)
-      → template.page_pass e settings f.posts world ≡ page_pass engine calls found options templates active
+      → template.page_pass engine settings f.posts world ≡ page_pass engine calls found options templates active
   unfolding page_pass
-  work_is e settings f world e_is settings_are f_is world_is = rw (e_is, settings_are, f_is, world_is) refl
+  work_is settings f world settings_are f_is world_is = rw (settings_are, f_is, world_is) refl
 
-  -- an allocation failure isn't a refusal of the page
-  pub page_forgone : (why : RunFault) → why ≡ fault.OutOfMemory → IsRefusedBy (page_pass engine calls found options templates active) why
-  page_forgone why is = λ other. absurd (other is)
+  pub opened-page : (kept : OpenPage) (settings : Settings) (world : World) → settings ≡ settings_for found.kind options templates
+      → world ≡ loaded engine.plugins (fresh calls options active) → open_left engine kept ≡ template.page_pass engine settings found.posts world
+      → status_of kept ≡ found.status → opened_as engine kept ≡ page_of engine calls found options templates active
+  opened-page kept settings world settings_are world_is left status =
+      let work = left ∙ work_is settings found world settings_are refl world_is in
+      ap (λ (s : ℕ). opened s (open_left engine kept)) status ∙ ap (opened found.status) work
 
-  pub page_made : (text : Text) → IsPage (page_pass engine calls found options templates active) text
-      → page found.status text ≡ page_of engine calls found options templates active
-  page_made text made = ap (page found.status) made.whole ∙ ap (shown found.status) (sym made.made)
+-- ---- how a page ends
 
-  pub page_refused : (why : RunFault) → IsRefusedBy (page_pass engine calls found options templates active) why → why ≢ fault.OutOfMemory
-      → refusal_of why ≡ page_of engine calls found options templates active
-  page_refused why refused other = ap (shown found.status) (sym (refused other))
+pub shown_made : (work : Work) (status given : ℕ) (text : Text) → IsPage work text → given ≡ status → page given text ≡ shown status (outcome_of work)
+shown_made work status given text made is = rw (is, made.whole, made.made) refl
+
+pub shown_refused : (work : Work) (status : ℕ) (why : RunFault) → IsRefusedBy work why → why ≢ fault.OutOfMemory → refusal_of why ≡ shown status (outcome_of work)
+shown_refused work status why refused other = rw (refused other) refl
 
 -- ---- the reply to a path
 
@@ -56,17 +59,24 @@ shown-rests status (Fault fault.TooManyCalls) = refl
 shown-rests status (Fault fault.TooDeep) = refl
 shown-rests status (Fault fault.OutOfMemory) = refl
 
+-- and is no `ok`
+shown-undone : (status : ℕ) (end : Outcome (Unit {0})) → is_done (shown status end) ≡ false
+shown-undone status (Ended world nothing) = refl
+shown-undone status (Fault fault.TooManyCalls) = refl
+shown-undone status (Fault fault.TooDeep) = refl
+shown-undone status (Fault fault.OutOfMemory) = refl
+
 or_true : (b : Bool) → (b || true) ≡ true
 or_true true = refl
 or_true false = refl
 
 module _ (engine : Engine) (calls : ℕ) (rows : Rows) (path : Text) where
   -- by what was read of the rows
-  pub request-is : (reply : ReplyData) (found : Found) (options templates : Texts) (active : List Text) → found ≡ found_by rows path → options ≡ options_of rows
+  pub requested-is : (kept : Opened) (found : Found) (options templates : Texts) (active : List Text) → found ≡ found_by rows path → options ≡ options_of rows
       → templates ≡ templates_of rows → active ≡ active_of rows
-      → reply ≡ page_of engine calls found options templates active → reply ≡ request engine calls rows path
-  unfolding request
-  request-is reply found options templates active f o t a is = rw (is, f, o, t, a) refl
+      → kept ≡ page_of engine calls found options templates active → kept ≡ requested engine calls rows path
+  unfolding requested
+  requested-is kept found options templates active f o t a is = rw (is, f, o, t, a) refl
 
   -- a path that isn't too long
   pub got-short : (new : Rows) (reply : ReplyData) → length path ≤ max_path → new ≡ rows → reply ≡ request engine calls rows path
@@ -75,8 +85,12 @@ module _ (engine : Engine) (calls : ℕ) (rows : Rows) (path : Text) where
   got-short new reply short same is = rw (le-leb _ _ short, same, is) refl
 
   rests : rests_on_rows (request engine calls rows path) ≡ true
-  unfolding request
+  unfolding requested
   rests = shown-rests _ _
+
+  pub got-undone : is_done (got engine calls rows path).1 ≡ false
+  unfolding got requested
+  got-undone = cond_both (nat_le (length path) max_path) _ _ (λ (p : Rows × ReplyData). is_done p.1 ≡ false) (λ fits. shown-undone _ _) (λ long. refl)
 
   -- the database refuses it only with a limit on steps, in place of a reply that rests on the rows
   pub got-late : length path ≤ max_path → (why : StoreFault) → IsReadFault rows.step_limit why → why ≡ store.Store
@@ -84,3 +98,16 @@ module _ (engine : Engine) (calls : ℕ) (rows : Rows) (path : Text) where
   unfolding got
   got-late short why (inl none) is = absurd (let clash = sym none ∙ is in cc)
   got-late short why (inr late) is = rw (le-leb _ _ short, late.1, rests) (or_true _)
+
+  -- a page that was not begun
+  pub got-stopped : length path ≤ max_path → (new : Rows) (why : StoreFault) → new ≡ rows → IsReadFault rows.step_limit why
+      → CarriesOut rows (got engine calls rows path) (Err why) new
+  got-stopped short new why same stopped = record { ok = tt; err = same; late = λ is. got-late short why stopped is }
+
+  -- and one that was, and is finished
+  pub got-done : length path ≤ max_path → (new : Rows) (result : Result SiteReply StoreFault) (it : Opened) → new ≡ rows → it ≡ requested engine calls rows path
+      → IfOk result (λ reply. reply_data reply ≡ it.answer) → IfErr result (λ why. why ≡ store.OutOfMemory)
+      → CarriesOut rows (got engine calls rows path) result new
+  got-done short new (Ok reply) it same begun is memory =
+      record { ok = got-short new (reply_data reply) short same (is ∙ ap (λ (o : Opened). o.answer) begun); err = tt; late = tt }
+  got-done short new (Err why) it same begun is memory = record { ok = tt; err = same; late = λ late. absurd (let clash = sym memory ∙ late in cc) }

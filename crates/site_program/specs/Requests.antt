@@ -1,8 +1,8 @@
 -- The reply to a request of a path.
-use Rattle.std.specs.Prelude.{ℕ, List, [], map, codes, Option, option_and_then, unwrap_or}
+use Rattle.std.specs.Prelude.{◌≡◌, ℕ, ◌+◌, List, [], length, map, codes, Option, option_and_then, unwrap_or}
 use Rattle.std.specs.FinMap.{entries, keys}
-use Rattle.hook_machine.specs.World.{Text, fresh, loaded}
-use Rattle.hook_machine.specs.Trace.{Outcome, Ended, Fault, outcome_of}
+use Rattle.hook_machine.specs.World.{Text, World, fresh, loaded}
+use Rattle.hook_machine.specs.Trace.{Outcome, Ended, Fault, outcome_of, turns_of}
 use Rattle.hook_machine.specs.Meaning.{Engine}
 use Rattle.hook_machine.specs.declared.fault.RunFault.{RunFault}
 use Rattle.hook_machine.specs.declared.fault.RunFault.TheVariants as fault
@@ -69,18 +69,42 @@ settings_for kind options templates =
       content = template_named (codes "content") templates;
     }
 
--- a page's work: the active plugins load into a fresh world, and then the page is printed over what was found
+-- the world in which a page begins: the active plugins have loaded into a fresh one
+abbrev pub first_world : Engine → ℕ → Texts → List Text → World
+first_world engine calls options active = loaded engine.plugins (fresh calls options active)
+
+-- in this world nothing was run: all calls are left, no ask is being answered, and nothing is printed
+abbrev pub HasRunNothing : ℕ → World → Type 0
+HasRunNothing calls world = (world.calls ≡ calls) × (world.depth ≡ 0) × (world.output ≡ [])
+
+-- a page's work: in its first world the page is printed over what was found
 unfoldable pub page_pass : Engine → ℕ → Found → (options templates : Texts) → List Text → Work
 page_pass engine calls found options templates active =
-    template.page_pass engine (settings_for found.kind options templates) found.posts
-    (loaded engine.plugins (fresh calls options active))
+    template.page_pass engine (settings_for found.kind options templates) found.posts (first_world engine calls options active)
 
--- the reply to a request that found this
-abbrev pub page_of : Engine → ℕ → Found → (options templates : Texts) → List Text → ReplyData
-page_of engine calls found options templates active =
-    shown found.status (outcome_of (page_pass engine calls found options templates active))
+-- the work of the page of a path
+abbrev pub work_of : Engine → ℕ → Rows → Text → Work
+work_of engine calls rows path =
+    page_pass engine calls (found_by rows path) (options_of rows) (templates_of rows) (active_of rows)
+
+-- a page that is open: what its last turn replies, and how many turns it has left, the last one included
+pub record Opened : Type 0 where
+  pub answer : ReplyData
+  pub left : ℕ
+
+-- the page that some work prints: a turn for each of its invocations, and the last one
+abbrev pub opened : ℕ → Work → Opened
+opened status work = record { answer = shown status (outcome_of work); left = length (turns_of work) + 1 }
+
+-- the page of a request that found this
+abbrev pub page_of : Engine → ℕ → Found → (options templates : Texts) → List Text → Opened
+page_of engine calls found options templates active = opened found.status (page_pass engine calls found options templates active)
+
+-- the page of a path, before its first turn
+unfoldable pub requested : Engine → ℕ → Rows → Text → Opened
+requested engine calls rows path =
+    page_of engine calls (found_by rows path) (options_of rows) (templates_of rows) (active_of rows)
 
 -- the reply to a request of a path
-unfoldable pub request : Engine → ℕ → Rows → Text → ReplyData
-request engine calls rows path =
-    page_of engine calls (found_by rows path) (options_of rows) (templates_of rows) (active_of rows)
+abbrev pub request : Engine → ℕ → Rows → Text → ReplyData
+request engine calls rows path = (requested engine calls rows path).answer

@@ -1,21 +1,22 @@
 -- What the site does at a line.
-use Rattle.std.specs.Prelude.{◌≡◌, ◌⊎◌, ℕ, true, false, nat_le, List, length, Option, None, Some, option_and_then, if◌then◌else◌}
+use Rattle.std.specs.Prelude.{◌≡◌, ◌≢◌, ◌⊎◌, ℕ, ◌+◌, ◌-◌, ◌&&◌, Bool, true, false, nat_le, List, length, Option, None, Some, is_none, is_some, position, if◌then◌else◌}
 use Rattle.hook_machine.specs.Meaning.{Engine}
 use Rattle.hook_changes.specs.declared.reply.Call.{Call}
 use Rattle.hook_changes.specs.declared.reply.Reply.{Reply}
 use Rattle.post_tables.specs.Rows.{Rows}
-use Rattle.site_commands.specs.Tree.{tree_of}
-use Rattle.site_commands.specs.Asked.{Asked, command_of}
+use Rattle.site_commands.specs.Asked.{Asked}
 use Rattle.site_commands.specs.Asked as asked
-use Rattle.site_replies.specs.declared.reply.Refusal.TheVariants.{BadCommand, TooLarge, OutOfMemory, Store}
+use Rattle.site_commands.specs.Worked.{line_command}
+use Rattle.site_replies.specs.declared.reply.Refusal.TheVariants.{BadCommand, TooLarge, OutOfMemory, Store, NoSuchPage, TooManyPages}
 use Rattle.site_program.specs.declared.setup.Setup.{Setup}
 use Rattle.site_program.specs.Site.{engine_of, calls_of}
-use Rattle.site_program.specs.Requests.{request}
+use Rattle.site_program.specs.Requests.{Opened, request, requested}
+use Rattle.site_program.specs.State.{State, page_in, with_page, without_page, after_turns}
 use Rattle.site_edits.specs.Edits.{put, edit, delete, set_option, set_active}
 use Rattle.site_edits.specs.Templates.{set_template}
 use Rattle.site_edits.specs.Imports.{import}
-use Rattle.site_edits.specs.Late.{may_be_late}
-use Rattle.site_replies.specs.Reply.{ReplyData, refused}
+use Rattle.site_edits.specs.Late.{may_be_late, rests_on_rows}
+use Rattle.site_replies.specs.Reply.{ReplyData, done_id, refused}
 
 -- the most bytes that a path may have
 abbrev pub max_path : ℕ
@@ -25,34 +26,94 @@ max_path = 8192
 unfoldable pub got : Engine → ℕ → Rows → List ℕ → Rows × ReplyData
 got engine calls rows path = if nat_le (length path) max_path then (rows, request engine calls rows path) else (rows, refused TooLarge)
 
--- the rows after a command, and the reply
-abbrev pub carried_out : Engine → ℕ → Rows → Option Asked → Rows × ReplyData
-carried_out engine calls rows None = (rows, refused BadCommand)
-carried_out engine calls rows (Some (asked.put kind status title content date)) = put rows kind status title content date
-carried_out engine calls rows (Some (asked.edit id status title content date)) =
-    edit rows id (record { status = status; title = title; content = content; date = date })
-carried_out engine calls rows (Some (asked.delete id)) = delete rows id
-carried_out engine calls rows (Some (asked.option name value)) = set_option rows name value
-carried_out engine calls rows (Some (asked.activate plugin)) = set_active engine.plugins rows plugin true
-carried_out engine calls rows (Some (asked.deactivate plugin)) = set_active engine.plugins rows plugin false
-carried_out engine calls rows (Some (asked.template name body)) = set_template rows name body
-carried_out engine calls rows (Some (asked.import site)) = import engine.plugins rows site
-carried_out engine calls rows (Some (asked.get path)) = got engine calls rows path
+-- a page opens in the first free place, if there is one
+abbrev pub opened_in : Option ℕ → Opened → State → State × ReplyData
+opened_in None page site = (site, refused TooManyPages)
+opened_in (Some place) page site = (with_page site place (Some page), done_id (place + 1))
 
--- the rows after a line, and the reply
-unfoldable pub step : Engine → ℕ → Rows → List ℕ → Rows × ReplyData
-step engine calls rows line = carried_out engine calls rows (option_and_then command_of (tree_of line))
+-- `begin`: the page of the path opens, over the site as it is, unless its path is too long
+unfoldable pub begun : Engine → ℕ → State → List ℕ → State × ReplyData
+begun engine calls site path =
+    if nat_le (length path) max_path then opened_in (position is_none site.pages) (requested engine calls site.rows path) site else (site, refused TooLarge)
 
-module _ (steps : Rows → List ℕ → Rows × ReplyData) where
-  -- The reply to a line, and the rows after it: those of its step; or a refusal that leaves the rows unchanged, on allocation
-  -- failure, or by the database in place of the `ok` of an edit; with a limit on the steps of a statement also in place of
-  -- whatever rests on the rows.
-  abbrev pub IsReply : Rows → List ℕ → ReplyData → Rows → Type 0
+-- the page in a place is given that many turns, if one is open there
+abbrev pub turned_in : ℕ → Option Opened → ℕ → State → State × ReplyData
+turned_in place None count site = (site, refused NoSuchPage)
+turned_in place (Some page) count site = (with_page site place (after_turns count page).0, (after_turns count page).1)
+
+-- `turns`: the page of that number is given that many turns
+unfoldable pub turned : State → (page count : ℕ) → State × ReplyData
+turned site page count = turned_in (page - 1) (page_in (page - 1) site.pages) count site
+
+-- the site with other rows
+abbrev pub over_rows : State → Rows × ReplyData → State × ReplyData
+over_rows site p = (record site { rows = p.0 }, p.1)
+
+-- the site after a command, and the reply
+abbrev pub carried_out : Engine → ℕ → State → Option Asked → State × ReplyData
+carried_out engine calls site None = (site, refused BadCommand)
+carried_out engine calls site (Some (asked.put kind status title content date)) = over_rows site (put site.rows kind status title content date)
+carried_out engine calls site (Some (asked.edit id status title content date)) =
+    over_rows site (edit site.rows id (record { status = status; title = title; content = content; date = date }))
+carried_out engine calls site (Some (asked.delete id)) = over_rows site (delete site.rows id)
+carried_out engine calls site (Some (asked.option name value)) = over_rows site (set_option site.rows name value)
+carried_out engine calls site (Some (asked.activate plugin)) = over_rows site (set_active engine.plugins site.rows plugin true)
+carried_out engine calls site (Some (asked.deactivate plugin)) = over_rows site (set_active engine.plugins site.rows plugin false)
+carried_out engine calls site (Some (asked.template name body)) = over_rows site (set_template site.rows name body)
+carried_out engine calls site (Some (asked.import file)) = over_rows site (import engine.plugins site.rows file)
+carried_out engine calls site (Some (asked.get path)) = over_rows site (got engine calls site.rows path)
+carried_out engine calls site (Some (asked.begin path)) = begun engine calls site path
+carried_out engine calls site (Some (asked.turns page count)) = turned site page count
+
+-- the site after a line, and the reply
+unfoldable pub step : Engine → ℕ → State → List ℕ → State × ReplyData
+step engine calls site line = carried_out engine calls site (line_command line)
+
+-- the place of the page that a command gives turns to
+abbrev pub place_given : Option Asked → Option ℕ
+place_given (Some (asked.turns page count)) = Some (page - 1)
+place_given _ = None
+
+-- the same, of a line
+abbrev pub place_turned : List ℕ → Option ℕ
+place_turned line = place_given (line_command line)
+
+-- whether a command may change rows
+abbrev pub is_edit : Option Asked → Bool
+is_edit None = false
+is_edit (Some (asked.get path)) = false
+is_edit (Some (asked.begin path)) = false
+is_edit (Some (asked.turns page count)) = false
+is_edit (Some _) = true
+
+-- Whether a refusal by the database may replace this reply to a command: to an edit as `may_be_late` says; to a command that
+-- only reads rows if there is a limit on the steps of a statement; never to `turns`, which runs no statement.
+abbrev pub may_be_late_at : Option Asked → Option ℕ → ReplyData → Bool
+may_be_late_at None limit reply = false
+may_be_late_at (Some (asked.get path)) limit reply = is_some limit && rests_on_rows reply
+may_be_late_at (Some (asked.begin path)) limit reply = is_some limit && rests_on_rows reply
+may_be_late_at (Some (asked.turns page count)) limit reply = false
+may_be_late_at (Some _) limit reply = may_be_late limit reply
+
+-- what is left if memory runs out: all is as it was, or the page that is given turns is closed and nothing else has
+-- changed
+abbrev pub IsLeftBy : Option ℕ → State → State → Type 0
+IsLeftBy place old new = (new ≡ old) ⊎ (new ≡ without_page place old)
+
+module _ (steps : State → List ℕ → State × ReplyData) where
+  -- The reply to a line, and the site after it: those of its step; or a refusal on allocation failure, after which only the
+  -- page that the line gives turns to may be closed; or a refusal by the database that leaves all as it was, in place of
+  -- the `ok` of an edit or, with a limit on the steps of a statement, of any reply that rests on the rows.
+  abbrev pub IsReply : State → List ℕ → ReplyData → State → Type 0
   IsReply old line reply new =
       ((new, reply) ≡ steps old line)
-      ⊎ (((reply ≡ refused OutOfMemory) × (new ≡ old))
-      ⊎ ((reply ≡ refused Store) × (new ≡ old) × (may_be_late old.step_limit (steps old line).1 ≡ true)))
+      ⊎ (((reply ≡ refused OutOfMemory) × IsLeftBy (place_turned line) old new)
+      ⊎ ((reply ≡ refused Store) × (new ≡ old) × (may_be_late_at (line_command line) old.rows.step_limit (steps old line).1 ≡ true)))
+
+-- memory and the database did not refuse the line that got this reply
+abbrev pub IsCarriedOut : ReplyData → Type 0
+IsCarriedOut reply = (reply ≢ refused OutOfMemory) × (reply ≢ refused Store)
 
 -- the steps of a site with this setup
-abbrev pub steps_of : {S : Type 0} → (ℕ → Call → Reply) → (S → ℕ) → Setup S → Rows → List ℕ → Rows × ReplyData
+abbrev pub steps_of : {S : Type 0} → (ℕ → Call → Reply) → (S → ℕ) → Setup S → State → List ℕ → State × ReplyData
 steps_of says number setup = step (engine_of says number setup) (calls_of setup)

@@ -5,16 +5,27 @@
 #![tactic(auto)]
 
 mod changes;
+mod history;
+mod laws;
 mod page;
 mod serve;
 mod settings;
 mod setup;
 mod shared;
 mod site;
+mod state;
 mod stored;
 mod templates;
 
 pub use ends::{EndFault, Reading, Sink, Source, Writing};
+pub use history::{
+    a_copy_agrees, history_goes_on_over_a_copy, history_rebuilds_the_site,
+    kept_lines_are_enough_ever, replies_are_written, sites_of_one_history_agree,
+};
+pub use laws::{
+    inactive_plugins_have_no_say, inactive_plugins_have_no_say_ever,
+    inactive_plugins_have_no_say_in_replies, open_pages_stay, site_pages_keep_to_their_bounds,
+};
 pub use site::Site;
 pub use site_edits::StoreFault;
 pub use site_replies::{Refusal, ServeFault, SiteReply};

@@ -1,18 +1,18 @@
-//! The pages of a site.
-ghost use Rattle.std.specs.Prelude.{◌≡◌, IfOk, IfErr};
+//! The pages of a site: those of requests, and those that are open.
+ghost use Rattle.std.specs.Prelude.{◌≡◌, ◌≢◌, IfOk, IfErr};
 ghost use Rattle.callback_store.specs.Shape.{shapes_of};
 ghost use Rattle.hook_machine.specs.World.{fresh, loaded};
 ghost use Rattle.hook_machine.specs.Outcomes.{engine_with};
 ghost use Rattle.hook_machine.specs.Runs.{world_of, IsReady};
 ghost use Rattle.hook_machine.specs.Runs as runs;
 ghost use Rattle.site_replies.specs.Reply.{reply_data};
-ghost use Rattle.template_parts.specs.Pages.{IsPage, IsRefusedBy};
 ghost use Rattle.site_edits.specs.Faults.{IsReadFault};
 ghost use Rattle.site_edits.specs.Carried.{CarriesOut};
-ghost use Rattle.site_program.specs.Requests.{request, page_pass, page_of};
+ghost use Rattle.site_program.specs.Requests.{page_of, requested, refusal_of};
 
 use crate::settings::settings_for;
 use crate::setup::Setup;
+use crate::state::SiteState;
 use crate::stored::Stored;
 use crate::templates::Templates;
 use callback_store::{Plugins, Stated};
@@ -21,15 +21,18 @@ use hook_changes::Text;
 use hook_machine::{Run, RunFault};
 use site_edits::StoreFault;
 use site_replies::{Refusal, SiteReply};
-use std::alloc::Global;
-use template_parts::{Page, SharedFound};
+use std::alloc::{AllocError, Global};
+use template_parts::{OpenPage, SharedFound, Turned};
 
 // The most bytes that a path may have.
 const MAX_PATH: usize = 8_192;
 
 impl<'p, S: Stated> Setup<'p, S> {
-    ghost use Rattle.site_program.specs.Site.{engine_of, calls_of};
-    ghost use Rattle.site_program.specs.Step.{got};
+    ghost use Rattle.std.specs.Prelude.{Some};
+    ghost use Rattle.site_commands.specs.Asked.{begin, turns};
+    ghost use Rattle.site_program.specs.Site.{engine_of, calls_of, opened_as, seen_by};
+    ghost use Rattle.site_program.specs.Step.{got, begun, turned};
+    ghost use Rattle.site_program.specs.Carried.{CarriesOn};
 
     /// Replies to a request with the page of a path, over the site as it now is.
     #[tactic(auto, unfolding(crate::specs::Step::got))]
@@ -45,17 +48,59 @@ impl<'p, S: Stated> Setup<'p, S> {
         if path.len() > MAX_PATH {
             return Ok(SiteReply::Refused(Refusal::TooLarge));
         }
-        self.page_at(stored, path, cache)
+        let page = self.page_at(stored, path)?;
+        self.finish(page, cache)
     }
 
-    /// Replies to a request with the page of a path that is not too long.
-    fn page_at(
+    /// Opens the page of a path, over the site as it now is, and runs nothing of it.
+    #[tactic(auto, unfolding(crate::specs::Step::begun))]
+    pub(crate) fn begin(&self, state: &mut SiteState, path: &str) -> Result<SiteReply, StoreFault>
+        ensures { CarriesOn (Some (begin path.now)) (seen_by S.says S.number self.now state.old)
+            (begun (engine_of S.says S.number self.now) (calls_of self.now)
+            (seen_by S.says S.number self.now state.old) path.now)
+            result (seen_by S.says S.number self.now state.new) }
+    {
+        if path.len() > MAX_PATH {
+            return Ok(SiteReply::Refused(Refusal::TooLarge));
+        }
+        let Some(place) = state.pages.free_place() else {
+            return Ok(SiteReply::Refused(Refusal::TooManyPages));
+        };
+        let page = self.page_at(&mut state.stored, path)?;
+        state.pages.put(place, page);
+        Ok(SiteReply::OkId(place as u32 + 1))
+    }
+
+    /// Gives the page of a number up to `count` turns. A page that is printed or refused is closed, and so is one at
+    /// which memory runs out.
+    #[tactic(auto, unfolding(crate::specs::Step::turned))]
+    pub(crate) fn turns(
         &self,
-        stored: &mut Stored,
-        path: &str,
-        cache: &mut PieceCache,
+        state: &mut SiteState,
+        number: u32,
+        count: u32,
     ) -> Result<SiteReply, StoreFault>
-        ensures ok { IfOk result (λ reply. reply_data reply ≡ request
+        ensures { CarriesOn (Some (turns number count)) (seen_by S.says S.number self.now state.old)
+            (turned (seen_by S.says S.number self.now state.old) number count)
+            result (seen_by S.says S.number self.now state.new) }
+    {
+        let place = number.saturating_sub(1) as usize;
+        let Some(page) = state.pages.take(place) else {
+            return Ok(SiteReply::Refused(Refusal::NoSuchPage));
+        };
+        match page.turns(self.plugins, count, &mut state.cache) {
+            Ok(Turned::Open(page)) => {
+                state.pages.put(place, page);
+                Ok(SiteReply::Ok)
+            }
+            Ok(Turned::Closed(status, body)) => Ok(SiteReply::Page { status, body }),
+            Err(fault) => refused_by(fault),
+        }
+    }
+
+    /// Opens the page of a path that is not too long.
+    fn page_at(&self, stored: &mut Stored, path: &str) -> Result<OpenPage, StoreFault>
+        ensures ok { IfOk result (λ page. opened_as (engine_of S.says S.number self.now) page ≡ requested
             (engine_of S.says S.number self.now) (calls_of self.now) stored.old path.now) }
         ensures same { stored.new ≡ stored.old }
         ensures stopped { IfErr result (IsReadFault stored.old.step_limit) }
@@ -64,61 +109,50 @@ impl<'p, S: Stated> Setup<'p, S> {
         let found = stored.found(self.alloc, path, options.as_slice())?;
         let active = stored.active()?;
         let mut templates = stored.take_templates(self.alloc)?;
-        let reply = self.page_reply(
-            found,
-            options.as_slice(),
-            &mut templates,
-            active.as_slice(),
-            cache,
-        );
+        let page = self.page(found, options.as_slice(), &mut templates, active.as_slice());
         stored.keep_templates(templates);
-        reply
+        Ok(page?)
     }
 
-    /// Replies to a request, given what its path found.
-    fn page_reply(
-        &self,
-        found: SharedFound,
-        options: &[(Text, Text)],
-        templates: &mut Templates,
-        active: &[Text],
-        cache: &mut PieceCache,
-    ) -> Result<SiteReply, StoreFault>
-        ensures ok { IfOk result (λ reply. reply_data reply ≡ page_of (engine_of S.says S.number self.now)
-            (calls_of self.now) found options.now templates.old active.now) }
-        ensures memory { IfErr result (λ fault. fault ≡ StoreFault.OutOfMemory) }
-        ensures same { templates.new ≡ templates.old }
-    {
-        match self.page(found, options, templates, active, cache) {
-            Ok((status, body)) => Ok(SiteReply::Page { status, body }),
-            Err(RunFault::TooManyCalls) => Ok(SiteReply::Refused(Refusal::TooManyCalls)),
-            Err(RunFault::TooDeep) => Ok(SiteReply::Refused(Refusal::TooDeep)),
-            Err(RunFault::OutOfMemory) => Err(StoreFault::OutOfMemory),
-        }
-    }
-
-    /// Makes the page of a request, given what its path found: its status and its bytes.
+    /// Opens the page of a request, given what its path found.
     fn page(
         &self,
         found: SharedFound,
         options: &[(Text, Text)],
         templates: &mut Templates,
         active: &[Text],
-        cache: &mut PieceCache,
-    ) -> Result<(u16, Vec<u8>), RunFault>
-        ensures status { IfOk result (λ page. page.0 ≡ found.status) }
-        ensures ok { IfOk result (λ page. IsPage (page_pass (engine_of S.says S.number self.now)
-            (calls_of self.now) found options.now templates.old active.now) page.1.items) }
-        ensures err { IfErr result (IsRefusedBy (page_pass (engine_of S.says S.number self.now)
-            (calls_of self.now) found options.now templates.old active.now)) }
+    ) -> Result<OpenPage, AllocError>
+        ensures ok { IfOk result (λ page. opened_as (engine_of S.says S.number self.now) page ≡ page_of
+            (engine_of S.says S.number self.now) (calls_of self.now) found options.now templates.old active.now) }
         ensures same { templates.new ≡ templates.old }
     {
+        let settings = settings_for(self.alloc, found.kind(), options, templates)?;
         let run = loaded_run(self.alloc, self.plugins, active, options, self.calls)?;
-        let Ok(settings) = settings_for(self.alloc, found.kind(), options, templates) else {
-            run.end();
-            return Err(RunFault::OutOfMemory);
-        };
-        Page::begin(self.alloc, found, settings, run).finish(cache)
+        Ok(OpenPage::begin(self.alloc, found, settings, run))
+    }
+
+    /// Prints a page to its end, and replies with it.
+    fn finish(&self, page: OpenPage, cache: &mut PieceCache) -> Result<SiteReply, StoreFault>
+        ensures ok { IfOk result (λ reply. reply_data reply
+            ≡ (opened_as (engine_of S.says S.number self.now) page).answer) }
+        ensures memory { IfErr result (λ fault. fault ≡ StoreFault.OutOfMemory) }
+    {
+        match page.finish(self.plugins, cache) {
+            Ok((status, body)) => Ok(SiteReply::Page { status, body }),
+            Err(fault) => refused_by(fault),
+        }
+    }
+}
+
+/// Replies with the refusal of a page, unless memory ran out.
+fn refused_by(fault: RunFault) -> Result<SiteReply, StoreFault>
+    ensures ok { IfOk result (λ reply. (reply_data reply ≡ refusal_of fault) × (fault ≢ RunFault.OutOfMemory)) }
+    ensures memory { IfErr result (λ why. why ≡ StoreFault.OutOfMemory) }
+{
+    match fault {
+        RunFault::TooManyCalls => Ok(SiteReply::Refused(Refusal::TooManyCalls)),
+        RunFault::TooDeep => Ok(SiteReply::Refused(Refusal::TooDeep)),
+        RunFault::OutOfMemory => Err(StoreFault::OutOfMemory),
     }
 }
 
@@ -129,20 +163,21 @@ fn loaded_run<'p, S: Stated>(
     active: &[Text],
     options: &[(Text, Text)],
     calls: u32,
-) -> Result<Run<'p, S>, RunFault>
+) -> Result<Run<'p, S>, AllocError>
     ensures loaded { IfOk result (λ run. world_of run ≡ loaded (shapes_of S.number plugins.entry.now)
         (fresh calls options.now active.now)) }
     ensures ready { IfOk result (λ run. IsReady run) }
     ensures engine { IfOk result (λ run. runs.engine_of S.says S.number run
         ≡ engine_with S.says (shapes_of S.number plugins.entry.now)) }
-    ensures err { IfErr result (λ fault. fault ≡ RunFault.OutOfMemory) }
 {
-    let mut run = Run::new(alloc, plugins, active, options, calls)?;
+    let Ok(mut run) = Run::new(alloc, plugins, active, options, calls) else {
+        return Err(AllocError);
+    };
     match run.load() {
         Ok(()) => Ok(run),
-        Err(fault) => {
+        Err(_) => {
             run.end();
-            Err(fault)
+            Err(AllocError)
         }
     }
 }

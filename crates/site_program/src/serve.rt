@@ -3,9 +3,8 @@ ghost use Rattle.std.specs.Prelude.{◌≡◌, ◌++◌, OnOk, IfErr};
 
 use crate::setup::Setup;
 use crate::site::Site;
-use crate::stored::Stored;
+use crate::state::SiteState;
 use callback_store::Stated;
-use content_cache::PieceCache;
 use ends::{Sink, Source};
 use memchr::memchr;
 use site_replies::ServeFault;
@@ -21,7 +20,7 @@ const CHUNK: usize = 65_536;
 
 impl<'p, S: Stated> Site<'p, S> {
     ghost use Rattle.std.specs.Prelude.{ℕ, List, Some, false, IfSome};
-    ghost use Rattle.site_program.specs.Site.{setup_of, rows_of};
+    ghost use Rattle.site_program.specs.Site.{setup_of, rows_of, state_of};
     ghost use Rattle.site_program.specs.Step.{steps_of};
     ghost use Rattle.site_program.specs.Lines.{lines_of};
     ghost use Rattle.site_program.specs.Serving.{is_read, is_write, IsReplies, ServesAll, Stops};
@@ -43,16 +42,16 @@ impl<'p, S: Stated> Site<'p, S> {
         ensures replied { OnOk result (IfSome (R.remaining reader.old) (λ input.
             IfSome (W.contents writer.old) (λ before. (out : List ℕ)
             × IsReplies (steps_of S.says S.number (setup_of self.old))
-            (rows_of self.old) (lines_of input) out (rows_of self.new)
+            (state_of S.says S.number self.old) (lines_of input) out (state_of S.says S.number self.new)
             × (W.contents writer.new ≡ Some (before ++ out))))) }
         ensures ok { OnOk result (ServesAll (steps_of S.says S.number (setup_of self.old))
-            (rows_of self.old) (R.remaining reader.old) (R.remaining reader.new)
-            (W.contents writer.old) (W.contents writer.new) (rows_of self.new)) }
+            (state_of S.says S.number self.old) (R.remaining reader.old) (R.remaining reader.new)
+            (W.contents writer.old) (W.contents writer.new) (state_of S.says S.number self.new)) }
 
         // What holds after each fault.
         ensures stopped { IfErr result (Stops (steps_of S.says S.number (setup_of self.old))
-            (rows_of self.old) (R.remaining reader.old) (R.remaining reader.new)
-            (W.contents writer.old) (W.contents writer.new) (rows_of self.new)) }
+            (state_of S.says S.number self.old) (R.remaining reader.old) (R.remaining reader.new)
+            (W.contents writer.old) (W.contents writer.new) (state_of S.says S.number self.new)) }
 
         // Two of them come only if an end failed.
         ensures read { R.has_failed reader.new ≡ is_read result }
@@ -62,11 +61,7 @@ impl<'p, S: Stated> Site<'p, S> {
         ensures limit { (rows_of self.new).step_limit ≡ (rows_of self.old).step_limit }
         ensures setup { setup_of self.new ≡ setup_of self.old }
     {
-        let Site {
-            setup,
-            stored,
-            cache,
-        } = self;
+        let Site { setup, state } = self;
         let mut chunk = [0u8; CHUNK];
         let mut held = Vec::new(setup.alloc);
         let mut left = MAX_LINES;
@@ -78,10 +73,10 @@ impl<'p, S: Stated> Site<'p, S> {
             if count == 0 {
                 break;
             }
-            setup.take_chunk(stored, &mut held, &mut left, &chunk[..count], writer, cache)?;
+            setup.take_chunk(state, &mut held, &mut left, &chunk[..count], writer)?;
         }
         if !held.is_empty() {
-            setup.reply_to(stored, &held, writer, cache)?;
+            setup.reply_to(state, &held, writer)?;
         }
         Ok(())
     }
@@ -91,6 +86,7 @@ impl<'p, S: Stated> Setup<'p, S> {
     ghost use Rattle.std.specs.Prelude.{◌⊎◌, ◌<◌, ◌≤◌, [], false, length, is_err, OnErr, IsErrOf};
     ghost use Rattle.std.specs.Io.KnownBytes.{Appends};
     ghost use Rattle.site_replies.specs.Reply.{ReplyData, bytes_of};
+    ghost use Rattle.site_program.specs.Site.{seen_by};
     ghost use Rattle.site_program.specs.Step.{IsReply, steps_of};
     ghost use Rattle.site_program.specs.Lines.{IsLine};
     ghost use Rattle.site_program.specs.Serving.{is_write, FailsAt};
@@ -100,33 +96,33 @@ impl<'p, S: Stated> Setup<'p, S> {
     // follows them.
     fn take_chunk<W: Sink>(
         &self,
-        stored: &mut Stored,
+        state: &mut SiteState,
         held: &mut Vec<u8>,
         left: &mut u32,
         chunk: &[u8],
         writer: &mut W,
-        cache: &mut PieceCache,
     ) -> Result<(), ServeFault>
         requires whole { W.has_failed writer.old ≡ false }
         requires line { IsLine held.old.items }
         requires room { 0 < length held.old.items → 0 < left.old }
         ensures ok { OnOk result (Takes (steps_of S.says S.number self.now)
-            stored.old left.old (held.old.items ++ chunk.now)
-            (W.contents writer.old) (W.contents writer.new) stored.new left.new held.new.items) }
+            (seen_by S.says S.number self.now state.old) left.old (held.old.items ++ chunk.now)
+            (W.contents writer.old) (W.contents writer.new)
+            (seen_by S.says S.number self.now state.new) left.new held.new.items) }
         ensures line { OnOk result (IsLine held.new.items) }
         ensures room { OnOk result (0 < length held.new.items → 0 < left.new) }
         ensures err { IfErr result (Faults (steps_of S.says S.number self.now)
-            stored.old left.old (held.old.items ++ chunk.now)
-            (W.contents writer.old) (W.contents writer.new) stored.new) }
+            (seen_by S.says S.number self.now state.old) left.old (held.old.items ++ chunk.now)
+            (W.contents writer.old) (W.contents writer.new) (seen_by S.says S.number self.now state.new)) }
         ensures failed { W.has_failed writer.new ≡ is_write result }
-        ensures limit { stored.new.step_limit ≡ stored.old.step_limit }
+        ensures limit { state.new.stored.step_limit ≡ state.old.stored.step_limit }
     {
         let mut rest = chunk;
         while let Some(end) = memchr(b'\n', rest) {
             if *left == 0 || end > MAX_LINE - held.len() {
                 return Err(ServeFault::TooMuchInput);
             }
-            self.finish_line(stored, held, &rest[..end], writer, cache)?;
+            self.finish_line(state, held, &rest[..end], writer)?;
             *left -= 1;
             rest = &rest[end + 1..];
         }
@@ -142,33 +138,34 @@ impl<'p, S: Stated> Setup<'p, S> {
     // Carries out the line that ends with this part, and then holds nothing.
     fn finish_line<W: Sink>(
         &self,
-        stored: &mut Stored,
+        state: &mut SiteState,
         held: &mut Vec<u8>,
         part: &[u8],
         writer: &mut W,
-        cache: &mut PieceCache,
     ) -> Result<(), ServeFault>
         requires whole { W.has_failed writer.old ≡ false }
         requires short { length (held.old.items ++ part.now) ≤ 1048576 }
         ensures ok { OnOk result ((reply : ReplyData)
             × IsReply (steps_of S.says S.number self.now)
-            stored.old (held.old.items ++ part.now) reply stored.new
+            (seen_by S.says S.number self.now state.old) (held.old.items ++ part.now) reply
+            (seen_by S.says S.number self.now state.new)
             × Appends (W.contents writer.old) (W.contents writer.new) (bytes_of reply)) }
         ensures empty { OnOk result (held.new.items ≡ []) }
         ensures write { IsErrOf result ServeFault.Write → FailsAt (steps_of S.says S.number self.now)
-            stored.old (held.old.items ++ part.now)
-            (W.contents writer.old) (W.contents writer.new) stored.new }
+            (seen_by S.says S.number self.now state.old) (held.old.items ++ part.now)
+            (W.contents writer.old) (W.contents writer.new) (seen_by S.says S.number self.now state.new) }
         ensures memory { IsErrOf result ServeFault.OutOfMemory
-            → (stored.new ≡ stored.old) × (W.contents writer.new ≡ W.contents writer.old) }
+            → (seen_by S.says S.number self.now state.new ≡ seen_by S.says S.number self.now state.old)
+            × (W.contents writer.new ≡ W.contents writer.old) }
         ensures only { IfErr result (λ e. (e ≡ ServeFault.Write) ⊎ (e ≡ ServeFault.OutOfMemory)) }
         ensures failed { W.has_failed writer.new ≡ is_write result }
-        ensures limit { stored.new.step_limit ≡ stored.old.step_limit }
+        ensures limit { state.new.stored.step_limit ≡ state.old.stored.step_limit }
     {
         if held.is_empty() {
-            return self.reply_to(stored, part, writer, cache);
+            return self.reply_to(state, part, writer);
         }
         hold(held, part)?;
-        self.reply_to(stored, held, writer, cache)?;
+        self.reply_to(state, held, writer)?;
         held.clear();
         Ok(())
     }
@@ -176,22 +173,23 @@ impl<'p, S: Stated> Setup<'p, S> {
     // Carries out one line, and writes its reply.
     fn reply_to<W: Sink>(
         &self,
-        stored: &mut Stored,
+        state: &mut SiteState,
         line: &[u8],
         writer: &mut W,
-        cache: &mut PieceCache,
     ) -> Result<(), ServeFault>
         requires { W.has_failed writer.old ≡ false }
         ensures ok { OnOk result ((reply : ReplyData)
-            × IsReply (steps_of S.says S.number self.now) stored.old line.now reply stored.new
+            × IsReply (steps_of S.says S.number self.now) (seen_by S.says S.number self.now state.old)
+            line.now reply (seen_by S.says S.number self.now state.new)
             × Appends (W.contents writer.old) (W.contents writer.new) (bytes_of reply)) }
         ensures err { OnErr result (FailsAt (steps_of S.says S.number self.now)
-            stored.old line.now (W.contents writer.old) (W.contents writer.new) stored.new) }
+            (seen_by S.says S.number self.now state.old) line.now
+            (W.contents writer.old) (W.contents writer.new) (seen_by S.says S.number self.now state.new)) }
         ensures fault { IfErr result (λ e. e ≡ ServeFault.Write) }
         ensures failed { W.has_failed writer.new ≡ is_err result }
-        ensures limit { stored.new.step_limit ≡ stored.old.step_limit }
+        ensures limit { state.new.stored.step_limit ≡ state.old.stored.step_limit }
     {
-        let reply = self.command(stored, line, cache);
+        let reply = self.command(state, line);
         reply.write_to(writer)
     }
 }

@@ -1,10 +1,10 @@
 //! A site, and what it does at one line.
-ghost use Rattle.std.specs.Prelude.{◌≡◌, ◌≤◌, IfOk, IfErr};
-ghost use Rattle.post_tables.specs.Rows.{no_rows};
+ghost use Rattle.std.specs.Prelude.{◌≡◌, ◌≤◌, IfOk};
 ghost use Rattle.site_commands.specs.Asked.{asked_by};
 ghost use Rattle.site_replies.specs.Reply.{reply_data};
 
 use crate::setup::Setup;
+use crate::state::SiteState;
 use crate::stored::Stored;
 use callback_store::{Plugins, Stated};
 use content_cache::PieceCache;
@@ -13,28 +13,29 @@ use site_commands::{Command, read_command, read_line};
 use site_edits::StoreFault;
 use site_replies::{Refusal, SiteReply};
 use std::alloc::Global;
+use template_parts::OpenPages;
 
 /// A site with its plugins: it carries out lines of JSON, each a command, and replies to each.
 ///
-/// It borrows the plugins. Contracts see its stored rows and its setup, which no command changes.
+/// It borrows the plugins. Contracts see its stored rows, its open pages, and its setup, which no command changes.
 #[derive(Drop)]
 pub struct Site<'p, S> {
     pub(crate) setup: Setup<'p, S>,
-    pub(crate) stored: Stored,
-    /// The pieces of the texts whose shortcodes its pages replaced last. No contract speaks of it.
-    pub(crate) cache: PieceCache,
+    pub(crate) state: SiteState,
 }
 
 impl<'p, S: Stated> Site<'p, S> {
-    ghost use Rattle.std.specs.Prelude.{Some};
+    ghost use Rattle.std.specs.Prelude.{◌≢◌, ℕ, Some};
     ghost use Rattle.callback_store.specs.Shape.{shapes_of};
     ghost use Rattle.site_replies.specs.declared.reply.Refusal.{Refusal};
     ghost use Rattle.site_replies.specs.Reply.{refused};
-    ghost use Rattle.site_program.specs.Site.{engine_of, calls_of, setup_of, rows_of};
-    ghost use Rattle.site_program.specs.Step.{IsReply, steps_of};
+    ghost use Rattle.site_program.specs.Requests.{Opened};
+    ghost use Rattle.site_program.specs.Site.{engine_of, calls_of, setup_of, rows_of, state_of};
+    ghost use Rattle.site_program.specs.State.{empty_site, page_in};
+    ghost use Rattle.site_program.specs.Step.{IsReply, steps_of, place_turned};
 
-    /// Makes an empty site: nothing is stored and no plugin is active. Each page may make up to `calls` calls of its
-    /// callbacks, and the pieces of up to `cache` texts are kept for later pages.
+    /// Makes an empty site: nothing is stored, no plugin is active and no page is open. Each page may make up to
+    /// `calls` calls of its callbacks, and the pieces of up to `cache` texts are kept for later pages.
     pub fn new(
         alloc: Global,
         plugins: &'p Plugins<S>,
@@ -43,11 +44,12 @@ impl<'p, S: Stated> Site<'p, S> {
     ) -> Result<Self, StoreFault>
         requires calls { (1 ≤ calls) × (calls ≤ 100000) }
         requires cache { (1 ≤ cache) × (cache ≤ 4096) }
-        ensures rows { IfOk result (λ site. rows_of site ≡ no_rows) }
+        ensures empty { IfOk result (λ site. state_of S.says S.number site ≡ empty_site) }
         ensures engine { IfOk result (λ site. engine_of S.says S.number (setup_of site)
             ≡ record { says = S.says; plugins = shapes_of S.number plugins.entry.now }) }
         ensures calls { IfOk result (λ site. calls_of (setup_of site) ≡ calls) }
     {
+        let pages = OpenPages::new(alloc)?;
         let cache = PieceCache::new(alloc, cache as usize)?;
         let tables = Tables::open_in_memory(alloc)?;
         let setup = Setup {
@@ -55,36 +57,43 @@ impl<'p, S: Stated> Site<'p, S> {
             calls,
             alloc,
         };
-        Ok(Site {
-            setup,
+        let state = SiteState {
             stored: Stored::new(alloc, tables),
+            pages,
             cache,
-        })
+        };
+        Ok(Site { setup, state })
     }
 
     /// Limits how many rows each later statement on the site's tables may visit; with `None` there is no limit, as at
     /// first. A command whose statement would visit more is refused as `Store` and leaves every row as it was.
     pub fn limit_steps(&mut self, limit: Option<u32>)
-        ensures rows { rows_of self.new ≡ record (rows_of self.old) { step_limit = limit } }
+        ensures rows { state_of S.says S.number self.new ≡ record (state_of S.says S.number self.old)
+            { rows = record (rows_of self.old) { step_limit = limit } } }
         ensures setup { setup_of self.new ≡ setup_of self.old }
     {
-        self.stored.limit_steps(limit);
+        self.state.stored.limit_steps(limit);
     }
 
-    /// Carries out one line, given without its newline. A line that isn't a command is refused as such, and a refused
-    /// command leaves the rows as they were.
+    /// Carries out one line, given without its newline. A line that isn't a command is refused as such. A refused
+    /// command leaves the rows and the open pages as they were, but for the page that `turns` names: that one is closed
+    /// if it is refused, or if memory runs out.
     ///
     /// Any command may be refused on allocation failure. The database may refuse any that would change rows and, if the
     /// steps of a statement are limited, any that needs a statement.
     pub fn command(&mut self, line: &[u8]) -> SiteReply
-        ensures replies { IsReply (steps_of S.says S.number (setup_of self.old))
-            (rows_of self.old) line.now (reply_data result) (rows_of self.new) }
+        ensures replies { IsReply (steps_of S.says S.number (setup_of self.old)) (state_of S.says S.number self.old)
+            line.now (reply_data result) (state_of S.says S.number self.new) }
         ensures refused { (r : Refusal) → reply_data result ≡ refused r
             → rows_of self.new ≡ rows_of self.old }
+        ensures pages { (place : ℕ) (page : Opened)
+            → page_in place (state_of S.says S.number self.old).pages ≡ Some page
+            → place_turned line.now ≢ Some place
+            → page_in place (state_of S.says S.number self.new).pages ≡ Some page }
         ensures limit { (rows_of self.new).step_limit ≡ (rows_of self.old).step_limit }
         ensures setup { setup_of self.new ≡ setup_of self.old }
     {
-        self.setup.command(&mut self.stored, line, &mut self.cache)
+        self.setup.command(&mut self.state, line)
     }
 }
 
@@ -92,57 +101,55 @@ impl<'p, S: Stated> Setup<'p, S> {
     ghost use Rattle.std.specs.Prelude.{Some};
     ghost use Rattle.site_replies.specs.declared.reply.Refusal.{Refusal};
     ghost use Rattle.site_replies.specs.Reply.{refused};
-    ghost use Rattle.site_program.specs.Site.{engine_of, calls_of};
-    ghost use Rattle.site_edits.specs.Carried.{CarriesOut};
+    ghost use Rattle.site_program.specs.Site.{engine_of, calls_of, seen_by};
     ghost use Rattle.site_program.specs.Step.{IsReply, steps_of, carried_out};
+    ghost use Rattle.site_program.specs.Carried.{CarriesOn};
+    ghost use Rattle.site_commands.specs.Worked.{line_command};
 
-    /// Carries out one line over what is stored.
-    pub(crate) fn command(
-        &self,
-        stored: &mut Stored,
-        line: &[u8],
-        cache: &mut PieceCache,
-    ) -> SiteReply
-        ensures replies { IsReply (steps_of S.says S.number self.now)
-            stored.old line.now (reply_data result) stored.new }
-        ensures refused { (r : Refusal) → reply_data result ≡ refused r → stored.new ≡ stored.old }
-        ensures limit { stored.new.step_limit ≡ stored.old.step_limit }
+    /// Carries out one line over a site's state.
+    #[tactic(auto, using(crate::proofs::Carrying::left_rows, crate::proofs::Carrying::left_limit))]
+    pub(crate) fn command(&self, state: &mut SiteState, line: &[u8]) -> SiteReply
+        ensures replies { IsReply (steps_of S.says S.number self.now) (seen_by S.says S.number self.now state.old)
+            line.now (reply_data result) (seen_by S.says S.number self.now state.new) }
+        ensures refused { (r : Refusal) → reply_data result ≡ refused r → state.new.stored ≡ state.old.stored }
+        ensures limit { state.new.stored.step_limit ≡ state.old.stored.step_limit }
     {
-        match self.try_command(stored, line, cache) {
+        match self.try_command(state, line) {
             Ok(reply) => reply,
             Err(StoreFault::OutOfMemory) => SiteReply::Refused(Refusal::OutOfMemory),
             Err(StoreFault::Store) => SiteReply::Refused(Refusal::Store),
         }
     }
 
+    /// Carries out one line, unless an allocation fails or the database refuses.
     #[tactic(auto, unfolding(crate::specs::Step::step))]
-    fn try_command(
-        &self,
-        stored: &mut Stored,
-        line: &[u8],
-        cache: &mut PieceCache,
-    ) -> Result<SiteReply, StoreFault>
-        ensures { CarriesOut stored.old (steps_of S.says S.number self.now stored.old line.now) result stored.new }
+    fn try_command(&self, state: &mut SiteState, line: &[u8]) -> Result<SiteReply, StoreFault>
+        ensures { CarriesOn (line_command line.now) (seen_by S.says S.number self.now state.old)
+            (steps_of S.says S.number self.now (seen_by S.says S.number self.now state.old) line.now)
+            result (seen_by S.says S.number self.now state.new) }
     {
         let Some(tree) = read_line(self.alloc, line)? else {
             return Ok(SiteReply::Refused(Refusal::BadCommand));
         };
         match read_command(&tree) {
-            Some(command) => self.carry_out(stored, command, cache),
+            Some(command) => self.carry_out(state, command),
             None => Ok(SiteReply::Refused(Refusal::BadCommand)),
         }
     }
 
     /// Carries out a command.
+    #[tactic(auto, using(crate::proofs::Carrying::lifted))]
     fn carry_out(
         &self,
-        stored: &mut Stored,
+        state: &mut SiteState,
         command: Command<'_>,
-        cache: &mut PieceCache,
     ) -> Result<SiteReply, StoreFault>
-        ensures { CarriesOut stored.old (carried_out (engine_of S.says S.number self.now) (calls_of self.now)
-            stored.old (Some (asked_by command.entry))) result stored.new }
+        ensures { CarriesOn (Some (asked_by command.entry)) (seen_by S.says S.number self.now state.old)
+            (carried_out (engine_of S.says S.number self.now) (calls_of self.now)
+            (seen_by S.says S.number self.now state.old) (Some (asked_by command.entry)))
+            result (seen_by S.says S.number self.now state.new) }
     {
+        let stored = &mut state.stored;
         match command {
             Command::Put {
                 kind,
@@ -164,7 +171,9 @@ impl<'p, S: Stated> Setup<'p, S> {
             Command::Deactivate { plugin } => stored.set_active(self.plugins, plugin, false),
             Command::Template { name, body } => stored.set_template(self.alloc, name, body),
             Command::Import { site } => stored.import(self.alloc, self.plugins, site),
-            Command::Get { path } => self.get(stored, path, cache),
+            Command::Get { path } => self.get(stored, path, &mut state.cache),
+            Command::Begin { path } => self.begin(state, path),
+            Command::Turns { page, count } => self.turns(state, page, count),
         }
     }
 }

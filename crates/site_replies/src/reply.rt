@@ -98,7 +98,7 @@ impl Refusal {
 pub enum SiteReply {
     /// The command was carried out.
     Ok,
-    /// The command was carried out, and this is the new post's ID.
+    /// The command was carried out. This is the ID of the new post, or the number of the page that was opened, 1 to 8.
     OkId(u32),
     /// The command was refused.
     Refused(Refusal),

@@ -7,5 +7,6 @@ mod values;
 
 pub use limits::{MAX_CONTENT, MAX_TITLE, MAX_VALUE};
 pub use values::{
-    id_at, kind_named, option_named, status_given, status_named, text_at, text_given, text_or,
+    id_at, kind_named, number_at, option_named, status_given, status_named, text_at, text_given,
+    text_or,
 };

@@ -1,10 +1,10 @@
 -- A page as contracts see it: what was found, the site's settings, and what it has still to do.
-use Rattle.std.specs.Prelude.{◌≡◌, ℕ, List, Option, None, Some, Result, Ok, Err, ⊤}
+use Rattle.std.specs.Prelude.{◌≡◌, ◌≢◌, ℕ, ◌+◌, ◌<◌, length, Option, None, Result, Ok, Err, ⊤}
 use Rattle.hook_machine.specs.World.{Text, World}
 use Rattle.hook_machine.specs.declared.run.Run.{Run}
 use Rattle.hook_machine.specs.declared.fault.RunFault.{RunFault}
 use Rattle.hook_machine.specs.declared.fault.RunFault.TheVariants.{TooManyCalls, TooDeep, OutOfMemory}
-use Rattle.hook_machine.specs.Trace.{Done, Refused, Turn}
+use Rattle.hook_machine.specs.Trace.{Done, Refused, Turn, Fault, outcome_of, turns_of}
 use Rattle.hook_machine.specs.Meaning.{Engine}
 use Rattle.hook_machine.specs.Runs.{world_of, fault_of, left_of, IsIdle}
 use Rattle.site_records.specs.declared.found.Found.{Found}
@@ -12,7 +12,7 @@ use Rattle.template_parts.specs.declared.settings.Settings.{Settings}
 use Rattle.template_parts.specs.declared.page.Page.{Page}
 use Rattle.template_parts.specs.declared.page.PageTurn.{PageTurn}
 use Rattle.template_parts.specs.declared.page.PageTurn.TheVariants as turn
-use Rattle.template_parts.specs.Pages.{Work}
+use Rattle.template_parts.specs.Pages.{Work, IsPage}
 use Rattle.template_parts.specs.Left.{left_at, hand_in}
 
 module _ {S : Type 0} where
@@ -54,6 +54,22 @@ Turns left (Ok (turn.Done status bytes)) world now = IsDone left bytes.items
 Turns left (Err TooManyCalls) world now = left ≡ Refused TooManyCalls
 Turns left (Err TooDeep) world now = left ≡ Refused TooDeep
 Turns left (Err OutOfMemory) world now = ⊤
+
+-- what is left after `count` turns: the page still ends as it did, and has `count` invocations less to make
+pub record IsAfter (count : ℕ) (left now : Work) : Type 0 where
+  pub ends : outcome_of left ≡ outcome_of now
+  pub turns : length (turns_of left) ≡ count + length (turns_of now)
+
+-- the page ended at one of `count` turns
+abbrev pub EndsWithin : ℕ → Work → Type 0
+EndsWithin count left = length (turns_of left) < count
+
+-- what came of `count` turns: all were made, and this is left of the page now; or it was printed at one of them; or, if
+-- memory didn't run out, it was refused at one of them
+abbrev pub TurnsBy : ℕ → Work → Result PageTurn RunFault → Work → Type 0
+TurnsBy count left (Ok turn.More) now = IsAfter count left now
+TurnsBy count left (Ok (turn.Done status bytes)) now = EndsWithin count left × IsPage left bytes.items
+TurnsBy count left (Err fault) now = fault ≢ OutOfMemory → EndsWithin count left × (outcome_of left ≡ Fault fault)
 
 abbrev pub HasStatus : ℕ → PageTurn → Type 0
 HasStatus status turn.More = ⊤

@@ -9,9 +9,10 @@ ghost use Rattle.template_parts.specs.Left.{ahead_of, left_at, hand_in};
 
 use crate::found::SharedFound;
 use crate::moves::{Ahead, Stop, next_stop};
+use crate::open_page::OpenPage;
 use crate::settings::Settings;
 use crate::steps::steps_of_page;
-use callback_store::Stated;
+use callback_store::{Plugins, Stated};
 use content_cache::PieceCache;
 use hook_machine::{Run, RunFault};
 use site_records::Post;
@@ -62,7 +63,9 @@ fn ahead_from(
 
 impl<'p, S: Stated> Page<'p, S> {
     ghost use Rattle.template_parts.specs.Page.{found_in, settings_in, run_in, refusal_of, page_left};
-    ghost use Rattle.template_parts.specs.Page.{CanGoOn, IsSamePage, HasStatus, Turns};
+    ghost use Rattle.template_parts.specs.Page.{CanGoOn, IsSamePage, HasStatus, Turns, TurnsBy};
+    ghost use Rattle.template_parts.specs.Open.{open_left, status_of};
+    ghost use Rattle.hook_machine.specs.Outcomes.{engine_over};
 
     /// Makes a page over what was found. The run has loaded its plugins and done nothing else; this runs nothing.
     pub fn begin(alloc: Global, found: SharedFound, settings: Settings, run: Run<'p, S>) -> Self
@@ -109,6 +112,76 @@ impl<'p, S: Stated> Page<'p, S> {
                 self.fault = Some(fault);
                 Err(fault)
             }
+        }
+    }
+
+    /// Makes `count` turns, or as many as it takes until the page is printed.
+    pub(crate) fn turns(&mut self, count: u32, cache: &mut PieceCache) -> Result<PageTurn, RunFault>
+        requires ready { CanGoOn self.old }
+        requires sound { refusal_of self.old ≡ None }
+        ensures turns { TurnsBy count (page_left (engine_of S.says S.number (run_in self.old)) self.old) result
+            (page_left (engine_of S.says S.number (run_in self.old)) self.new) }
+        ensures status { IfOk result (HasStatus (found_in self.old).status) }
+        ensures ready { CanGoOn self.new }
+        ensures same { IsSamePage self.new self.old }
+        ensures sound { OnOk result (refusal_of self.new ≡ None) }
+    {
+        let mut made = 0;
+        'turns: while made < count {
+            if let PageTurn::Done(status, bytes) = self.turn(cache)? {
+                return Ok(PageTurn::Done(status, bytes));
+            }
+            made += 1;
+        }
+        Ok(PageTurn::More)
+    }
+
+    /// Puts the page aside, with all that it owns. Does not allocate.
+    pub fn pause(self) -> OpenPage
+        requires ready { CanGoOn self }
+        requires sound { refusal_of self ≡ None }
+        ensures left { (engine : Engine) → open_left engine result ≡ page_left engine self.entry }
+        ensures status { status_of result ≡ (found_in self.entry).status }
+    {
+        let Page {
+            alloc,
+            found,
+            settings,
+            run,
+            ahead,
+            fault: _,
+        } = self;
+        OpenPage {
+            alloc,
+            found,
+            settings,
+            run: run.pause(),
+            ahead,
+        }
+    }
+
+    /// Goes on with a page, over the plugins that it was begun with. Does not allocate.
+    pub fn resume(page: OpenPage, plugins: &'p Plugins<S>) -> Self
+        ensures left { (engine : Engine) → page_left engine result ≡ open_left engine page }
+        ensures status { (found_in result).status ≡ status_of page }
+        ensures engine { engine_of S.says S.number (run_in result) ≡ engine_over S.says S.number plugins.entry.now }
+        ensures ready { CanGoOn result }
+        ensures sound { refusal_of result ≡ None }
+    {
+        let OpenPage {
+            alloc,
+            found,
+            settings,
+            run,
+            ahead,
+        } = page;
+        Page {
+            alloc,
+            found,
+            settings,
+            run: run.resume(plugins),
+            ahead,
+            fault: None,
         }
     }
 
@@ -183,7 +256,7 @@ impl<'p, S: Stated> Page<'p, S> {
     }
 
     /// Ends the page. All that a page owns is dropped here, so that what dropping does is proved once.
-    fn end(self) {
+    pub(crate) fn end(self) {
         drop(self);
     }
 }

@@ -1,5 +1,5 @@
 -- The bundle and the site of the worked pages.
-use Rattle.std.specs.Prelude.{◌≡◌, List, [], ◌∷◌, codes}
+use Rattle.std.specs.Prelude.{◌≡◌, ℕ, List, [], ◌∷◌, codes}
 use Rattle.site_records.specs.declared.post.Post.{Post}
 use Rattle.site_records.specs.declared.post.PostKind.TheVariants as kind
 use Rattle.site_records.specs.declared.post.PostStatus.TheVariants as status
@@ -7,7 +7,8 @@ use Rattle.post_tables.specs.Rows.{Rows}
 use Rattle.hook_machine.specs.Meaning.{Engine}
 use Rattle.bundled_plugins.specs.Replies.{says}
 use Rattle.bundled_plugins.specs.Bundle.{bundle}
-use Rattle.site_program.specs.Requests.{options_of, templates_of, active_of}
+use Rattle.site_replies.specs.Reply.{page}
+use Rattle.site_program.specs.Requests.{Opened, options_of, templates_of, active_of}
 
 -- the bundled plugins, as pages take them
 abbrev pub bundled : Engine
@@ -22,3 +23,7 @@ pub record IsMarked (rows : Rows) : Type 0 where
   pub options : options_of rows ≡ []
   pub templates : templates_of rows ≡ []
   pub active : active_of rows ≡ codes "marks" ∷ []
+
+-- the page of that site, open, with `left` turns to go
+abbrev pub marked_turns : ℕ → Opened
+marked_turns left = record { answer = page 200 (codes "<h2>TX1Y</h2>"); left = left }

@@ -1,9 +1,7 @@
 use Rattle.std.proofs.Common.{rules, ◌≡◌}
-use Rattle.std.proofs.lemmas.Result.{IfOk-weaker}
-use Rattle.site_replies.specs.Reply.{reply_data}
-use Rattle.site_program.specs.Requests.{page_of, request, options_of, templates_of, active_of, found_by}
-use Rattle.site_program.specs.Site.{engine_of, calls_of}
-use Rattle.site_program.proofs.Pages.{request-is}
+use Rattle.site_program.specs.Requests.{options_of, templates_of, active_of, found_by}
+use Rattle.site_program.specs.Site.{engine_of, calls_of, opened_as}
+use Rattle.site_program.proofs.Pages.{requested-is}
 use Rattle.site_program.proofs.setup.Setup.page_at.Goals as goal
 
 pub returns-clause-ok : goal.returns-clause-ok
@@ -15,10 +13,5 @@ returns-clause-ok g c =
     let t : c.in_ok-templates.templates ≡ templates_of rows = search rules in
     let a : c.as_slice-3.result.now ≡ active_of rows = search rules in
     let f : c.in_ok-found.found ≡ found_by rows c.args.path.now = search rules in
-    IfOk-weaker c.page_reply-reply.result
-    (λ reply. reply_data reply ≡ page_of engine calls c.in_ok-found.found c.as_slice-2.result.now c.in_ok-templates.templates
-    c.as_slice-3.result.now)
-    (λ reply. reply_data reply ≡ request engine calls rows c.args.path.now)
-    (λ reply is. request-is engine calls rows c.args.path.now (reply_data reply) c.in_ok-found.found c.as_slice-2.result.now c.in_ok-templates.templates
-    c.as_slice-3.result.now f o t a is)
-    c.page_reply-reply.ensures.ok
+    requested-is engine calls rows c.args.path.now (opened_as engine c.in_ok-page.field-0) c.in_ok-found.found c.as_slice-2.result.now c.in_ok-templates.templates
+    c.as_slice-3.result.now f o t a c.in_ok-page.ensures.ok
