@@ -4,7 +4,7 @@ import subprocess
 import sys
 from pathlib import Path
 
-from lines import PLUGINS
+from lines import BY_TURNS, PLUGINS
 from sites import Stored, bared, line_of
 from values import Unreadable, command_of, read, rewritten
 
@@ -24,9 +24,10 @@ REPLIES = {
     "deactivate": (b"ok\n", {1, 6}),
     "template": (b"ok\n", {1, 7, 8}),
     "get": (b"page ", {1, 8, 9, 10}),
+    "begin": (b"ok ", {1, 8, 15}),
+    "turns": ((b"ok\n", b"page "), {1, 9, 10, 14}),
 }
-# Served by some versions of the program, and in no list made here.
-LATER = ("begin", "turns")
+OK = b"ok\n"
 
 
 def check_form(line, reply):
@@ -39,7 +40,7 @@ def check_form(line, reply):
     kind = command_of(line).get("cmd")
     done, refusals = REPLIES.get(kind, (None, {1})) if isinstance(kind, str) else (None, {1})
     number = refusal_of(reply)
-    if kind not in LATER and not (number in refusals if number else done and reply.startswith(done)):
+    if not (number in refusals if number else done and reply.startswith(done)):
         raise Wrong(f"{shown(line)} has the reply {shown(reply)}")
 
 
@@ -72,6 +73,16 @@ def same(lines, replies, others, what):
             raise Wrong(f"the reply to {shown(line)} is {shown(reply)}, but {what} {shown(other)}")
 
 
+def is_by_turns(line):
+    return command_of(line).get("cmd") in BY_TURNS
+
+
+def at_once(lines, replies):
+    """The lines that neither begin a page nor give turns, and their replies."""
+    kept = [pair for pair in zip(lines, replies, strict=True) if not is_by_turns(pair[0])]
+    return [line for line, _ in kept], [reply for _, reply in kept]
+
+
 def left_out(program, lines, replies, is_left_out, what):
     """Without some of the lines, the replies to the others are the same."""
     kept = [pair for pair in zip(lines, replies) if not is_left_out(*pair)]
@@ -92,19 +103,24 @@ def forms(program, lines, replies):
 
 
 def halves(program, lines, replies):
-    """The first half alone has the same replies, and so has the second after an import of what the first leaves."""
+    """The first half alone has the same replies, and so has the second after an import of what the first leaves.
+
+    An import brings no open pages, so what pages by turns have in the second half isn't compared.
+    """
     half = len(lines) // 2
     same(lines[:half], replies[:half], program.replies(lines[:half]), "without what follows")
     begun = Stored().after(lines[:half], replies[:half]).lines()
-    again = program.replies(begun + lines[half:])
-    same(begun, again[: len(begun)], [b"ok\n"] * len(begun), "it imports what was stored, so wanted is")
-    same(lines[half:], replies[half:], again[len(begun) :], "after an import of the site")
+    second, wanted = at_once(lines[half:], replies[half:])
+    again = program.replies(begun + second)
+    same(begun, again[: len(begun)], [OK] * len(begun), "it imports what was stored, so wanted is")
+    same(second, wanted, again[len(begun) :], "after an import of the site")
 
 
 def refused(program, lines, replies):
-    """A refused line has no effect. A refused `turns` closes its page."""
+    """A refused line has no effect, but that a page by turns which is refused is closed."""
     def is_left_out(line, reply):
-        return refusal_of(reply) and command_of(line).get("cmd") != "turns"
+        closes = command_of(line).get("cmd") == "turns" and refusal_of(reply) in (9, 10)
+        return refusal_of(reply) and not closes
     left_out(program, lines, replies, is_left_out, "without the refused lines")
 
 
@@ -123,6 +139,7 @@ def caches(program, lines, replies):
 
 def calls(program, lines, replies):
     """With fewer calls a page is the same or has too few of them."""
+    lines, replies = at_once(lines, replies)
     for fewer in (CALLS // 50, 1):
         less = program.replies(lines, calls=fewer)
         kept = [other if refusal_of(other) == 9 else reply for reply, other in zip(replies, less)]

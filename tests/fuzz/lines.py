@@ -27,8 +27,10 @@ NO_TREES = (None, 5, [[]], [{"tag": "nope"}], [{"loop": [{"loop": []}]}], [{"tag
 # How often each command is made.
 KINDS = {
     **{"put": 18, "edit": 12, "delete": 4, "option": 8, "activate": 10, "deactivate": 5},
-    **{"template": 12, "get": 25, "import": 5},
+    **{"template": 12, "get": 25, "import": 5, "begin": 14, "turns": 24},
 }
+# Page requests by turns.
+BY_TURNS = ("begin", "turns")
 # Values of another kind, or of another range, than a key has.
 ODD_VALUES = (
     *(None, True, 0, 1, -1, 1.5, 2**31 - 1, 2**31, 10**30, "", "1", "x", "publish", "page", [], {}, ["x"], {"x": 1}),
@@ -42,11 +44,14 @@ ODD_BYTES = (
 
 
 class Lines:
-    """Lines made by a random generator. They speak of the IDs that the puts before them would be given."""
+    """Lines made by a random generator. They speak of the IDs that the puts before them would be given, and of
+    numbers that open pages may have.
+    """
 
     def __init__(self, random):
         self.random = random
         self.ids = 0
+        self.open = set()
 
     def chance(self, one_in):
         return self.random.randrange(one_in) == 0
@@ -171,13 +176,24 @@ class Lines:
         kept = {key: value for key, value in sections.items() if not self.chance(3)}
         return {"version": self.random.choice((1, 1, 1, 1, 2, 3)), **kept}
 
+    def begin(self):
+        self.open.add(next((it for it in range(1, 9) if it not in self.open), 1))
+        return {"cmd": "begin", "path": "/" if self.chance(2) else self.path()}
+
+    def turns(self):
+        """Most often a few turns of a page that may be open. About every second time they end it."""
+        page = self.random.choice(sorted(self.open) if self.open and not self.chance(15) else (0, 1, 2, 3, 5, 8, 9))
+        count = self.random.choice((0, 1_000_001) if self.chance(60) else (1, 1, 1, 1, 2, 2, 3, 5, 20, 1_000_000))
+        if self.chance(2):
+            self.open.discard(page)
+        return {"cmd": "turns", "page": page, "count": count}
+
     def command(self):
         """A command, most often one that is done."""
         kind = self.random.choices(tuple(KINDS), tuple(KINDS.values()))[0]
-        if kind == "put":
-            return self.put()
-        if kind == "edit":
-            return self.edit()
+        whole = {"put": self.put, "edit": self.edit, "begin": self.begin, "turns": self.turns}
+        if kind in whole:
+            return whole[kind]()
         keys = {
             "delete": lambda: {"id": self.id()},
             "option": lambda: dict(zip(("name", "value"), self.option())),
@@ -232,7 +248,10 @@ class Lines:
         return (self.bent(line) if self.chance(12) else line).replace(b"\n", b" ")
 
     def list(self):
-        """A list of lines, over a site that has some plugins and posts from its beginning."""
+        """A list of lines, over a site that has some plugins and posts from its beginning; in some many pages begin."""
         active = self.random.sample(PLUGINS, self.random.randint(0, 6))
         begun = [{"cmd": "activate", "plugin": plugin} for plugin in active] + self.many(3, self.put)
-        return [self.written(command) for command in begun] + [self.line() for _ in range(self.random.randint(10, 120))]
+        lines = [self.line() for _ in range(self.random.randint(10, 120))]
+        at = self.random.randint(0, len(lines))
+        pages = self.many(9, self.begin) if self.chance(2) else []
+        return [self.written(it) for it in begun] + lines[:at] + [self.written(it) for it in pages] + lines[at:]

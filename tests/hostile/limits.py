@@ -13,6 +13,7 @@ SECONDS = 60
 CALLS = 100_000
 DATE = "2024-05-01 10:00:00"
 REFUSED = b"refused 11 OutOfMemory\n"
+NO_SUCH_PAGE = b"refused 14 NoSuchPage\n"
 OUT_OF_MEMORY = (1, b"site: out of memory\n")
 DONE = (0, b"")
 # How many limits on memory are tried, and the size of a page, in kilobytes.
@@ -25,6 +26,8 @@ STARTS = 8
 SLACK = 64
 # Limits on the stack, in kilobytes: the usual one, and smaller ones.
 STACKS = (8_192, 1_024, 256)
+# More turns than any page has.
+ALL_TURNS = 1_000_000
 # No limit is needed beyond this one, in kilobytes.
 AMPLE = 4 * 1_048_576
 
@@ -33,31 +36,51 @@ def post(number, title="", content=""):
     return {"id": number, "kind": "post", "status": "publish", "title": title, "content": content, "date": DATE}
 
 
+def begin(path):
+    return {"cmd": "begin", "path": path}
+
+
+def turns(page, count):
+    return {"cmd": "turns", "page": page, "count": count}
+
+
 def hungry():
-    """Commands that need much memory, of every kind."""
+    """Commands that need much memory, of every kind, some of them while pages are open. Page 4 is left open."""
     texts = ["t" * 64] * 4_000
     loop = [{"loop": [{"tag": "the_title"}, {"tag": "the_content"}, *texts]}]
     yield {"cmd": "get", "path": "/"}
     yield from ({"cmd": "activate", "plugin": plugin} for plugin in ("bold", "deep", "atts", "note"))
     yield {"cmd": "put", "title": "d" * 32, "content": "[i]a[b]c[/b][/i]", "date": DATE}
+    yield begin("/?p=1")
+    yield turns(1, 33)
     yield {"cmd": "put", "title": "t" * 65_536, "content": "[b]x[/b]" * 65_536, "date": DATE}
     yield {"cmd": "get", "path": "/?p=2"}
+    yield begin("/?p=2")
+    yield turns(2, 30_000)
     yield {"cmd": "edit", "id": 2, "content": "[show a='1' b]" * 20_000}
     yield {"cmd": "get", "path": "/?p=2"}
+    yield begin("/?p=2")
     yield {"cmd": "edit", "id": 2, "content": "[" * 524_288}
     yield {"cmd": "import", "site": {"version": 1, "posts": [post(it, "d" * 8, "[b]") for it in range(10, 3_000)]}}
     yield {"cmd": "import", "site": {"version": 1, "options": {"posts_per_page": "100"}, "templates": {"home": loop}}}
     yield {"cmd": "get", "path": "/"}
+    yield begin("/")
+    yield turns(4, 500)
     yield {"cmd": "option", "name": "blogname", "value": "&" * 65_536}
+    yield turns(2, ALL_TURNS)
     yield {"cmd": "template", "name": "single", "body": [{"tag": "site_name"}] * 100}
     yield {"cmd": "get", "path": "/?p=10"}
+    yield turns(3, ALL_TURNS)
     yield {"cmd": "delete", "id": 2}
     yield {"cmd": "deactivate", "plugin": "deep"}
+    yield turns(1, 36)
+    yield turns(1, 1)
     yield {"cmd": "get", "path": "/?paged=2"}
+    yield turns(4, 1)
 
 
 def deep():
-    """Lines that nest, and pages that go, as deep as they may, and lines of the maximum length."""
+    """Lines that nest, and pages that go, as deep as they may, some left open, and lines of the maximum length."""
     arrays, objects = "[" * 126 + "]" * 126, '{"a":' * 125 + "{}" + "}" * 125
     for nested in (arrays, objects):
         yield f'{{"cmd":"get","path":"/","more":{nested}}}'
@@ -74,9 +97,17 @@ def deep():
     yield json.dumps({"cmd": "put", "title": "x", "content": "[[[b" * 100_000, "date": DATE})
     yield json.dumps({"cmd": "put", "title": "spin", "content": "[show " + "a='1' \"" * 70_000 + "]", "date": DATE})
     yield from (json.dumps({"cmd": "get", "path": f"/?p={number}"}) for number in range(1, 5))
+    for page in (1, 2, 3):
+        yield json.dumps(begin(f"/?p={page + 1}"))
+        yield json.dumps(turns(page, 5))
     for plugin in ("args", "grow", "marks", "nest", "once"):
         yield json.dumps({"cmd": "deactivate", "plugin": plugin})
     yield from (json.dumps({"cmd": "get", "path": f"/?p={number}"}) for number in range(1, 5))
+    # The title of post 2 is 32 levels deep after 33 calls, and that of post 4 has no end.
+    for page, number in ((4, 2), (5, 4)):
+        yield json.dumps(begin(f"/?p={number}"))
+        yield json.dumps(turns(page, 33))
+    yield json.dumps(turns(1, ALL_TURNS))
     yield json.dumps({"cmd": "get", "path": "/?" + "p&" * 4_095})
     yield json.dumps({"cmd": "import", "site": {"version": 1, "posts": [post(it) for it in range(10, 8_000)]}})
     yield json.dumps({"cmd": "template", "name": "home", "body": [{"loop": [{"part": "header"}] * 4_090}]})
@@ -113,14 +144,15 @@ class Memory:
 
     def __init__(self, program):
         self.program = program
-        self.lines = [json.dumps(command).encode() for command in hungry()]
+        self.commands = list(hungry())
+        self.lines = [json.dumps(command).encode() for command in self.commands]
         self.without = {}
         self.begins = self.ends = None
         self.came = Counter()
 
     def measure(self):
         """The smallest limits with which the program serves no line, and all of them."""
-        self.without[frozenset()] = whole(self.program, self.lines)
+        every = b"".join(self.replies_without(frozenset()))
 
         def begins(kilobytes):
             limit = f"ulimit -v {kilobytes};"
@@ -128,18 +160,43 @@ class Memory:
 
         def ends(kilobytes):
             end, output = run(self.program, self.lines, f"ulimit -v {kilobytes};")
-            return end == DONE and output == b"".join(self.without[frozenset()])
+            return end == DONE and output == every
 
         self.begins = smallest(begins, 0, AMPLE, PAGE)
         self.ends = smallest(ends, self.begins - PAGE, AMPLE, PAGE)
         print(f"memory: {self.begins} KB for no line, {self.ends} KB for the whole list of {len(self.lines)}")
 
-    def replies_without(self, places):
-        """The replies to the lines that aren't at these places."""
-        if places not in self.without:
-            kept = [line for at, line in enumerate(self.lines) if at not in places]
-            self.without[places] = whole(self.program, kept)
-        return self.without[places]
+    def replies_without(self, places, closing=frozenset()):
+        """The replies to the lines that aren't at these places, if turns at some of them have closed their pages."""
+        if (places, closing) not in self.without:
+            lines = list(self.lines)
+            for at in closing:
+                lines[at] = json.dumps({**self.commands[at], "count": ALL_TURNS}).encode()
+            kept = [at for at in range(len(lines)) if at in closing or at not in places]
+            replies = zip(kept, whole(self.program, [lines[at] for at in kept]))
+            self.without[places, closing] = [reply for at, reply in replies if at not in places]
+        return self.without[places, closing]
+
+    def closer(self, at, reply, places):
+        """If a reply tells that a page is closed, the last of these places before it at which the page had turns."""
+        command = self.commands[at]
+        page = command.get("page") if reply == NO_SUCH_PAGE else None
+        if command["cmd"] == "begin" and reply.startswith(b"ok "):
+            page = int(reply[3:])
+        before = [it for it in places if it < at and page and self.commands[it].get("page") == page]
+        return max(before, default=None)
+
+    def expected(self, replies, places):
+        """The replies to the lines that aren't at these places, and at which of them turns have closed their page."""
+        closing = frozenset()
+        while True:
+            wanted = self.replies_without(places, closing)
+            kept = [at for at in range(len(replies)) if at not in places]
+            other = next((at for at, reply in zip(kept, wanted) if replies[at] != reply), None)
+            closer = None if other is None else self.closer(other, replies[other], places - closing)
+            if closer is None:
+                return wanted, closing
+            closing |= {closer}
 
     def judge(self, step):
         """A run under a limit between those two: its replies, and how it ends."""
@@ -155,12 +212,14 @@ class Memory:
             raise Wrong(f"{where} it ended with status {end[0]} and {shown(end[1])}")
         places = frozenset(at for at, reply in enumerate(replies) if reply == REFUSED)
         kept = [reply for reply in replies if reply != REFUSED]
-        for reply, wanted in zip(kept, self.replies_without(places)):
+        others, closing = self.expected(replies, places)
+        for reply, wanted in zip(kept, others):
             if reply != wanted:
                 raise Wrong(f"{where} one is {shown(reply)}, wanted {shown(wanted)}")
         kind = "ended" if end != DONE else "refused lines" if places else "were as without a limit"
         self.came[f"runs {kind}"] += 1
         self.came["lines refused"] += len(places)
+        self.came["pages closed by that"] += len(closing)
 
     def tell(self):
         """Says what came of the limits that were tried."""
