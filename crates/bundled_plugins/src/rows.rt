@@ -3,7 +3,7 @@ ghost use Rattle.std.specs.Prelude.{◌≡◌, ◌++◌, IfOk, OnOk, map};
 ghost use Rattle.bundled_plugins.specs.Rows.{change_of, part_of, text_of, reply_of};
 
 use crate::calls::{first_argument, second_argument};
-use hook_changes::{Call, CallbackId, Change, Listed, Reply, Text};
+use hook_changes::{Call, CallbackId, Change, Listed, Reply, Text, Then};
 use itoa::Buffer;
 use std::alloc::{AllocError, Global};
 
@@ -101,11 +101,26 @@ fn push_part(text: &mut Text, part: &Part, call: &Call) -> Result<(), AllocError
     }
 }
 
-/// Joins parts.
+/// Returns about how many bytes parts take together.
+fn room_for(parts: &[Part], call: &Call) -> usize {
+    let mut room = 0usize;
+    for part in parts {
+        room = room.saturating_add(match part {
+            Part::Fixed(fixed) => fixed.len(),
+            Part::First => first_argument(call).len(),
+            Part::Second => second_argument(call).len(),
+            Part::Count => 2,
+            Part::Content => call.content.as_str().len(),
+        });
+    }
+    room
+}
+
+/// Joins parts, in room that is allocated at once.
 fn text_of(alloc: Global, parts: &[Part], call: &Call) -> Result<Text, AllocError>
     ensures { IfOk result (λ text. text ≡ text_of call.now parts.now) }
 {
-    let mut text = Text::empty(alloc);
+    let mut text = Text::new(String::with_capacity(alloc, room_for(parts, call))?);
     for part in parts {
         push_part(&mut text, part, call)?;
     }
@@ -116,12 +131,9 @@ fn text_of(alloc: Global, parts: &[Part], call: &Call) -> Result<Text, AllocErro
 pub fn reply_of(alloc: Global, row: &ReplyRow, call: &Call) -> Result<Reply, AllocError>
     ensures { IfOk result (λ reply. reply ≡ reply_of row.now call.now) }
 {
-    let changes = changes_of(alloc, row.changes)?;
-    let echo = text_of(alloc, row.prints, call)?;
-    let text = text_of(alloc, row.answers, call)?;
-    Ok(
-        Reply::answer(alloc, text)
-            .with_changes(changes)
-            .with_echo(echo),
-    )
+    Ok(Reply {
+        changes: changes_of(alloc, row.changes)?,
+        echo: text_of(alloc, row.prints, call)?,
+        next: Then::Answer(text_of(alloc, row.answers, call)?),
+    })
 }

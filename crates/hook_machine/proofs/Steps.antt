@@ -3,7 +3,6 @@ use Rattle.std.proofs.Common.{◌≡◌, ℕ, ◌+◌, ◌-◌, ◌≤◌, ◌<�
 use Rattle.std.proofs.Common.{refl, sym, ap, ◌∙◌}
 use Rattle.std.specs.Prelude.{map}
 use Rattle.hook_changes.specs.declared.reply.Call.{Call}
-use Rattle.hook_changes.specs.declared.reply.Reply.{Reply}
 use Rattle.hook_changes.specs.declared.reply.Answer.{Answer}
 use Rattle.hook_changes.specs.declared.reply.Answer.TheVariants as answer
 use Rattle.hook_changes.specs.declared.reply.Ask.{Ask}
@@ -35,9 +34,10 @@ use Rattle.hook_machine.specs.Meaning.{piece_pass, pieces_pass, shortcodes_pass,
 use Rattle.hook_machine.specs.Meaning.{first_or_empty, text_at}
 use Rattle.hook_machine.specs.Works.{work_pass, answer_shown}
 use Rattle.call_plans.specs.Position.{first_of, reach, next_entry}
-use Rattle.hook_machine.specs.Rest.{begun, left_hook, risen, with_answer, above_left, pass_from, pass_left, pending_left, pending_handed, goes_on, handed}
-use Rattle.hook_machine.specs.Rest.{rest_with, then_rest, rest}
-use Rattle.hook_machine.specs.Moves.{Moves}
+use Rattle.hook_machine.specs.Rest.{begun, left_hook, risen, with_answer, above_left, pass_from, pass_left, pending_left, pending_handed, handed}
+use Rattle.hook_machine.specs.Rest.{rest_with, then_rest}
+use Rattle.hook_machine.specs.declared.frame.Pace.{Pace}
+use Rattle.hook_machine.specs.Moves.{Moves, LeadsOn}
 use Rattle.hook_machine.proofs.Agree.{invoke-step}
 use Rattle.hook_machine.proofs.Ending.{invoke_some, deeper_within, deeper_beyond}
 use Rattle.hook_machine.proofs.Walk.{then_then, walk, walk-some, reached}
@@ -183,12 +183,9 @@ module _ (engine : Engine) where
 
   -- ---- invocations
 
-  invoke_none : (w : World) (k : ℕ) (call : Call) → w.calls ≡ 0 → invoke engine w k call ≡ Refused TooManyCalls
+  pub invoke_none : (w : World) (k : ℕ) (call : Call) → w.calls ≡ 0 → invoke engine w k call ≡ Refused TooManyCalls
   unfolding invoked_with
   invoke_none w k call h = invoke-step engine w k call ∙ ap (λ n. invoked_with engine (invoke engine) n w k call) h
-
-  pub turn_refused : (w : World) (k : ℕ) (call : Call) (fs : List Frame) → w.calls ≡ 0 → then_rest engine (invoke engine w k call) fs ≡ Refused TooManyCalls
-  turn_refused w k call fs h = ap (λ (t : Trace Text). then_rest engine t fs) (invoke_none w k call h)
 
   invoked_core : (w : World) (k : ℕ) (call : Call) → (k == 0) ≡ true
       → invoked engine (invoke engine) w k call ≡ Turn w (deeper w (λ inside. shortcodes_pass (invoke engine) inside (first_or_empty call.args)))
@@ -196,12 +193,10 @@ module _ (engine : Engine) where
   invoked_core w k call h = rw h refl
 
   -- core's callback takes a turn, and its shortcode pass is left
-  turn_core : (w taken : World) (k : ℕ) (call : Call) (fs fs' : List Frame) → 0 < w.calls → (k == 0) ≡ true → taken ≡ record w { calls = w.calls - 1 }
-      → fs' ≡ frame.Invocation (record { callback = k; call = call; pending = Core }) ∷ fs
-      → then_rest engine (invoke engine w k call) fs ≡ Turn taken (rest engine taken fs')
-  unfolding rest goes_on pending_left
-  turn_core w taken k call fs fs' h n t f =
-      rw (f, t) (ap (λ (t : Trace Text). then_rest engine t fs) (invoke_some engine w k call h ∙ invoked_core (record w { calls = w.calls - 1 }) k call n))
+  turn_core : (w taken : World) (k : ℕ) (call : Call) → 0 < w.calls → (k == 0) ≡ true → taken ≡ record w { calls = w.calls - 1 }
+      → invoke engine w k call ≡ Turn taken (pending_left engine taken k call Core)
+  unfolding pending_left
+  turn_core w taken k call h n t = rw t (invoke_some engine w k call h ∙ invoked_core (record w { calls = w.calls - 1 }) k call n)
 
   invoked_other : (w : World) (k : ℕ) (call : Call) → (k == 0) ≡ false → invoked engine (invoke engine) w k call
       ≡ Turn (replied engine w (said engine k call)) (follow (invoke engine) (replied engine w (said engine k call)) k call (said engine k call).next)
@@ -209,38 +204,23 @@ module _ (engine : Engine) where
   invoked_other w k call h = rw h refl
 
   -- a plugin's callback takes a turn: its echo and its changes are carried out, and how it goes on is left
-  turn_other : (w : World) (k : ℕ) (call : Call) (fs : List Frame) → 0 < w.calls → (k == 0) ≡ false
-      → then_rest engine (invoke engine w k call) fs
-      ≡ Turn (replied engine (record w { calls = w.calls - 1 }) (said engine k call))
-      (rest engine (replied engine (record w { calls = w.calls - 1 }) (said engine k call))
-      (frame.Invocation (record { callback = k; call = call; pending = Next (said engine k call).next }) ∷ fs))
-  unfolding rest goes_on pending_left
-  turn_other w k call fs h n = ap (λ (t : Trace Text). then_rest engine t fs)
-      (invoke_some engine w k call h ∙ invoked_other (record w { calls = w.calls - 1 }) k call n)
-
-  turn_on : (w taken : World) (k : ℕ) (call : Call) (reply : Reply) (w' : World) (fs fs' : List Frame) → 0 < w.calls → (k == 0) ≡ false
-      → taken ≡ record w { calls = w.calls - 1 } → reply ≡ said engine k call
-      → w' ≡ replied engine taken reply → fs' ≡ frame.Invocation (record { callback = k; call = call; pending = Next reply.next }) ∷ fs
-      → then_rest engine (invoke engine w k call) fs ≡ Turn w' (rest engine w' fs')
-  turn_on w taken k call reply w' fs fs' h n t r e f = rw (f, e, t, r) (turn_other w k call fs h n)
+  turn_other : (w taken : World) (k : ℕ) (call : Call) → 0 < w.calls → (k == 0) ≡ false → taken ≡ record w { calls = w.calls - 1 }
+      → invoke engine w k call
+      ≡ Turn (replied engine taken (said engine k call)) (pending_left engine (replied engine taken (said engine k call)) k call (Next (said engine k call).next))
+  unfolding pending_left
+  turn_other w taken k call h n t = rw t (invoke_some engine w k call h ∙ invoked_other (record w { calls = w.calls - 1 }) k call n)
 
   -- a callback takes a turn, whichever it is, and what its invocation is to do next is left
-  turn_by : (b : Bool) (w taken : World) (k : ℕ) (call : Call) (found : World × Pending) (fs fs' : List Frame) → (k == 0) ≡ b → 0 < w.calls
+  turn_by : (b : Bool) (w taken : World) (k : ℕ) (call : Call) (found : World × Pending) → (k == 0) ≡ b → 0 < w.calls
       → taken ≡ record w { calls = w.calls - 1 }
       → found ≡ cond b (taken, Core) (replied engine taken (said engine k call), Next (said engine k call).next)
-      → fs' ≡ frame.Invocation (record { callback = k; call = call; pending = found.1 }) ∷ fs
-      → then_rest engine (invoke engine w k call) fs ≡ Turn found.0 (rest engine found.0 fs')
-  turn_by true w taken k call found fs fs' n h t e f =
-      rw (f, e) (turn_core w taken k call fs (frame.Invocation (record { callback = k; call = call; pending = Core }) ∷ fs) h n t refl)
-  turn_by false w taken k call found fs fs' n h t e f =
-      rw (f, e) (turn_on w taken k call (said engine k call) (replied engine taken (said engine k call)) fs
-      (frame.Invocation (record { callback = k; call = call; pending = Next (said engine k call).next }) ∷ fs) h n t refl refl refl)
+      → invoke engine w k call ≡ Turn found.0 (pending_left engine found.0 k call found.1)
+  turn_by true w taken k call found n h t e = rw e (turn_core w taken k call h n t)
+  turn_by false w taken k call found n h t e = rw e (turn_other w taken k call h n t)
 
-  pub turn_begun : (w taken : World) (k : ℕ) (call : Call) (found : World × Pending) (fs fs' : List Frame) → 0 < w.calls
-      → taken ≡ record w { calls = w.calls - 1 } → found ≡ begun engine taken k call
-      → fs' ≡ frame.Invocation (record { callback = k; call = call; pending = found.1 }) ∷ fs
-      → then_rest engine (invoke engine w k call) fs ≡ Turn found.0 (rest engine found.0 fs')
-  turn_begun w taken k call found fs fs' h t e f = turn_by (k == 0) w taken k call found fs fs' refl h t e f
+  pub turn_begun : (w taken : World) (k : ℕ) (call : Call) (found : World × Pending) → 0 < w.calls → taken ≡ record w { calls = w.calls - 1 }
+      → found ≡ begun engine taken k call → invoke engine w k call ≡ Turn found.0 (pending_left engine found.0 k call found.1)
+  turn_begun w taken k call found h t e = turn_by (k == 0) w taken k call found refl h t e
 
   -- a callback's answer is handed on
   pub answer_goes : (w : World) (k : ℕ) (call : Call) (text : Text) → pending_left engine w k call (Next (next.Answer text)) ≡ Done w text
@@ -342,23 +322,27 @@ module _ (engine : Engine) where
 
   -- ---- how a call moves along
 
-  pub moves_via : (t u : Trace Text) (r : Result Move RunFault) (w : World) (fs : List Frame) → t ≡ u → Moves engine u r w fs → Moves engine t r w fs
-  moves_via t u (Ok move) w fs e m = e ∙ m
-  moves_via t u (Err TooManyCalls) w fs e m = e ∙ m
-  moves_via t u (Err TooDeep) w fs e m = e ∙ m
-  moves_via t u (Err OutOfMemory) w fs e m = tt
+  leads_via : {A : Type 0} (pace : Pace) (t u : Trace Text) (now : A → Trace Text) (r : Result A RunFault) → t ≡ u → LeadsOn pace u now r → LeadsOn pace t now r
+  leads_via pace t u now (Ok x) e l = record { passed = l.passed; may = l.may; is = e ∙ l.is }
+  leads_via pace t u now (Err TooManyCalls) e l = record { passed = l.passed; may = l.may; is = e ∙ l.is }
+  leads_via pace t u now (Err TooDeep) e l = record { passed = l.passed; may = l.may; is = e ∙ l.is }
+  leads_via pace t u now (Err OutOfMemory) e l = tt
 
-  -- work that waits at a frame, which was put before the others
-  pub moves_onto : (t u : Trace Text) (f : Frame) (fs fs' : List Frame) → t ≡ and_then u (λ later x. handed engine later f x) → fs' ≡ f ∷ fs
-      → (r : Result Move RunFault) (w : World) (gs : List Frame) → Moves engine (then_rest engine u fs') r w gs → Moves engine (then_rest engine t fs) r w gs
-  moves_onto t u f fs fs' e q r w gs m =
-      moves_via (then_rest engine t fs) (then_rest engine u fs') r w gs
-      (ap (λ (t : Trace Text). then_rest engine t fs) e ∙ onto_frame u f fs ∙ ap (λ (l : List Frame). then_rest engine u l) (sym q)) m
+  module _ {pace : Pace} where
+    pub moves_via : (t u : Trace Text) (r : Result Move RunFault) (w : World) (fs : List Frame) → t ≡ u → Moves pace engine u r w fs → Moves pace engine t r w fs
+    moves_via t u r w fs e m = record { leads = leads_via pace t u _ r e m.leads }
 
-  -- work that is done at once
-  pub moves_same : (t u : Trace Text) (fs : List Frame) → t ≡ u → (r : Result Move RunFault) (w : World) (gs : List Frame)
-      → Moves engine (then_rest engine u fs) r w gs → Moves engine (then_rest engine t fs) r w gs
-  moves_same t u fs e r w gs m = moves_via (then_rest engine t fs) (then_rest engine u fs) r w gs (ap (λ (t : Trace Text). then_rest engine t fs) e) m
+    -- work that waits at a frame, which was put before the others
+    pub moves_onto : (t u : Trace Text) (f : Frame) (fs fs' : List Frame) → t ≡ and_then u (λ later x. handed engine later f x) → fs' ≡ f ∷ fs
+        → (r : Result Move RunFault) (w : World) (gs : List Frame) → Moves pace engine (then_rest engine u fs') r w gs → Moves pace engine (then_rest engine t fs) r w gs
+    moves_onto t u f fs fs' e q r w gs m =
+        moves_via (then_rest engine t fs) (then_rest engine u fs') r w gs
+        (ap (λ (t : Trace Text). then_rest engine t fs) e ∙ onto_frame u f fs ∙ ap (λ (l : List Frame). then_rest engine u l) (sym q)) m
+
+    -- work that is done at once
+    pub moves_same : (t u : Trace Text) (fs : List Frame) → t ≡ u → (r : Result Move RunFault) (w : World) (gs : List Frame)
+        → Moves pace engine (then_rest engine u fs) r w gs → Moves pace engine (then_rest engine t fs) r w gs
+    moves_same t u fs e r w gs m = moves_via (then_rest engine t fs) (then_rest engine u fs) r w gs (ap (λ (t : Trace Text). then_rest engine t fs) e) m
 
   -- ---- from turn to turn
 

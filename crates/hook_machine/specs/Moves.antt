@@ -5,6 +5,10 @@ use Rattle.hook_machine.specs.declared.fault.RunFault.TheVariants.{TooManyCalls,
 use Rattle.hook_machine.specs.declared.pieces.Matched.{Matched}
 use Rattle.hook_machine.specs.declared.frame.Frame.{Frame}
 use Rattle.hook_machine.specs.declared.frame.Frame.TheVariants.{Pass, Invocation, Shortcodes}
+use Rattle.hook_machine.specs.declared.frame.Pace.{Pace}
+use Rattle.hook_machine.specs.declared.frame.Pace.TheVariants.{ByTurns, Through}
+use Rattle.hook_machine.specs.declared.frame.Went.{Went}
+use Rattle.hook_machine.specs.declared.frame.Went.TheVariants.{Answered, Waits}
 use Rattle.hook_machine.specs.declared.frame.Move.{Move}
 use Rattle.hook_machine.specs.declared.frame.Move.TheVariants.{Turned, Handed}
 use Rattle.hook_machine.specs.declared.resuming.Turn.{Turn}
@@ -12,7 +16,7 @@ use Rattle.hook_machine.specs.declared.resuming.Turn.TheVariants as turn
 use Rattle.hook_machine.specs.World.{Text, World}
 use Rattle.hook_machine.specs.Trace.{Trace, Done, Refused, Turn as turned_to}
 use Rattle.hook_machine.specs.Meaning.{Engine}
-use Rattle.hook_machine.specs.Rest.{rest, rest_with, then_rest}
+use Rattle.hook_machine.specs.Rest.{pending_left, rest, rest_with, then_rest}
 
 -- what is left of a run after a move: the world of the invocation, and then its frames; or its frames, once the result
 -- is handed on
@@ -20,16 +24,53 @@ abbrev pub still_left : Engine → Move → World → List Frame → Trace Text
 still_left engine Turned world frames = turned_to world (rest engine world frames)
 still_left engine (Handed x) world frames = rest_with engine world frames x
 
--- what was left is what is still left; or it is the fault; or memory ran out
-abbrev pub Moves : Engine → Trace Text → Result Move RunFault → World → List Frame → Type 0
-Moves engine left (Ok move) world frames = left ≡ still_left engine move world frames
-Moves engine left (Err TooManyCalls) world frames = left ≡ Refused TooManyCalls
-Moves engine left (Err TooDeep) world frames = left ≡ Refused TooDeep
-Moves engine left (Err OutOfMemory) world frames = ⊤
+-- the invocations that lead to these worlds, and then what is left
+abbrev pub through : {A : Type 0} → List World → Trace A → Trace A
+through [] left = left
+through (world ∷ worlds) left = turned_to world (through worlds left)
+
+-- a run by turns passes no invocation over
+abbrev pub MayPass : Pace → List World → Type 0
+MayPass ByTurns passed = passed ≡ []
+MayPass Through passed = ⊤
+
+-- what was left leads to what is left now, after the invocations that were passed over
+pub record Leads (pace : Pace) {A : Type 0} (before now : Trace A) : Type 0 where
+  pub passed : List World
+  pub may : MayPass pace passed
+  pub is : before ≡ through passed now
+
+-- what was left leads to what is left after a result; or to the fault; or memory ran out
+abbrev pub LeadsOn : {A B : Type 0} → Pace → Trace A → (B → Trace A) → Result B RunFault → Type 0
+LeadsOn pace left now (Ok x) = Leads pace left (now x)
+LeadsOn pace left now (Err TooManyCalls) = Leads pace left (Refused TooManyCalls)
+LeadsOn pace left now (Err TooDeep) = Leads pace left (Refused TooDeep)
+LeadsOn pace left now (Err OutOfMemory) = ⊤
+
+-- what was left leads to what is still left after a move
+pub record Moves (pace : Pace) (engine : Engine) (left : Trace Text) (result : Result Move RunFault) (world : World) (frames : List Frame) : Type 0 where
+  pub leads : LeadsOn pace left (λ move. still_left engine move world frames) result
 
 -- the same of some work in a world, whose result the frames wait for
-abbrev pub Does : Engine → (Engine → Trace Text) → List Frame → Result Move RunFault → World → List Frame → Type 0
-Does engine work frames result world now = Moves engine (then_rest engine (work engine) frames) result world now
+abbrev pub Does : Pace → Engine → (Engine → Trace Text) → List Frame → Result Move RunFault → World → List Frame → Type 0
+Does pace engine work frames result world now = Moves pace engine (then_rest engine (work engine) frames) result world now
+
+-- what is left of an invocation whose callback has replied
+abbrev pub went_left : Engine → World → Went → Trace Text
+went_left engine world (Answered invoked text) = Done world text
+went_left engine world (Waits invoked) = pending_left engine world invoked.callback invoked.call invoked.pending
+
+-- only a run that doesn't stop is given an answer at once
+abbrev pub MayAnswer : Pace → Went → Type 0
+MayAnswer pace (Answered invoked text) = pace ≡ Through
+MayAnswer pace (Waits invoked) = ⊤
+
+-- the invocation takes its turn, and what is left of it is what it came to; or it is the fault; or memory ran out
+abbrev pub Invokes : Engine → Trace Text → Result Went RunFault → World → Type 0
+Invokes engine invocation (Ok went) world = invocation ≡ turned_to world (went_left engine world went)
+Invokes engine invocation (Err TooManyCalls) world = invocation ≡ Refused TooManyCalls
+Invokes engine invocation (Err TooDeep) world = invocation ≡ Refused TooDeep
+Invokes engine invocation (Err OutOfMemory) world = ⊤
 
 -- how many frames may come in place of one that is handed a result: a handler's answer goes through a filter
 abbrev pub room_of_match : Option Matched → ℕ
@@ -52,12 +93,6 @@ Shrinks more (Ok Turned) olds news = ⊤
 Shrinks more (Ok (Handed x)) olds news = weight_of news ≤ weight_of olds + more
 Shrinks more (Err fault) olds news = ⊤
 
--- an invocation hands nothing on
-abbrev pub Invokes : Result Move RunFault → Type 0
-Invokes (Ok Turned) = ⊤
-Invokes (Ok (Handed x)) = ⊥
-Invokes (Err fault) = ⊤
-
 -- how many frames a result may still go through
 abbrev pub way_of : Move → List Frame → ℕ
 way_of Turned frames = zero
@@ -74,6 +109,10 @@ Turns left (Ok turn) world now = left ≡ trace_of_turn turn world now
 Turns left (Err TooManyCalls) world now = left ≡ Refused TooManyCalls
 Turns left (Err TooDeep) world now = left ≡ Refused TooDeep
 Turns left (Err OutOfMemory) world now = ⊤
+
+-- the same of a run that may pass invocations over
+abbrev pub TurnsBy : Pace → Trace Text → Result Turn RunFault → World → Trace Text → Type 0
+TurnsBy pace left result world now = LeadsOn pace left (λ turn. trace_of_turn turn world now) result
 
 -- nothing is left of a job that is done
 abbrev pub IsOver : Result Turn RunFault → List Frame → Type 0

@@ -7,10 +7,10 @@ ghost use Rattle.hook_machine.specs.declared.frame.Pending.TheVariants.{Next, Co
 ghost use Rattle.hook_machine.specs.Meaning.{invoke};
 ghost use Rattle.hook_machine.specs.Outcomes.{engine_over};
 ghost use Rattle.hook_machine.specs.Rest.{pending_left, pending_handed, with_answer};
-ghost use Rattle.hook_machine.specs.Moves.{Does, Shrinks, Invokes};
+ghost use Rattle.hook_machine.specs.Moves.{Does, Shrinks};
 
 use crate::fault::RunFault;
-use crate::frame::{Frame, Invoked, Move, Pending, Stack};
+use crate::frame::{Frame, Invoked, Move, Pace, Pending, Stack};
 use crate::replacing::begin_text;
 use crate::state::State;
 use crate::turning::{begin_action, begin_filter, invoke_turn};
@@ -25,15 +25,16 @@ fn invoke_again<S: Stated>(
     stack: &mut Stack,
     invoked: Invoked,
     answer: Answer,
+    pace: Pace,
 ) -> Result<Move, RunFault>
-    ensures moves { Does (engine_over S.says S.number plugins.now)
+    ensures moves { Does pace (engine_over S.says S.number plugins.now)
         (λ engine. invoke engine state.old invoked.callback (with_answer invoked.call answer))
         stack.old result state.new stack.new }
-    ensures invokes { Invokes result }
+    ensures shrinks { Shrinks 0 result stack.old stack.new }
 {
     let mut invoked = invoked;
     invoked.add_answer(answer)?;
-    invoke_turn(plugins, state, stack, invoked)
+    invoke_turn(plugins, state, stack, invoked, pace)
 }
 
 /// Goes one level deeper, and puts the invocation that waits for what is done there on the stack.
@@ -64,14 +65,15 @@ fn ask_apply<S: Stated>(
     hook: Text,
     value: Text,
     args: Listed<Text>,
+    pace: Pace,
 ) -> Result<Move, RunFault>
-    ensures moves { Does (engine_over S.says S.number plugins.now)
+    ensures moves { Does pace (engine_over S.says S.number plugins.now)
         (λ engine. pending_left engine state.old invoked.callback invoked.call
         (Next (next.Ask (Apply hook value args)))) stack.old result state.new stack.new }
     ensures grows { Shrinks 1 result stack.old stack.new }
 {
     wait(state, stack, invoked, Pending::ForText)?;
-    begin_filter(plugins, state, stack, hook.as_str(), value, args)
+    begin_filter(plugins, state, stack, hook.as_str(), value, args, pace)
 }
 
 /// Begins the action pass that a callback asked for.
@@ -82,14 +84,15 @@ fn ask_act<S: Stated>(
     invoked: Invoked,
     hook: Text,
     args: Listed<Text>,
+    pace: Pace,
 ) -> Result<Move, RunFault>
-    ensures moves { Does (engine_over S.says S.number plugins.now)
+    ensures moves { Does pace (engine_over S.says S.number plugins.now)
         (λ engine. pending_left engine state.old invoked.callback invoked.call
         (Next (next.Ask (Act hook args)))) stack.old result state.new stack.new }
     ensures grows { Shrinks 1 result stack.old stack.new }
 {
     wait(state, stack, invoked, Pending::ForNothing)?;
-    begin_action(plugins, state, stack, hook.as_str(), args)
+    begin_action(plugins, state, stack, hook.as_str(), args, pace)
 }
 
 /// Begins to replace the shortcodes of a text, as a callback asked.
@@ -100,14 +103,15 @@ fn ask_shortcodes<S: Stated>(
     invoked: Invoked,
     text: Text,
     cache: &mut PieceCache,
+    pace: Pace,
 ) -> Result<Move, RunFault>
-    ensures moves { Does (engine_over S.says S.number plugins.now)
+    ensures moves { Does pace (engine_over S.says S.number plugins.now)
         (λ engine. pending_left engine state.old invoked.callback invoked.call
         (Next (next.Ask (Shortcodes text)))) stack.old result state.new stack.new }
     ensures grows { Shrinks 1 result stack.old stack.new }
 {
     wait(state, stack, invoked, Pending::ForText)?;
-    begin_text(plugins, state, stack, text, cache)
+    begin_text(plugins, state, stack, text, cache, pace)
 }
 
 /// Begins to replace the shortcodes of the first argument of core's callback. The argument moves out of the call, which
@@ -118,8 +122,9 @@ fn core_turn<S: Stated>(
     stack: &mut Stack,
     invoked: Invoked,
     cache: &mut PieceCache,
+    pace: Pace,
 ) -> Result<Move, RunFault>
-    ensures moves { Does (engine_over S.says S.number plugins.now)
+    ensures moves { Does pace (engine_over S.says S.number plugins.now)
         (λ engine. pending_left engine state.old invoked.callback invoked.call Core)
         stack.old result state.new stack.new }
     ensures grows { Shrinks 1 result stack.old stack.new }
@@ -127,7 +132,7 @@ fn core_turn<S: Stated>(
     let mut invoked = invoked;
     let text = invoked.take_first_argument(state.alloc());
     wait(state, stack, invoked, Pending::ForCore)?;
-    begin_text(plugins, state, stack, text, cache)
+    begin_text(plugins, state, stack, text, cache, pace)
 }
 
 /// Answers what a callback asked, or begins the pass that has to come first.
@@ -138,44 +143,47 @@ fn ask_turn<S: Stated>(
     invoked: Invoked,
     ask: Ask,
     cache: &mut PieceCache,
+    pace: Pace,
 ) -> Result<Move, RunFault>
-    ensures moves { Does (engine_over S.says S.number plugins.now)
+    ensures moves { Does pace (engine_over S.says S.number plugins.now)
         (λ engine. pending_left engine state.old invoked.callback invoked.call (Next (next.Ask ask)))
         stack.old result state.new stack.new }
     ensures grows { Shrinks 1 result stack.old stack.new }
 {
     match ask {
         Ask::Apply { hook, value, args } => {
-            ask_apply(plugins, state, stack, invoked, hook, value, args)
+            ask_apply(plugins, state, stack, invoked, hook, value, args, pace)
         }
-        Ask::Act { hook, args } => ask_act(plugins, state, stack, invoked, hook, args),
-        Ask::Shortcodes { text } => { ask_shortcodes(plugins, state, stack, invoked, text, cache) }
+        Ask::Act { hook, args } => ask_act(plugins, state, stack, invoked, hook, args, pace),
+        Ask::Shortcodes { text } => {
+            ask_shortcodes(plugins, state, stack, invoked, text, cache, pace)
+        }
         Ask::Did { hook } => {
             let answer = state.did(hook.as_str());
-            invoke_again(plugins, state, stack, invoked, answer)
+            invoke_again(plugins, state, stack, invoked, answer, pace)
         }
         Ask::Current => {
             let answer = state.current()?;
-            invoke_again(plugins, state, stack, invoked, answer)
+            invoke_again(plugins, state, stack, invoked, answer, pace)
         }
         Ask::Doing { hook } => {
             let answer = Answer::Flag(state.doing(hook.as_str()));
-            invoke_again(plugins, state, stack, invoked, answer)
+            invoke_again(plugins, state, stack, invoked, answer, pace)
         }
         Ask::Has {
             hook,
             callback: other,
         } => {
             let answer = state.has(hook.as_str(), other);
-            invoke_again(plugins, state, stack, invoked, answer)
+            invoke_again(plugins, state, stack, invoked, answer, pace)
         }
         Ask::TagExists { tag } => {
             let answer = Answer::Flag(state.tag_exists(tag.as_str()));
-            invoke_again(plugins, state, stack, invoked, answer)
+            invoke_again(plugins, state, stack, invoked, answer, pace)
         }
         Ask::GetOption { name } => {
             let answer = state.option(name.as_str())?;
-            invoke_again(plugins, state, stack, invoked, answer)
+            invoke_again(plugins, state, stack, invoked, answer, pace)
         }
     }
 }
@@ -188,8 +196,9 @@ fn follow_turn<S: Stated>(
     invoked: Invoked,
     next: Then,
     cache: &mut PieceCache,
+    pace: Pace,
 ) -> Result<Move, RunFault>
-    ensures moves { Does (engine_over S.says S.number plugins.now)
+    ensures moves { Does pace (engine_over S.says S.number plugins.now)
         (λ engine. pending_left engine state.old invoked.callback invoked.call (Next next))
         stack.old result state.new stack.new }
     ensures grows { Shrinks 1 result stack.old stack.new }
@@ -199,7 +208,7 @@ fn follow_turn<S: Stated>(
             state.keep_spare(invoked);
             Ok(Move::Handed(text))
         }
-        Then::Ask(ask) => ask_turn(plugins, state, stack, invoked, ask, cache),
+        Then::Ask(ask) => ask_turn(plugins, state, stack, invoked, ask, cache, pace),
     }
 }
 
@@ -210,16 +219,17 @@ pub fn invocation_turn<S: Stated>(
     stack: &mut Stack,
     invoked: Invoked,
     cache: &mut PieceCache,
+    pace: Pace,
 ) -> Result<Move, RunFault>
-    ensures moves { Does (engine_over S.says S.number plugins.now)
+    ensures moves { Does pace (engine_over S.says S.number plugins.now)
         (λ engine. pending_left engine state.old invoked.callback invoked.call invoked.pending)
         stack.old result state.new stack.new }
     ensures grows { Shrinks 1 result stack.old stack.new }
 {
     let mut invoked = invoked;
     match invoked.take_pending() {
-        Pending::Next(next) => follow_turn(plugins, state, stack, invoked, next, cache),
-        Pending::Core => core_turn(plugins, state, stack, invoked, cache),
+        Pending::Next(next) => follow_turn(plugins, state, stack, invoked, next, cache, pace),
+        Pending::Core => core_turn(plugins, state, stack, invoked, cache, pace),
         _ => Ok(Move::Handed(Text::empty(state.alloc()))),
     }
 }
@@ -231,8 +241,9 @@ pub fn waiting_turn<S: Stated>(
     stack: &mut Stack,
     invoked: Invoked,
     text: Text,
+    pace: Pace,
 ) -> Result<Move, RunFault>
-    ensures moves { Does (engine_over S.says S.number plugins.now)
+    ensures moves { Does pace (engine_over S.says S.number plugins.now)
         (λ engine. pending_handed engine state.old invoked.callback invoked.call invoked.pending text)
         stack.old result state.new stack.new }
     ensures shrinks { Shrinks 0 result stack.old stack.new }
@@ -241,11 +252,11 @@ pub fn waiting_turn<S: Stated>(
     match invoked.take_pending() {
         Pending::ForText => {
             state.rise();
-            invoke_again(plugins, state, stack, invoked, Answer::Text(text))
+            invoke_again(plugins, state, stack, invoked, Answer::Text(text), pace)
         }
         Pending::ForNothing => {
             state.rise();
-            invoke_again(plugins, state, stack, invoked, Answer::Nothing)
+            invoke_again(plugins, state, stack, invoked, Answer::Nothing, pace)
         }
         Pending::ForCore => {
             state.rise();

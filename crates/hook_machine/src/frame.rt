@@ -245,6 +245,24 @@ pub enum Frame {
 /// The frames of a stopped run, the innermost first.
 pub type Stack = Left<Frame>;
 
+/// Whether a run stops after each invocation.
+#[derive(Clone, Copy)]
+pub enum Pace {
+    /// It does: the frames have what is left of it.
+    ByTurns,
+    /// It doesn't. A pass goes on with a callback's answer at once, and frames are made only for what has to wait.
+    Through,
+}
+
+/// What an invocation came to, once its callback has replied.
+#[derive(Drop)]
+pub enum Went {
+    /// The callback has answered, in a run that doesn't stop. The invocation is there for the next one to reuse.
+    Answered(Invoked, Text),
+    /// The invocation has its pending step still to do.
+    Waits(Invoked),
+}
+
 /// How far a stopped run has moved.
 #[derive(Drop)]
 pub enum Move {

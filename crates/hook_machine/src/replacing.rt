@@ -1,8 +1,11 @@
 //! Shortcode passes.
 ghost use Rattle.std.specs.Prelude.{◌≡◌, ◌++◌, ◌∷◌, [], None, Some, IsTrue, IsFalse};
-ghost use Rattle.std.specs.Prelude.{IfOk, IfSome, IsSome, MatchOption, OnOk};
+ghost use Rattle.std.specs.Prelude.{IfErr, IfOk, IfSome, IsSome, MatchOption, OnOk};
 ghost use Rattle.shortcode_scan.specs.Spans.{IsSpanOf};
 ghost use Rattle.hook_registry.specs.Table.{has};
+ghost use Rattle.hook_changes.specs.declared.reply.Then.TheVariants.{Answer};
+ghost use Rattle.hook_machine.specs.declared.frame.Move.TheVariants.{Turned};
+ghost use Rattle.hook_machine.specs.declared.frame.Pending.TheVariants.{Next};
 ghost use Rattle.hook_machine.specs.World.{World};
 ghost use Rattle.hook_machine.specs.Trace.{Done};
 ghost use Rattle.hook_machine.specs.Meaning.{Invocation, invoke, text_at, shortcode_filter};
@@ -15,13 +18,13 @@ ghost use Rattle.hook_machine.specs.Moves.{Does, Shrinks, room_of_match};
 
 use crate::cut::Cut;
 use crate::fault::RunFault;
-use crate::frame::{Frame, Move, Stack};
+use crate::frame::{Frame, Invoked, Move, Pace, Pending, Stack, Went};
 use crate::pieces::{Matched, Work, work_of_piece};
 use crate::state::State;
-use crate::turning::{begin_filter, invoke_turn};
+use crate::turning::{begin_filter, invoke};
 use callback_store::{Plugins, Stated};
 use content_cache::PieceCache;
-use hook_changes::{Call, CallbackId, Listed, Text};
+use hook_changes::{Call, CallbackId, Listed, Text, Then};
 use shortcode_scan::{Piece, Span, text_at};
 use std::alloc::{AllocError, Global};
 use std::marker::Model;
@@ -173,26 +176,67 @@ fn next_handling(state: &State, parts: &mut TextParts) -> Result<Option<Handling
     Ok(None)
 }
 
-/// Goes on with a shortcode pass: the next handler is invoked, or the text is whole.
+/// Goes on with a shortcode pass: the next handler is invoked, or the text is whole. A run that doesn't stop goes on
+/// with each handler's answer, up to the first one that asks for something or whose answer goes through a filter.
 pub fn text_turn<S: Stated>(
     plugins: &Plugins<S>,
     state: &mut State,
     stack: &mut Stack,
     pass: TextPass,
+    pace: Pace,
 ) -> Result<Move, RunFault>
-    ensures moves { Does (engine_over S.says S.number plugins.now)
+    ensures moves { Does pace (engine_over S.says S.number plugins.now)
         (λ engine. text_left engine state.old pass) stack.old result state.new stack.new }
     ensures shrinks { Shrinks 0 result stack.old stack.new }
 {
     let mut pass = pass;
-    match pass.next_handling(state)? {
-        None => Ok(Move::Handed(pass.take_text(state.alloc()))),
-        Some(handling) => {
-            stack.put_first(Frame::Shortcodes(pass))?;
-            let invoked = state.invocation(handling.handler, handling.call)?;
-            invoke_turn(plugins, state, stack, invoked)
+    'pieces: loop {
+        match pass.next_handling(state)? {
+            None => return Ok(Move::Handed(pass.take_text(state.alloc()))),
+            Some(handling) => {
+                let invoked = state.invocation(handling.handler, handling.call)?;
+                let went = invoke(plugins, state, invoked, pace)?;
+                match went {
+                    Went::Answered(invoked, answer) => {
+                        if state.is_hooked(SHORTCODE_FILTER) {
+                            return filter_later(stack, pass, invoked, answer);
+                        }
+                        state.keep_spare(invoked);
+                        pass.append(answer.as_str())?;
+                    }
+                    Went::Waits(invoked) => return wait_for_handler(stack, pass, invoked),
+                }
+            }
         }
     }
+}
+
+/// Puts a handler's invocation on the stack, and the pass that waits for its answer.
+fn wait_for_handler(stack: &mut Stack, pass: TextPass, invoked: Invoked) -> Result<Move, RunFault>
+    ensures ok { IfOk result (λ move. (move ≡ Turned)
+        × (stack.new ≡ Frame.Invocation invoked ∷ Frame.Shortcodes pass ∷ stack.old)) }
+    ensures err { IfErr result (λ fault. fault ≡ RunFault.OutOfMemory) }
+{
+    stack.put_first(Frame::Shortcodes(pass))?;
+    stack.put_first(Frame::Invocation(invoked))?;
+    Ok(Move::Turned)
+}
+
+/// Puts the invocation of a handler that has answered on the stack, and the pass, since the answer goes through a filter
+/// first.
+fn filter_later(
+    stack: &mut Stack,
+    pass: TextPass,
+    invoked: Invoked,
+    answer: Text,
+) -> Result<Move, RunFault>
+    ensures ok { IfOk result (λ move. (move ≡ Turned) × (stack.new
+        ≡ Frame.Invocation (record invoked { pending = Next (Answer answer) }) ∷ Frame.Shortcodes pass ∷ stack.old)) }
+    ensures err { IfErr result (λ fault. fault ≡ RunFault.OutOfMemory) }
+{
+    let mut invoked = invoked;
+    invoked.set_pending(Pending::Next(Then::Answer(answer)));
+    wait_for_handler(stack, pass, invoked)
 }
 
 /// Appends what replaces a match: a handler's answer between the extra brackets, or the text as it is if there is no
@@ -255,9 +299,10 @@ fn filter_turn<S: Stated>(
     pass: TextPass,
     matched: Matched,
     answer: Text,
+    pace: Pace,
 ) -> Result<Move, RunFault>
     requires { IsSpanOf pass.cut.text matched.name }
-    ensures moves { Does (engine_over S.says S.number plugins.now)
+    ensures moves { Does pace (engine_over S.says S.number plugins.now)
         (λ engine. text_handed engine state.old pass (Some matched) answer) stack.old result state.new stack.new }
     ensures grows { Shrinks 1 result stack.old stack.new }
 {
@@ -266,7 +311,7 @@ fn filter_turn<S: Stated>(
     let mut pass = pass;
     pass.put_away();
     stack.put_first(Frame::Shortcodes(pass))?;
-    begin_filter(plugins, state, stack, SHORTCODE_FILTER, text, args)
+    begin_filter(plugins, state, stack, SHORTCODE_FILTER, text, args, pace)
 }
 
 /// Hands a shortcode pass the answer of its match's handler, which goes through the filter first, or that filter's
@@ -277,17 +322,18 @@ pub fn shown_turn<S: Stated>(
     stack: &mut Stack,
     pass: TextPass,
     text: Text,
+    pace: Pace,
 ) -> Result<Move, RunFault>
-    ensures moves { Does (engine_over S.says S.number plugins.now)
+    ensures moves { Does pace (engine_over S.says S.number plugins.now)
         (λ engine. text_handed engine state.old pass pass.hand text) stack.old result state.new stack.new }
     ensures grows { Shrinks (room_of_match pass.hand) result stack.old stack.new }
 {
     match to_filter(state, &pass) {
-        Some(matched) => filter_turn(plugins, state, stack, pass, matched, text),
+        Some(matched) => filter_turn(plugins, state, stack, pass, matched, text, pace),
         None => {
             let mut pass = pass;
             pass.append(text.as_str())?;
-            text_turn(plugins, state, stack, pass)
+            text_turn(plugins, state, stack, pass, pace)
         }
     }
 }
@@ -313,8 +359,9 @@ pub fn begin_text<S: Stated>(
     stack: &mut Stack,
     text: Text,
     cache: &mut PieceCache,
+    pace: Pace,
 ) -> Result<Move, RunFault>
-    ensures moves { Does (engine_over S.says S.number plugins.now)
+    ensures moves { Does pace (engine_over S.says S.number plugins.now)
         (λ engine. shortcodes_pass (invoke engine) state.old text) stack.old result state.new stack.new }
     ensures shrinks { Shrinks 0 result stack.old stack.new }
 {
@@ -323,5 +370,5 @@ pub fn begin_text<S: Stated>(
         return Ok(Move::Handed(text));
     }
     let pass = TextPass::new(state.alloc(), Cut::new(text, pieces))?;
-    text_turn(plugins, state, stack, pass)
+    text_turn(plugins, state, stack, pass, pace)
 }

@@ -3,11 +3,11 @@ ghost use Rattle.std.specs.Prelude.{◌≡◌, ◌∷◌, [], OnOk};
 ghost use Rattle.hook_machine.specs.Outcomes.{RunsAs, engine_over};
 ghost use Rattle.hook_machine.specs.Rest.{rest, rest_with};
 ghost use Rattle.hook_machine.specs.Jobs.{job_left, left_from};
-ghost use Rattle.hook_machine.specs.Moves.{Does, Moves, Shrinks, room_of, still_left, Turns, IsOver};
+ghost use Rattle.hook_machine.specs.Moves.{Does, Moves, Shrinks, room_of, still_left, TurnsBy, IsOver};
 
 use crate::asking::{invocation_turn, waiting_turn};
 use crate::fault::RunFault;
-use crate::frame::{Frame, Move, Stack};
+use crate::frame::{Frame, Move, Pace, Stack};
 use crate::replacing::{begin_text, shown_turn, text_turn};
 use crate::state::State;
 use crate::turning::{begin_action, begin_filter, pass_turn};
@@ -51,15 +51,16 @@ fn frame_turn<S: Stated>(
     stack: &mut Stack,
     frame: Frame,
     cache: &mut PieceCache,
+    pace: Pace,
 ) -> Result<Move, RunFault>
-    ensures moves { Moves (engine_over S.says S.number plugins.now)
+    ensures moves { Moves pace (engine_over S.says S.number plugins.now)
         (rest (engine_over S.says S.number plugins.now) state.old (frame ∷ stack.old)) result state.new stack.new }
     ensures grows { Shrinks 1 result stack.old stack.new }
 {
     match frame {
-        Frame::Pass(pass) => pass_turn(plugins, state, stack, pass),
-        Frame::Invocation(invoked) => invocation_turn(plugins, state, stack, invoked, cache),
-        Frame::Shortcodes(pass) => text_turn(plugins, state, stack, pass),
+        Frame::Pass(pass) => pass_turn(plugins, state, stack, pass, pace),
+        Frame::Invocation(invoked) => invocation_turn(plugins, state, stack, invoked, cache, pace),
+        Frame::Shortcodes(pass) => text_turn(plugins, state, stack, pass, pace),
     }
 }
 
@@ -70,8 +71,9 @@ fn result_turn<S: Stated>(
     stack: &mut Stack,
     frame: Frame,
     text: Text,
+    pace: Pace,
 ) -> Result<Move, RunFault>
-    ensures moves { Moves (engine_over S.says S.number plugins.now)
+    ensures moves { Moves pace (engine_over S.says S.number plugins.now)
         (rest_with (engine_over S.says S.number plugins.now) state.old (frame ∷ stack.old) text) result state.new
         stack.new }
     ensures shrinks { Shrinks (room_of frame) result stack.old stack.new }
@@ -80,10 +82,10 @@ fn result_turn<S: Stated>(
         Frame::Pass(pass) => {
             let mut pass = pass;
             pass.hand(state.alloc(), text);
-            pass_turn(plugins, state, stack, pass)
+            pass_turn(plugins, state, stack, pass, pace)
         }
-        Frame::Invocation(invoked) => waiting_turn(plugins, state, stack, invoked, text),
-        Frame::Shortcodes(pass) => shown_turn(plugins, state, stack, pass, text),
+        Frame::Invocation(invoked) => waiting_turn(plugins, state, stack, invoked, text, pace),
+        Frame::Shortcodes(pass) => shown_turn(plugins, state, stack, pass, text, pace),
     }
 }
 
@@ -93,8 +95,9 @@ fn hand_on<S: Stated>(
     state: &mut State,
     stack: &mut Stack,
     moved: Move,
+    pace: Pace,
 ) -> Result<Turn, RunFault>
-    ensures turns { Turns (still_left (engine_over S.says S.number plugins.now) moved state.old stack.old) result
+    ensures turns { TurnsBy pace (still_left (engine_over S.says S.number plugins.now) moved state.old stack.old) result
         state.new (rest (engine_over S.says S.number plugins.now) state.new stack.new) }
     ensures over { IsOver result stack.new }
 {
@@ -104,7 +107,7 @@ fn hand_on<S: Stated>(
             Move::Turned => return Ok(Turn::More),
             Move::Handed(text) => match stack.take_first() {
                 None => return Ok(Turn::Done(text)),
-                Some(frame) => moved = result_turn(plugins, state, stack, frame, text)?,
+                Some(frame) => moved = result_turn(plugins, state, stack, frame, text, pace)?,
             },
         }
     }
@@ -117,16 +120,24 @@ pub fn begin<S: Stated>(
     stack: &mut Stack,
     job: Job,
     cache: &mut PieceCache,
+    pace: Pace,
 ) -> Result<Move, RunFault>
-    ensures moves { Does (engine_over S.says S.number plugins.now)
+    ensures moves { Does pace (engine_over S.says S.number plugins.now)
         (λ engine. job_left engine state.old job) stack.old result state.new stack.new }
 {
     match job {
         Job::Filters { hook, value, args } => {
-            begin_filter(plugins, state, stack, hook.as_str(), value, args)
+            begin_filter(plugins, state, stack, hook.as_str(), value, args, pace)
         }
-        Job::Action { hook, args } => begin_action(plugins, state, stack, hook.as_str(), args),
-        Job::Shortcodes { text } => begin_text(plugins, state, stack, text, cache),
+        Job::Action { hook, args } => begin_action(
+            plugins,
+            state,
+            stack,
+            hook.as_str(),
+            args,
+            pace,
+        ),
+        Job::Shortcodes { text } => begin_text(plugins, state, stack, text, cache, pace),
     }
 }
 
@@ -137,16 +148,17 @@ fn move_on<S: Stated>(
     stack: &mut Stack,
     job: Option<Job>,
     cache: &mut PieceCache,
+    pace: Pace,
 ) -> Result<Move, RunFault>
-    ensures moves { Moves (engine_over S.says S.number plugins.now)
+    ensures moves { Moves pace (engine_over S.says S.number plugins.now)
         (left_from (engine_over S.says S.number plugins.now) state.old job stack.old) result state.new stack.new }
 {
     if let Some(job) = job {
-        return begin(plugins, state, stack, job, cache);
+        return begin(plugins, state, stack, job, cache, pace);
     }
     match stack.take_first() {
         None => Ok(Move::Handed(Text::empty(state.alloc()))),
-        Some(frame) => frame_turn(plugins, state, stack, frame, cache),
+        Some(frame) => frame_turn(plugins, state, stack, frame, cache, pace),
     }
 }
 
@@ -157,16 +169,17 @@ pub fn next_turn<S: Stated>(
     stack: &mut Stack,
     job: Option<Job>,
     cache: &mut PieceCache,
+    pace: Pace,
 ) -> Result<Turn, RunFault>
-    ensures turns { Turns (left_from (engine_over S.says S.number plugins.now) state.old job stack.old) result
+    ensures turns { TurnsBy pace (left_from (engine_over S.says S.number plugins.now) state.old job stack.old) result
         state.new (rest (engine_over S.says S.number plugins.now) state.new stack.new) }
     ensures over { IsOver result stack.new }
 {
-    let moved = move_on(plugins, state, stack, job, cache)?;
-    hand_on(plugins, state, stack, moved)
+    let moved = move_on(plugins, state, stack, job, cache, pace)?;
+    hand_on(plugins, state, stack, moved, pace)
 }
 
-/// Makes turn after turn, to the end.
+/// Goes on to the end, without stopping where it needn't.
 pub fn all_turns<S: Stated>(
     plugins: &Plugins<S>,
     state: &mut State,
@@ -178,11 +191,11 @@ pub fn all_turns<S: Stated>(
         (left_from (engine_over S.says S.number plugins.now) state.old job stack.old) result state.new }
     ensures over { OnOk result (stack.new ≡ []) }
 {
-    let mut turned = next_turn(plugins, state, stack, job, cache)?;
+    let mut turned = next_turn(plugins, state, stack, job, cache, Pace::Through)?;
     'turns: loop {
         match turned {
             Turn::Done(text) => return Ok(text),
-            Turn::More => turned = next_turn(plugins, state, stack, None, cache)?,
+            Turn::More => turned = next_turn(plugins, state, stack, None, cache, Pace::Through)?,
         }
     }
 }

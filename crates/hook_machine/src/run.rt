@@ -5,7 +5,7 @@ ghost use Rattle.hook_machine.specs.Outcomes.{RunsAs, engine_over};
 ghost use Rattle.hook_machine.specs.Runs.{fault_in};
 
 use crate::fault::RunFault;
-use crate::frame::Stack;
+use crate::frame::{Pace, Stack};
 use crate::pass::copies;
 use crate::paused::PausedRun;
 use crate::resuming::{Job, Turn, next_turn, run_job};
@@ -153,7 +153,8 @@ impl<'a, S: Stated> Run<'a, S> {
     ghost use Rattle.hook_machine.specs.World.{fresh, loaded};
     ghost use Rattle.hook_machine.specs.Meaning.{Engine, filtered, acted, replaced};
     ghost use Rattle.hook_machine.specs.Outcomes.{RunsAs, engine_with};
-    ghost use Rattle.hook_machine.specs.Moves.{Turns};
+    ghost use Rattle.hook_registry.specs.Table.{has};
+    ghost use Rattle.hook_machine.specs.Moves.{Turns, TurnsBy};
     ghost use Rattle.hook_machine.specs.Jobs.{job_left};
     ghost use Rattle.hook_machine.specs.Runs.{world_of, fault_of, engine_of, left_of, CanBegin, IsIdle, IsIdleAtEnd};
     ghost use Rattle.hook_machine.specs.Runs.{Keeps, paused_world, paused_left, IsPausedIdle};
@@ -322,13 +323,39 @@ impl<'a, S: Stated> Run<'a, S> {
         ensures idle { IsIdleAtEnd result self.new }
         ensures keeps { Keeps S.says S.number self.old result self.new }
     {
+        self.go_on(Pace::ByTurns, cache)
+    }
+
+    /// Goes on with the job: to its end, or to an invocation after which there is more to do. By turns that is the next
+    /// one; a run that goes through passes over those that it needn't stop at.
+    pub fn go_on(&mut self, pace: Pace, cache: &mut PieceCache) -> Result<Turn, RunFault>
+        ensures turns { fault_of self.old ≡ None →
+            TurnsBy pace (left_of (engine_of S.says S.number self.old) self.old) result (world_of self.new)
+            (left_of (engine_of S.says S.number self.old) self.new) }
+        ensures idle { IsIdleAtEnd result self.new }
+        ensures keeps { Keeps S.says S.number self.old result self.new }
+    {
         if let Some(fault) = self.fault {
             return Err(fault);
         }
         let job = self.job.take();
-        let result = next_turn(self.plugins, &mut self.state, &mut self.stack, job, cache);
+        let result = next_turn(
+            self.plugins,
+            &mut self.state,
+            &mut self.stack,
+            job,
+            cache,
+            pace,
+        );
         self.fault = fault_in(&result);
         result
+    }
+
+    /// Returns whether anything is registered on a hook (Code Reference, has_filter).
+    pub fn is_hooked(&self, hook: &str) -> bool
+        ensures { result ≡ has (world_of self.now).table hook.now }
+    {
+        self.state.is_hooked(hook)
     }
 
     /// Prints a text of the page's own, after what was printed so far.

@@ -1,19 +1,20 @@
 //! How a stopped run goes on, from one invocation to the next.
-ghost use Rattle.std.specs.Prelude.{◌≡◌, ℕ, List, IfOk, IfErr, OnOk, take};
-ghost use Rattle.hook_machine.specs.Meaning.{pass, filter_pass, action_pass, invoke};
+ghost use Rattle.std.specs.Prelude.{◌≡◌, ◌<◌, ℕ, List, IfOk, IfErr, OnOk, take};
+ghost use Rattle.hook_machine.specs.World.{World};
+ghost use Rattle.hook_machine.specs.Meaning.{Engine, pass, filter_pass, action_pass, invoke};
 ghost use Rattle.hook_machine.specs.Meaning.{hook_call, arguments, value_after};
 ghost use Rattle.hook_machine.specs.Outcomes.{engine_over};
-ghost use Rattle.hook_machine.specs.Rest.{begun, pass_left};
-ghost use Rattle.hook_machine.specs.Moves.{Does, Shrinks, Invokes};
+ghost use Rattle.hook_machine.specs.Rest.{begun, pass_left, pending_left};
+ghost use Rattle.hook_machine.specs.Moves.{Does, Shrinks, Invokes, MayAnswer, went_left};
 
 use crate::fault::RunFault;
-use crate::frame::{Frame, HookPass, Invoked, Move, PassParts, Pending, Stack};
+use crate::frame::{Frame, HookPass, Invoked, Move, Pace, PassParts, Pending, Stack, Went};
 use crate::machine::reply_of;
 use crate::pass::PassKind;
 use crate::state::State;
 use call_plans::Position;
 use callback_store::{Plugins, Stated};
-use hook_changes::{HookName, Listed, NameFault, Text};
+use hook_changes::{HookName, Listed, NameFault, Text, Then};
 use hook_registry::Entry;
 use std::alloc::AllocError;
 
@@ -27,6 +28,7 @@ fn begun<S: Stated>(
     ensures ok { IfOk result (λ pending. (state.new, pending)
         ≡ begun (engine_over S.says S.number plugins.now) state.old invoked.now.callback invoked.now.call) }
     ensures err { IfErr result (λ fault. fault ≡ RunFault.OutOfMemory) }
+    ensures calls { state.new.calls ≡ state.old.calls }
 {
     let callback = invoked.callback();
     if callback.number() == 0 {
@@ -37,23 +39,64 @@ fn begun<S: Stated>(
     Ok(Pending::Next(reply.next))
 }
 
-/// Invokes a callback, and keeps how it goes on.
+/// Returns what an invocation came to whose next step is this.
+fn went(invoked: Invoked, pending: Pending, pace: Pace) -> Went
+    ensures left { (engine : Engine) (world : World)
+        → pending_left engine world invoked.callback invoked.call pending ≡ went_left engine world result }
+    ensures may { MayAnswer pace result }
+{
+    let mut invoked = invoked;
+    let waits = match pace {
+        Pace::ByTurns => pending,
+        Pace::Through => match pending {
+            Pending::Next(Then::Answer(text)) => return Went::Answered(invoked, text),
+            other => other,
+        },
+    };
+    invoked.set_pending(waits);
+    Went::Waits(invoked)
+}
+
+/// Invokes a callback.
+pub fn invoke<S: Stated>(
+    plugins: &Plugins<S>,
+    state: &mut State,
+    invoked: Invoked,
+    pace: Pace,
+) -> Result<Went, RunFault>
+    ensures invokes { Invokes (engine_over S.says S.number plugins.now)
+        (invoke (engine_over S.says S.number plugins.now) state.old invoked.callback invoked.call) result state.new }
+    ensures may { IfOk result (MayAnswer pace) }
+    ensures calls { OnOk result (state.new.calls < state.old.calls) }
+{
+    state.take_call()?;
+    let pending = begun(plugins, state, &invoked)?;
+    Ok(went(invoked, pending, pace))
+}
+
+/// Invokes a callback, and hands its answer on or keeps how it goes on.
 pub fn invoke_turn<S: Stated>(
     plugins: &Plugins<S>,
     state: &mut State,
     stack: &mut Stack,
     invoked: Invoked,
+    pace: Pace,
 ) -> Result<Move, RunFault>
-    ensures moves { Does (engine_over S.says S.number plugins.now)
+    ensures moves { Does pace (engine_over S.says S.number plugins.now)
         (λ engine. invoke engine state.old invoked.callback invoked.call) stack.old result state.new stack.new }
-    ensures invokes { Invokes result }
+    ensures shrinks { Shrinks 0 result stack.old stack.new }
 {
-    let mut invoked = invoked;
-    state.take_call()?;
-    let pending = begun(plugins, state, &invoked)?;
-    invoked.set_pending(pending);
-    stack.put_first(Frame::Invocation(invoked))?;
-    Ok(Move::Turned)
+    let went = invoke(plugins, state, invoked, pace)?;
+    match went {
+        Went::Answered(invoked, text) => {
+            state.keep_spare(invoked);
+            Ok(Move::Handed(text))
+        }
+        Went::Waits(invoked) => {
+            stack.put_first(Frame::Invocation(invoked))?;
+            Ok(Move::Turned)
+        }
+    }
 }
 
 /// Makes the invocation of a pass's next callback. A filter's value moves into its call.
@@ -78,27 +121,41 @@ fn next_invocation(
     Ok(invoked)
 }
 
-/// Goes on with a pass: its next entry is invoked, or it leaves its hook.
+/// Goes on with a pass: its next entry is invoked, or it leaves its hook. A run that doesn't stop goes on with each
+/// callback's answer, up to the first callback that asks for something.
 pub fn pass_turn<S: Stated>(
     plugins: &Plugins<S>,
     state: &mut State,
     stack: &mut Stack,
     pass: HookPass,
+    pace: Pace,
 ) -> Result<Move, RunFault>
-    ensures moves { Does (engine_over S.says S.number plugins.now)
+    ensures moves { Does pace (engine_over S.says S.number plugins.now)
         (λ engine. pass_left engine state.old pass) stack.old result state.new stack.new }
     ensures shrinks { Shrinks 0 result stack.old stack.new }
 {
     let mut pass = pass;
-    match pass.next(state)? {
-        None => {
-            state.leave();
-            Ok(Move::Handed(pass.take_value(state.alloc())))
-        }
-        Some(entry) => {
-            let invoked = next_invocation(state, &mut pass, entry)?;
-            stack.put_first(Frame::Pass(pass))?;
-            invoke_turn(plugins, state, stack, invoked)
+    'entries: loop {
+        match pass.next(state)? {
+            None => {
+                state.leave();
+                return Ok(Move::Handed(pass.take_value(state.alloc())));
+            }
+            Some(entry) => {
+                let invoked = next_invocation(state, &mut pass, entry)?;
+                let went = invoke(plugins, state, invoked, pace)?;
+                match went {
+                    Went::Answered(invoked, answer) => {
+                        state.keep_spare(invoked);
+                        pass.hand(state.alloc(), answer);
+                    }
+                    Went::Waits(invoked) => {
+                        stack.put_first(Frame::Pass(pass))?;
+                        stack.put_first(Frame::Invocation(invoked))?;
+                        return Ok(Move::Turned);
+                    }
+                }
+            }
         }
     }
 }
@@ -112,8 +169,9 @@ pub fn begin_pass<S: Stated>(
     hook: HookName,
     value: Text,
     args: Listed<Text>,
+    pace: Pace,
 ) -> Result<Move, RunFault>
-    ensures moves { Does (engine_over S.says S.number plugins.now)
+    ensures moves { Does pace (engine_over S.says S.number plugins.now)
         (λ engine. pass (invoke engine) kind state.old hook value args) stack.old result state.new stack.new }
     ensures shrinks { Shrinks 0 result stack.old stack.new }
 {
@@ -125,7 +183,7 @@ pub fn begin_pass<S: Stated>(
         position: Position::start(hook),
     };
     let pass = HookPass::new(state.alloc(), parts)?;
-    pass_turn(plugins, state, stack, pass)
+    pass_turn(plugins, state, stack, pass, pace)
 }
 
 /// Begins a filter pass.
@@ -136,13 +194,17 @@ pub fn begin_filter<S: Stated>(
     hook: &str,
     value: Text,
     args: Listed<Text>,
+    pace: Pace,
 ) -> Result<Move, RunFault>
-    ensures moves { Does (engine_over S.says S.number plugins.now)
+    ensures moves { Does pace (engine_over S.says S.number plugins.now)
         (λ engine. filter_pass (invoke engine) state.old hook.now value args) stack.old result state.new stack.new }
     ensures shrinks { Shrinks 0 result stack.old stack.new }
 {
     match HookName::read(state.alloc(), hook) {
-        Ok(hook) => begin_pass(plugins, state, stack, PassKind::Filter, hook, value, args),
+        Ok(hook) => {
+            let kind = PassKind::Filter;
+            begin_pass(plugins, state, stack, kind, hook, value, args, pace)
+        }
         Err(NameFault::BadName) => Ok(Move::Handed(value)),
         Err(NameFault::OutOfMemory) => Err(RunFault::OutOfMemory),
     }
@@ -155,8 +217,9 @@ pub fn begin_action<S: Stated>(
     stack: &mut Stack,
     hook: &str,
     args: Listed<Text>,
+    pace: Pace,
 ) -> Result<Move, RunFault>
-    ensures moves { Does (engine_over S.says S.number plugins.now)
+    ensures moves { Does pace (engine_over S.says S.number plugins.now)
         (λ engine. action_pass (invoke engine) state.old hook.now args) stack.old result state.new stack.new }
     ensures shrinks { Shrinks 0 result stack.old stack.new }
 {
@@ -164,7 +227,8 @@ pub fn begin_action<S: Stated>(
         Ok(hook) => {
             state.fire(&hook)?;
             let nothing = Text::empty(state.alloc());
-            begin_pass(plugins, state, stack, PassKind::Action, hook, nothing, args)
+            let kind = PassKind::Action;
+            begin_pass(plugins, state, stack, kind, hook, nothing, args, pace)
         }
         Err(NameFault::BadName) => Ok(Move::Handed(Text::empty(state.alloc()))),
         Err(NameFault::OutOfMemory) => Err(RunFault::OutOfMemory),

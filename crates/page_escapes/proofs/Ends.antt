@@ -1,11 +1,11 @@
 -- What replacing each `]]>` makes of a text.
-use Rattle.std.proofs.Common.{◌≡◌, ◌==◌, ◌&&◌, ◌<◌, ℕ, get_or, zero, suc, List, [], ◌∷◌, ◌++◌, length, take, drop, codes, if◌then◌else◌, refl, sym, ap}
+use Rattle.std.proofs.Common.{◌≡◌, ◌==◌, ◌&&◌, ◌<◌, ◌+◌, ℕ, get_or, zero, suc, List, [], ◌∷◌, ◌++◌, length, take, drop, codes, if◌then◌else◌, refl, sym, ap}
 use Rattle.std.proofs.Common.{◌∙◌, ⊎_elim, append-nil, take-append-drop, length-take, length-drop, get_or-drop, subst, ◌≤◌, arith, Bor, Option, Some, None}
 use Rattle.std.proofs.Common.{is_some, true, false}
 use Rattle.std.proofs.lemmas.Bool.{false≢true}
 use Rattle.std.proofs.lemmas.List.{get_or_append_left}
 use Rattle.std.proofs.lemmas.Bool.Decides.{nat_tests}
-use Rattle.memchr.specs.Find.{OccursAt, FindsNeedle}
+use Rattle.memchr.specs.Find.{OccursAt, FindsNeedle, IsFirstByte, is_byte}
 use Rattle.std.specs.Str.Pattern.{FindsText, LacksTextAt, HasTextAt}
 use Rattle.std.specs.Str.Replace.{ReplacesMatches}
 use Rattle.page_escapes.specs.Escapes.{ends_escaped, ends_escaped_after}
@@ -95,3 +95,11 @@ stands s rest i same =
 pub lacks_end : (s : List ℕ) (found : Option ℕ) → FindsNeedle s end 0 found → is_some found ≡ false → ends_escaped s ≡ s
 lacks_end s None nowhere none = without s (λ i inside rest same. nowhere i (omega arith) (omega (arith, inside)) (stands s rest i same))
 lacks_end s (Some k) first none = absurd (false≢true (sym none))
+
+-- nor does an end begin where there is no bracket
+pub lacks_bracket : (s : List ℕ) (found : Option ℕ) → IsFirstByte (is_byte 93) s found → is_some found ≡ false → ends_escaped s ≡ s
+lacks_bracket s None nowhere none =
+    without s (λ i inside rest same. let there = stands s rest i same in
+    let at : i + 0 ≡ i = omega arith in
+    nowhere i (omega arith) (omega (arith, there.fits)) (ap (is_byte 93) (ap (λ j. get_or s j 0) (sym at) ∙ there.reads 0 (omega arith))))
+lacks_bracket s (Some k) first none = absurd (false≢true (sym none))

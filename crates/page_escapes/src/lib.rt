@@ -6,7 +6,7 @@ ghost use Rattle.std.specs.Char.{encode_utf8};
 ghost use Rattle.page_escapes.specs.Escapes.{ends_escaped, html_escaped};
 
 use hook_changes::Text;
-use memchr::{memchr2, memchr3, memmem};
+use memchr::{memchr, memchr2, memchr3, memmem};
 use std::alloc::{AllocError, Global};
 
 /// Writes each `]]>` of a text as `]]&gt;` (Code Reference, the_content). A text without one is returned and not
@@ -25,7 +25,9 @@ pub fn escape_ends(alloc: Global, text: Text) -> Result<Text, AllocError>
 fn has_no_end(text: &str) -> bool
     ensures { IsTrue result → ends_escaped text.now ≡ text.now }
 {
-    memmem::find(text.as_bytes(), b"]]>").is_none()
+    // Most texts have no bracket, and one byte is found faster than three.
+    let bytes = text.as_bytes();
+    memchr(b']', bytes).is_none() || memmem::find(bytes, b"]]>").is_none()
 }
 
 /// Writes `&`, `<`, `>`, `"` and `'` of a text as entities. An entity that the text has is escaped too (Code Reference,

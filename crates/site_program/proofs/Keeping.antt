@@ -1,7 +1,8 @@
 -- What is kept of the rows is still theirs after a command.
-use Rattle.std.proofs.Common.{◌≡◌, ℕ, List, [], ◌∷◌, ◌++◌, Option, None, Result, Ok, Err, sym, ap, subst}
+use Rattle.std.proofs.Common.{◌≡◌, ◌∙◌, ℕ, List, [], ◌∷◌, ◌++◌, Option, None, Result, Ok, Err, true, false, cond, sym, ap, subst}
+use Rattle.std.specs.FinMap.{insert}
 use Rattle.std.specs.Prelude.{Bool, IfOk, OnOk, OnErr}
-use Rattle.std.proofs.lemmas.List.Elements.{All-nil, All-push}
+use Rattle.std.proofs.lemmas.List.Elements.{All-nil, All-push, All-weaker}
 use Rattle.callback_store.specs.Shape.{Shape}
 use Rattle.hook_machine.specs.World.{Text}
 use Rattle.serde_json.specs.Data.{Data}
@@ -16,7 +17,8 @@ use Rattle.site_edits.specs.Edits.{put, edit, delete, set_option, set_active}
 use Rattle.site_edits.specs.Templates.{set_template}
 use Rattle.site_edits.proofs.After.{After, put-after, edit-after, delete-after, option-after, active-after, template-after}
 use Rattle.site_program.specs.Requests.{Texts, found_by}
-use Rattle.site_program.specs.Kept.{AreFound, KeepsUp}
+use Rattle.site_program.specs.Kept.{AreFound, KeepsUp, decides_what_is_found}
+use Rattle.site_program.proofs.OtherOptions.{finds_the_same}
 
 -- what holds of the rows before a command, and of those that it makes, holds of the rows that it leaves
 pub left : {E : Type 0} (P : Rows → Type 0) (result : Result SiteReply E) (old new : Rows) (done : Rows × ReplyData)
@@ -81,6 +83,30 @@ module _ (rows : Rows) (options templates : Option Texts) (active : Option (List
 
   pub option-up : (name value : Text) → After (λ r. KeepsUp r None templates active []) (set_option rows name value)
   option-up name value = option-after (λ r. KeepsUp r None templates active []) rows without_options with_options name value
+
+  -- another option is one on which nothing depends that was found
+  pub with_found : KeepsUp rows None templates active kept
+  with_found = record { options = tt; templates = up.templates; active = up.active; found = up.found }
+
+  pub other-up : (name value : Text) → decides_what_is_found name ≡ false → After (λ r. KeepsUp r None templates active kept) (set_option rows name value)
+  unfolding set_option
+  other-up name value unread = either _ _ _ with_other with_found
+    where
+      changed : Rows
+      changed = record rows { options = insert rows.options name value }
+
+      with_other : KeepsUp changed None templates active kept
+      with_other = record {
+        options = tt;
+        templates = up.templates;
+        active = up.active;
+        found = All-weaker (λ t. t.1 ≡ found_by rows t.0) (λ t. t.1 ≡ found_by changed t.0) (λ t is. is ∙ sym (finds_the_same rows name value unread t.0)) kept up.found;
+      }
+
+      either : (b : Bool) (p q : Rows × ReplyData) → KeepsUp p.0 None templates active kept → KeepsUp q.0 None templates active kept
+          → KeepsUp (cond b p q).0 None templates active kept
+      either true p q x y = x
+      either false p q x y = y
 
   pub without_active : KeepsUp rows options templates None kept
   without_active = record { options = up.options; templates = up.templates; active = tt; found = up.found }

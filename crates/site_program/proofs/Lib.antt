@@ -9,6 +9,7 @@ pub mod Refusals
 pub mod UnderNames
 pub mod Limits
 pub mod Rebuilding
-pub mod Keeping
+pub mod OtherOptions
+mod Keeping
 pub mod Bounds
 pub mod Isolation

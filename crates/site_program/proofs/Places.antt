@@ -1,5 +1,5 @@
 -- Lemmas on open pages and their places.
-use Rattle.std.proofs.Common.{arith, ◌≡◌, ℕ, ◌+◌, ◌-◌, ◌<◌, ◌≤◌, List, [], ◌∷◌, ◌∙◌, Option, Some, None, Ok, Bool, true, refl, sym, subst, ap}
+use Rattle.std.proofs.Common.{arith, ◌≡◌, ℕ, ◌+◌, ◌-◌, ◌<◌, ◌≤◌, List, [], ◌∷◌, ◌∙◌, Option, Some, None, Ok, true, refl, sym, subst, ap}
 use Rattle.std.proofs.Common.{length, get_or}
 use Rattle.std.specs.Prelude.{is_none, option_map, position, nat_lt, map, slice_set}
 use Rattle.std.specs.List.{position_or_len}

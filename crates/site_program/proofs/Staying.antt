@@ -1,5 +1,5 @@
 -- No line changes an open page but one that gives it turns.
-use Rattle.std.proofs.Common.{◌≡◌, ◌≢◌, inl, inr, ℕ, ◌-◌, List, [], ◌∷◌, ◌∙◌, Option, Some, None, true, false, refl, sym, subst, ap, length, get_or}
+use Rattle.std.proofs.Common.{◌≡◌, ◌≢◌, inl, inr, ℕ, ◌-◌, List, [], ◌∷◌, ◌∙◌, Option, Some, None, true, false, refl, sym, subst, ap, length}
 use Rattle.std.specs.Prelude.{nat_le, is_none, position, All}
 use Rattle.std.proofs.lemmas.Bool.{cond_both}
 use Rattle.std.proofs.lemmas.List.{get_or-set_other}

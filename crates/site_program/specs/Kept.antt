@@ -1,5 +1,5 @@
 -- What a site keeps of its rows from one request to the next: definitions for private clauses.
-use Rattle.std.specs.Prelude.{◌≡◌, ℕ, ◌+◌, List, length, Option, IfSome, All}
+use Rattle.std.specs.Prelude.{◌≡◌, ℕ, ◌+◌, Bool, ◌||◌, List, length, codes, bytes_eq, Option, IfSome, All}
 use Rattle.hook_machine.specs.World.{Text}
 use Rattle.post_tables.specs.Rows.{Rows}
 use Rattle.site_records.specs.declared.found.Found.{Found}
@@ -14,6 +14,10 @@ AreTrees texts trees = All (λ t. t.1 ≡ template_named t.0 texts) trees
 -- what is kept of each path is what it finds
 abbrev pub AreFound : Rows → List (Text × Found) → Type 0
 AreFound rows kept = All (λ t. t.1 ≡ found_by rows t.0) kept
+
+-- whether this is an option on which it depends what paths find
+abbrev pub decides_what_is_found : Text → Bool
+decides_what_is_found name = bytes_eq name (codes "posts_per_page") || bytes_eq name (codes "show_on_front") || bytes_eq name (codes "page_on_front")
 
 -- how many bytes the title and the content of a post have
 abbrev pub size_of : Post → ℕ

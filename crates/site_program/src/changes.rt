@@ -1,4 +1,5 @@
 //! The commands that change what a site has stored. Each first forgets what it may change of what is kept.
+ghost use Rattle.std.specs.Prelude.{◌≡◌};
 ghost use Rattle.callback_store.specs.Shape.{shapes_of};
 ghost use Rattle.serde_json.specs.View.{view};
 ghost use Rattle.post_tables.specs.Rows.{edit_by};
@@ -6,6 +7,7 @@ ghost use Rattle.site_edits.specs.Edits.{put, edit, delete, set_option, set_acti
 ghost use Rattle.site_edits.specs.Templates.{set_template};
 ghost use Rattle.site_edits.specs.Imports.{import};
 ghost use Rattle.site_edits.specs.Carried.{CarriesOut};
+ghost use Rattle.site_program.specs.Kept.{decides_what_is_found};
 
 use crate::stored::Stored;
 use callback_store::{Plugins, Stated};
@@ -68,6 +70,9 @@ impl Stored {
         ensures { CarriesOut self.old (set_option self.old name.now value.now) result self.new }
     {
         self.options = None;
+        if !decides_what_is_found(name) {
+            return set_option(&mut self.tables, name, value);
+        }
         self.found = Listed::empty(alloc);
         set_option(&mut self.tables, name, value)
     }
@@ -122,4 +127,11 @@ impl Stored {
         *found = Listed::empty(alloc);
         import(alloc, plugins, tables, site)
     }
+}
+
+/// Returns whether it depends on this option what paths find. No other option changes that.
+fn decides_what_is_found(name: &str) -> bool
+    ensures { result ≡ decides_what_is_found name.now }
+{
+    name == "posts_per_page" || name == "show_on_front" || name == "page_on_front"
 }

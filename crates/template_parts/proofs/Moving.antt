@@ -9,22 +9,28 @@ use Rattle.hook_machine.specs.declared.fault.RunFault.TheVariants.{TooManyCalls,
 use Rattle.hook_machine.specs.declared.resuming.Turn as result
 use Rattle.hook_machine.specs.declared.resuming.Turn.TheVariants as turn
 use Rattle.hook_machine.specs.declared.resuming.Job.TheVariants.{Filters, Action}
-use Rattle.hook_machine.specs.Trace.{Trace, Done, Refused, Turn, and_then}
+use Rattle.hook_machine.specs.Trace.{Trace, Done, Turn, outcome_of}
 use Rattle.hook_machine.specs.Meaning.{Engine, filtered, acted}
 use Rattle.hook_machine.specs.Jobs.{job_left}
+use Rattle.hook_machine.specs.declared.frame.Pace.{Pace}
+use Rattle.hook_machine.specs.declared.frame.Pace.TheVariants.{ByTurns}
 use Rattle.hook_machine.specs.Moves as run
+use Rattle.hook_machine.specs.Moves.{Leads}
+use Rattle.hook_machine.proofs.Going.{leads_here, leads_then, leads_under, leads_next, same_end}
 use Rattle.template_parts.specs.declared.settings.Settings.{Settings}
 use Rattle.template_parts.specs.declared.item.Shown.{Shown}
 use Rattle.template_parts.specs.declared.item.Hand.{Hand}
 use Rattle.template_parts.specs.declared.item.Hand.TheVariants.{Printed, Dropped}
 use Rattle.template_parts.specs.declared.steps.Step.{Step}
-use Rattle.template_parts.specs.Pages.{Work, Placed, over, each, placed_pass, shown_pass, action_pass, item_pass, page_items, page_pass}
+use Rattle.template_parts.specs.Pages.{Work, Placed, IsPage, IsRefusedBy, over, each, placed_pass, shown_pass, action_pass, item_pass, page_items, page_pass}
 use Rattle.template_parts.specs.declared.place.Hook.{Hook}
 use Rattle.template_parts.specs.declared.place.Stored.{Stored}
 use Rattle.template_parts.specs.declared.place.Place.TheVariants as place
 use Rattle.template_parts.specs.Places.{hook_name, stored_item, item_at, post_at, step_items, items_left}
 use Rattle.template_parts.specs.Left.{shown_as, handed_on, begun, item_or_nothing, step_pass, then_items, Moves, Stops}
-use Rattle.template_parts.specs.Page.{Turns}
+use Rattle.template_parts.specs.declared.page.PageTurn.{PageTurn}
+use Rattle.template_parts.specs.declared.page.PageTurn.TheVariants as page
+use Rattle.template_parts.specs.Page.{Turns, Goes, IsDoneBy}
 
 -- something that is there
 pub busy : {A P : Type 0} (x : A) → Some x ≡ None → P
@@ -92,26 +98,55 @@ module _ (engine : Engine) (settings : Settings) where
         ∙ ap (λ work. then_items engine settings work (items_left settings posts rest)) first)
 
   module _ (hand : Hand) (items : List Placed) (world : World) where
+    -- what a job passes over, the page passes over
+    through_job : (w : World) (xs : List World) (t : Trace Text)
+        → then_items engine settings (begun w (run.through xs t) (Some hand)) items ≡ run.through xs (then_items engine settings (begun w t (Some hand)) items)
+    through_job w [] t = refl
+    through_job w (x ∷ xs) t = ap (Turn x) (through_job w xs t)
+
     -- the job under way is refused
-    pub refused_move : (left now : Trace Text) (why : RunFault) (w v : World) (n : Work) → run.Turns left (Err why) w now
-        → Moves (then_items engine settings (begun world left (Some hand)) items) (Err why) v n
-    refused_move left now TooManyCalls w v n is = rw is refl
-    refused_move left now TooDeep w v n is = rw is refl
-    refused_move left now OutOfMemory w v n is = tt
+    pub refused_move : (pace : Pace) (left now : Trace Text) (why : RunFault) (w v : World) (n : Work) → run.TurnsBy pace left (Err why) w now
+        → Moves pace (then_items engine settings (begun world left (Some hand)) items) (Err why) v n
+    refused_move pace left now TooManyCalls w v n is = leads_under (λ t. then_items engine settings (begun world t (Some hand)) items) (through_job world) is
+    refused_move pace left now TooDeep w v n is = leads_under (λ t. then_items engine settings (begun world t (Some hand)) items) (through_job world) is
+    refused_move pace left now OutOfMemory w v n is = tt
 
     -- the job under way has made an invocation
-    pub more_move : (left now : Trace Text) (x : result.Turn) (later : World) → left ≡ run.trace_of_turn x later now → x ≡ turn.More
-        → then_items engine settings (begun world left (Some hand)) items ≡ Turn later (then_items engine settings (begun later now (Some hand)) items)
-    more_move left now x later is more = rw (is, more) refl
+    pub more_move : (pace : Pace) (left now : Trace Text) (x : result.Turn) (later : World) → Leads pace left (run.trace_of_turn x later now) → x ≡ turn.More
+        → Leads pace (then_items engine settings (begun world left (Some hand)) items)
+        (Turn later (then_items engine settings (begun later now (Some hand)) items))
+    more_move pace left now x later is more =
+        leads_under (λ t. then_items engine settings (begun world t (Some hand)) items) (through_job world) (rw more at is)
 
     -- the job under way is done, and its result was handed on
-    pub done_move : (left now : Trace Text) (x : result.Turn) (text : Text) (later last : World) → left ≡ run.trace_of_turn x later now → x ≡ turn.Done text
+    pub done_move : (pace : Pace) (left now : Trace Text) (x : result.Turn) (text : Text) (later last : World)
+        → Leads pace left (run.trace_of_turn x later now) → x ≡ turn.Done text
         → handed_on hand later text ≡ Done last tt
-        → then_items engine settings (begun world left (Some hand)) items ≡ each (placed_pass engine settings) last items
-    done_move left now x text later last is done handed = rw (is, done, handed) refl
+        → Leads pace (then_items engine settings (begun world left (Some hand)) items) (each (placed_pass engine settings) last items)
+    done_move pace left now x text later last is done handed =
+        leads_then (leads_under (λ t. then_items engine settings (begun world t (Some hand)) items) (through_job world) (rw done at is))
+        (leads_here (ap (λ work. then_items engine settings work items) handed))
 
 -- a page stops with a fault
-pub refused_stop : (left now last : Work) (why : RunFault) (w v : World) → Stops left (Err why) w now → Turns left (Err why) v last
-refused_stop left now last TooManyCalls w v is = is
-refused_stop left now last TooDeep w v is = is
-refused_stop left now last OutOfMemory w v is = tt
+pub refused_stop : (pace : Pace) (left now last : Work) (why : RunFault) (w v : World) → Stops pace left (Err why) w now → Goes pace left (Err why) v last
+refused_stop pace left now last TooManyCalls w v is = is
+refused_stop pace left now last TooDeep w v is = is
+refused_stop pace left now last OutOfMemory w v is = tt
+
+-- by turns nothing is passed over
+pub goes_by_turns : (left now : Work) (result : Result PageTurn RunFault) (w : World) → Goes ByTurns left result w now → Turns left result w now
+goes_by_turns left now (Ok page.More) w is = leads_next is
+goes_by_turns left now (Ok (page.Done status bytes)) w is = record { world = is.world; done = leads_next is.done; whole = is.whole }
+goes_by_turns left now (Err TooManyCalls) w is = leads_next is
+goes_by_turns left now (Err TooDeep) w is = leads_next is
+goes_by_turns left now (Err OutOfMemory) w is = tt
+
+-- a page that is printed ends as what was left of it does
+pub print_refused : (pace : Pace) (left now all : Work) (why : RunFault) (w : World) → outcome_of all ≡ outcome_of left → Goes pace left (Err why) w now
+    → IsRefusedBy all why
+print_refused pace left now all TooManyCalls w e is = λ other. e ∙ sym (same_end is)
+print_refused pace left now all TooDeep w e is = λ other. e ∙ sym (same_end is)
+print_refused pace left now all OutOfMemory w e is = λ other. absurd (other refl)
+
+pub print_done : {pace : Pace} {left : Work} (all : Work) (text : Text) → outcome_of all ≡ outcome_of left → IsDoneBy pace left text → IsPage all text
+print_done all text e is = record { world = is.world; made = e ∙ sym (same_end is.done); whole = is.whole }

@@ -6,10 +6,12 @@ use Rattle.site_records.specs.declared.post.Post.{Post}
 use Rattle.template_trees.specs.declared.tree.Item.{Item}
 use Rattle.hook_machine.specs.World.{Text, World}
 use Rattle.hook_machine.specs.declared.fault.RunFault.{RunFault}
-use Rattle.hook_machine.specs.declared.fault.RunFault.TheVariants.{TooManyCalls, TooDeep, OutOfMemory}
+use Rattle.hook_machine.specs.declared.fault.RunFault.TheVariants.{OutOfMemory}
+use Rattle.hook_machine.specs.declared.frame.Pace.{Pace}
 use Rattle.hook_machine.specs.declared.run.Run.{Run}
-use Rattle.hook_machine.specs.Trace.{Trace, Done, Refused, Turn, and_then}
+use Rattle.hook_machine.specs.Trace.{Trace, Done, Turn, and_then}
 use Rattle.hook_machine.specs.Meaning.{Engine}
+use Rattle.hook_machine.specs.Moves.{LeadsOn}
 use Rattle.hook_machine.specs.Runs.{world_of, fault_of, engine_of, left_of, IsIdle, IsReady}
 use Rattle.page_escapes.specs.Escapes.{ends_escaped, html_escaped}
 use Rattle.template_parts.specs.declared.settings.Settings.{Settings}
@@ -108,21 +110,16 @@ work_of_move moved.Turned world now = Turn world now
 work_of_move moved.On world now = now
 work_of_move moved.Over world now = Done world tt
 
-abbrev pub Moves : Work → Result Moved RunFault → World → Work → Type 0
-Moves left (Ok move) world now = left ≡ work_of_move move world now
-Moves left (Err TooManyCalls) world now = left ≡ Refused TooManyCalls
-Moves left (Err TooDeep) world now = left ≡ Refused TooDeep
-Moves left (Err OutOfMemory) world now = ⊤
+-- what was left leads to what is left after the move; or to the fault; or memory ran out
+abbrev pub Moves : Pace → Work → Result Moved RunFault → World → Work → Type 0
+Moves pace left result world now = LeadsOn pace left (λ move. work_of_move move world now) result
 
 abbrev pub work_of_stop : Stop → World → Work → Work
 work_of_stop stop.Turned world now = Turn world now
 work_of_stop stop.Over world now = Done world tt
 
-abbrev pub Stops : Work → Result Stop RunFault → World → Work → Type 0
-Stops left (Ok stop) world now = left ≡ work_of_stop stop world now
-Stops left (Err TooManyCalls) world now = left ≡ Refused TooManyCalls
-Stops left (Err TooDeep) world now = left ≡ Refused TooDeep
-Stops left (Err OutOfMemory) world now = ⊤
+abbrev pub Stops : Pace → Work → Result Stop RunFault → World → Work → Type 0
+Stops pace left result world now = LeadsOn pace left (λ stop. work_of_stop stop world now) result
 
 -- how many moves may be left without an invocation: each step is begun and ended
 abbrev pub moves_left : Ahead → ℕ

@@ -6,6 +6,8 @@ use Rattle.hook_machine.specs.declared.fault.RunFault.{RunFault}
 use Rattle.hook_machine.specs.declared.fault.RunFault.TheVariants.{TooManyCalls, TooDeep, OutOfMemory}
 use Rattle.hook_machine.specs.Trace.{Done, Refused, Turn, Fault, outcome_of, turns_of}
 use Rattle.hook_machine.specs.Meaning.{Engine}
+use Rattle.hook_machine.specs.declared.frame.Pace.{Pace}
+use Rattle.hook_machine.specs.Moves.{Leads}
 use Rattle.hook_machine.specs.Runs.{world_of, fault_of, left_of, IsIdle}
 use Rattle.site_records.specs.declared.found.Found.{Found}
 use Rattle.template_parts.specs.declared.settings.Settings.{Settings}
@@ -54,6 +56,19 @@ Turns left (Ok (turn.Done status bytes)) world now = IsDone left bytes.items
 Turns left (Err TooManyCalls) world now = left ≡ Refused TooManyCalls
 Turns left (Err TooDeep) world now = left ≡ Refused TooDeep
 Turns left (Err OutOfMemory) world now = ⊤
+
+-- the same of a page that may pass invocations over
+pub record IsDoneBy (pace : Pace) (left : Work) (text : Text) : Type 0 where
+  pub world : World
+  pub done : Leads pace left (Done world tt)
+  pub whole : text ≡ world.output
+
+abbrev pub Goes : Pace → Work → Result PageTurn RunFault → World → Work → Type 0
+Goes pace left (Ok turn.More) world now = Leads pace left (Turn world now)
+Goes pace left (Ok (turn.Done status bytes)) world now = IsDoneBy pace left bytes.items
+Goes pace left (Err TooManyCalls) world now = Leads pace left (Refused TooManyCalls)
+Goes pace left (Err TooDeep) world now = Leads pace left (Refused TooDeep)
+Goes pace left (Err OutOfMemory) world now = ⊤
 
 -- what is left after `count` turns: the page still ends as it did, and has `count` invocations less to make
 pub record IsAfter (count : ℕ) (left now : Work) : Type 0 where

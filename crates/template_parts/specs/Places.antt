@@ -1,5 +1,5 @@
 -- Where the items of a page are.
-use Rattle.std.specs.Prelude.{◌≡◌, ℕ, List, [], ◌∷◌, ◌++◌, flat_map, slice_get, Option, None, Some, option_and_then, option_to_list, codes}
+use Rattle.std.specs.Prelude.{ℕ, List, flat_map, slice_get, Option, None, Some, option_and_then, option_to_list, codes}
 use Rattle.site_records.specs.declared.post.Post.{Post}
 use Rattle.hook_machine.specs.World.{Text}
 use Rattle.template_trees.specs.declared.tree.Part.{Part}

@@ -11,7 +11,7 @@ use crate::settings::Settings;
 use crate::steps::Step;
 use callback_store::Stated;
 use content_cache::PieceCache;
-use hook_machine::{Left, Run, RunFault, Turn};
+use hook_machine::{Left, Pace, Run, RunFault, Turn};
 use site_records::Post;
 use std::alloc::Global;
 
@@ -83,10 +83,11 @@ fn one_move<S: Stated>(
     posts: &[Post],
     ahead: &mut Ahead,
     cache: &mut PieceCache,
+    pace: Pace,
 ) -> Result<Moved, RunFault>
     requires sound { fault_of run.old ≡ None }
     requires idle { ahead.old.hand ≡ None → IsIdle run.old }
-    ensures moves { Moves (run_left (engine_of S.says S.number run.old) settings.now posts.now run.old ahead.old) result
+    ensures moves { Moves pace (run_left (engine_of S.says S.number run.old) settings.now posts.now run.old ahead.old) result
         (world_of run.new) (run_left (engine_of S.says S.number run.old) settings.now posts.now run.new ahead.new) }
     ensures idle { OnOk result (ahead.new.hand ≡ None → IsIdle run.new) }
     ensures over { IsIdleIfOver result run.new }
@@ -95,7 +96,7 @@ fn one_move<S: Stated>(
     ensures engine { engine_of S.says S.number run.new ≡ engine_of S.says S.number run.old }
 {
     match ahead.hand {
-        Some(hand) => match run.turn(cache)? {
+        Some(hand) => match run.go_on(pace, cache)? {
             Turn::More => Ok(Moved::Turned),
             Turn::Done(text) => {
                 ahead.hand = None;
@@ -121,22 +122,23 @@ pub(crate) fn next_stop<S: Stated>(
     posts: &[Post],
     ahead: &mut Ahead,
     cache: &mut PieceCache,
+    pace: Pace,
 ) -> Result<Stop, RunFault>
     requires sound { fault_of run.old ≡ None }
     requires idle { ahead.old.hand ≡ None → IsIdle run.old }
-    ensures stops { Stops (run_left (engine_of S.says S.number run.old) settings.now posts.now run.old ahead.old) result
+    ensures stops { Stops pace (run_left (engine_of S.says S.number run.old) settings.now posts.now run.old ahead.old) result
         (world_of run.new) (run_left (engine_of S.says S.number run.old) settings.now posts.now run.new ahead.new) }
     ensures idle { OnOk result (ahead.new.hand ≡ None → IsIdle run.new) }
     ensures over { IsIdleAtEnd result run.new }
     ensures sound { OnOk result (fault_of run.new ≡ None) }
     ensures engine { engine_of S.says S.number run.new ≡ engine_of S.says S.number run.old }
 {
-    let mut moved = one_move(alloc, run, settings, posts, ahead, cache)?;
+    let mut moved = one_move(alloc, run, settings, posts, ahead, cache, pace)?;
     'moves: loop {
         match moved {
             Moved::Turned => return Ok(Stop::Turned),
             Moved::Over => return Ok(Stop::Over),
-            Moved::On => moved = one_move(alloc, run, settings, posts, ahead, cache)?,
+            Moved::On => moved = one_move(alloc, run, settings, posts, ahead, cache, pace)?,
         }
     }
 }

@@ -14,7 +14,7 @@ use crate::settings::Settings;
 use crate::steps::steps_of_page;
 use callback_store::{Plugins, Stated};
 use content_cache::PieceCache;
-use hook_machine::{Run, RunFault};
+use hook_machine::{Pace, Run, RunFault};
 use site_records::Post;
 use std::alloc::{AllocError, Global};
 
@@ -63,7 +63,7 @@ fn ahead_from(
 
 impl<'p, S: Stated> Page<'p, S> {
     ghost use Rattle.template_parts.specs.Page.{found_in, settings_in, run_in, refusal_of, page_left};
-    ghost use Rattle.template_parts.specs.Page.{CanGoOn, IsSamePage, HasStatus, Turns, TurnsBy};
+    ghost use Rattle.template_parts.specs.Page.{CanGoOn, IsSamePage, HasStatus, Goes, Turns, TurnsBy};
     ghost use Rattle.template_parts.specs.Open.{open_left, status_of};
     ghost use Rattle.hook_machine.specs.Outcomes.{engine_over};
 
@@ -103,10 +103,27 @@ impl<'p, S: Stated> Page<'p, S> {
         ensures again { IfSome (refusal_of self.old) (λ fault. result ≡ Err fault) }
         ensures engine { engine_of S.says S.number (run_in self.new) ≡ engine_of S.says S.number (run_in self.old) }
     {
+        self.advance(Pace::ByTurns, cache)
+    }
+
+    /// Goes on with the page to its end, or to an invocation after which there is more to do.
+    fn advance(&mut self, pace: Pace, cache: &mut PieceCache) -> Result<PageTurn, RunFault>
+        requires { CanGoOn self.old }
+        ensures goes { refusal_of self.old ≡ None →
+            Goes pace (page_left (engine_of S.says S.number (run_in self.old)) self.old) result
+            (world_of (run_in self.new)) (page_left (engine_of S.says S.number (run_in self.old)) self.new) }
+        ensures status { IfOk result (HasStatus (found_in self.old).status) }
+        ensures ready { CanGoOn self.new }
+        ensures same { IsSamePage self.new self.old }
+        ensures sound { OnOk result (refusal_of self.new ≡ None) }
+        ensures fault { IfErr result (λ fault. refusal_of self.new ≡ Some fault) }
+        ensures again { IfSome (refusal_of self.old) (λ fault. result ≡ Err fault) }
+        ensures engine { engine_of S.says S.number (run_in self.new) ≡ engine_of S.says S.number (run_in self.old) }
+    {
         if let Some(fault) = self.fault {
             return Err(fault);
         }
-        match self.go_on(cache) {
+        match self.go_on(pace, cache) {
             Ok(turned) => Ok(turned),
             Err(fault) => {
                 self.fault = Some(fault);
@@ -202,11 +219,11 @@ impl<'p, S: Stated> Page<'p, S> {
         printed
     }
 
-    /// Makes a turn of a page that has returned no fault.
-    fn go_on(&mut self, cache: &mut PieceCache) -> Result<PageTurn, RunFault>
+    /// Goes on with a page that has returned no fault.
+    fn go_on(&mut self, pace: Pace, cache: &mut PieceCache) -> Result<PageTurn, RunFault>
         requires ready { CanGoOn self.old }
         requires sound { refusal_of self.old ≡ None }
-        ensures turns { Turns (page_left (engine_of S.says S.number (run_in self.old)) self.old) result
+        ensures goes { Goes pace (page_left (engine_of S.says S.number (run_in self.old)) self.old) result
             (world_of (run_in self.new)) (page_left (engine_of S.says S.number (run_in self.old)) self.new) }
         ensures status { IfOk result (HasStatus (found_in self.old).status) }
         ensures ready { OnOk result (CanGoOn self.new) }
@@ -224,6 +241,7 @@ impl<'p, S: Stated> Page<'p, S> {
             posts,
             &mut ahead,
             cache,
+            pace,
         )?;
         self.ahead = Some(ahead);
         match stop {
@@ -235,7 +253,7 @@ impl<'p, S: Stated> Page<'p, S> {
         }
     }
 
-    /// Makes turns to the page's end, and returns the page's status and bytes.
+    /// Prints the page to its end, without stopping where it needn't, and returns the page's status and bytes.
     fn print(&mut self, cache: &mut PieceCache) -> Result<(u16, Vec<u8>), RunFault>
         requires { CanGoOn self.old }
         ensures status { IfOk result (λ page. page.0 ≡ (found_in self.old).status) }
@@ -249,8 +267,10 @@ impl<'p, S: Stated> Page<'p, S> {
             return Err(fault);
         }
         'turns: loop {
-            if let PageTurn::Done(status, bytes) = self.turn(cache)? {
-                return Ok((status, bytes));
+            let turned = self.advance(Pace::Through, cache)?;
+            match turned {
+                PageTurn::Done(status, bytes) => return Ok((status, bytes)),
+                PageTurn::More => {}
             }
         }
     }

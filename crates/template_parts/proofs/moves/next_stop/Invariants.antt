@@ -1,14 +1,16 @@
 use Rattle.std.proofs.Common.{◌≡◌, None, Ok}
 use Rattle.hook_machine.specs.Runs.{world_of, fault_of, engine_of, IsIdle}
 use Rattle.template_parts.specs.Left.{run_left, IsIdleIfOver, work_of_move, moves_after}
+use Rattle.hook_machine.specs.Moves.{Leads}
 use Rattle.template_parts.proofs.moves.next_stop.Given as goal
 
--- what is left after the move is what was left
+-- what was left leads to what is left after the move
 abbrev pub invariant-moves : goal.invariant-moves
 invariant-moves g l =
     let engine = engine_of g.S.Stated.says g.S.Stated.number l.fn.run in
     record {
-      same : run_left engine l.settings l.posts l.fn.run l.fn.ahead ≡ work_of_move l.moved (world_of l.run) (run_left engine l.settings l.posts l.run l.ahead);
+      leads : Leads l.pace (run_left engine l.settings l.posts l.fn.run l.fn.ahead)
+          (work_of_move l.moved (world_of l.run) (run_left engine l.settings l.posts l.run l.ahead));
       over : IsIdleIfOver (Ok l.moved) l.run;
       idle : l.ahead.hand ≡ None → IsIdle l.run;
       sound : fault_of l.run ≡ None;

@@ -1,0 +1,40 @@
+use Rattle.std.proofs.Common.{◌∙◌, Err, subst}
+use Rattle.hook_machine.specs.Meaning.{Engine}
+use Rattle.std.proofs.lemmas.Result.{err_from_is_err_and}
+use Rattle.hook_machine.specs.Runs.{engine_of, world_of}
+use Rattle.hook_machine.proofs.Going.{leads_then, refused_then}
+use Rattle.template_parts.specs.Left.{run_left, Moves, work_of_move, work_of_stop}
+use Rattle.template_parts.proofs.moves.next_stop.Goals as goal
+
+pub moves-init : goal.moves-init
+moves-init g c = record {
+  leads = c.in_ok-moved.ensures.moves;
+  over = c.in_ok-moved.ensures.over;
+  idle = c.in_ok-moved.ensures.idle;
+  sound = c.in_ok-moved.ensures.sound;
+  engine = c.one_move.ensures.engine;
+}
+
+pub moves-preserved : goal.moves-preserved
+moves-preserved g c = record {
+  leads = leads_then (rw c.in-On.is at c.moves.invariant.leads) (rw c.moves.invariant.engine at c.in_ok-moved-in-On.ensures.moves);
+  over = c.in_ok-moved-in-On.ensures.over;
+  idle = c.in_ok-moved-in-On.ensures.idle;
+  sound = c.in_ok-moved-in-On.ensures.sound;
+  engine = c.one_move-in-On.ensures.engine ∙ c.moves.invariant.engine;
+}
+
+pub returns-in_err-moved-in-On-clause-stops : goal.returns-in_err-moved-in-On-clause-stops
+returns-in_err-moved-in-On-clause-stops g c =
+    let engine = engine_of g.S.Stated.says g.S.Stated.number c.args.run.now in
+    let settings = c.args.settings.now in
+    let posts = c.args.posts.now in
+    let now = c.one_move-in-On.new in
+    let p = err_from_is_err_and c.from_residual-in_err-moved-in-On.result c.from_residual-in_err-moved-in-On.ensures.1 in
+    rw (p.1, p.2) (refused_then c.args.pace (run_left engine settings posts c.args.run.now c.args.ahead.now)
+    (run_left engine settings posts c.moves.run c.moves.ahead)
+    (λ move. work_of_move move (world_of now.run) (run_left engine settings posts now.run now.ahead))
+    (λ stop. work_of_stop stop (world_of now.run) (run_left engine settings posts now.run now.ahead)) c.in_err-moved-in-On.field-0.0
+    (rw c.in-On.is at c.moves.invariant.leads)
+    (subst (λ (e : Engine). Moves c.args.pace (run_left e settings posts c.moves.run c.moves.ahead) (Err c.in_err-moved-in-On.field-0.0) (world_of now.run)
+    (run_left e settings posts now.run now.ahead)) c.moves.invariant.engine c.in_err-moved-in-On.ensures.moves))
