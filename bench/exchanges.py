@@ -44,8 +44,9 @@ def activate(*plugins):
     return joined(done("activate", plugin=it) for it in plugins)
 
 
-# A command after which what paths found is read anew.
-CHANGE = done("option", name="changed", value="")
+# A command after which what paths found is read anew, since the option may decide it; and one after which it is kept.
+CHANGE = done("option", name="page_on_front", value="")
+UNSEEN = done("option", name="unseen", value="")
 
 
 def put(number, content="", title="", date=DATE):
