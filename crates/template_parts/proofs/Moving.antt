@@ -1,5 +1,5 @@
 -- How a page moves along what is left of it.
-use Rattle.std.proofs.Common.{◌≡◌, ◌∙◌, List, [], ◌∷◌, ◌++◌, Option, None, Some, Result, Ok, Err, refl, sym, ap}
+use Rattle.std.proofs.Common.{◌≡◌, false, ◌∙◌, List, [], ◌∷◌, ◌++◌, Option, None, Some, Result, Ok, Err, refl, sym, ap}
 use Rattle.std.specs.Prelude.{option_to_list}
 use Rattle.site_records.specs.declared.post.Post.{Post}
 use Rattle.template_trees.specs.declared.tree.Item.{Item}
@@ -9,8 +9,10 @@ use Rattle.hook_machine.specs.declared.fault.RunFault.TheVariants.{TooManyCalls,
 use Rattle.hook_machine.specs.declared.resuming.Turn as result
 use Rattle.hook_machine.specs.declared.resuming.Turn.TheVariants as turn
 use Rattle.hook_machine.specs.declared.resuming.Job.TheVariants.{Filters, Action}
-use Rattle.hook_machine.specs.Trace.{Trace, Done, Turn, outcome_of}
-use Rattle.hook_machine.specs.Meaning.{Engine, filtered, acted}
+use Rattle.hook_machine.specs.Trace.{Trace, Done, Turn, outcome_of, and_then}
+use Rattle.hook_machine.specs.Meaning.{Engine, filtered, acted, invoke}
+use Rattle.hook_machine.proofs.Ending.{filter_unhooked}
+use Rattle.hook_registry.specs.Table.{has}
 use Rattle.hook_machine.specs.Jobs.{job_left}
 use Rattle.hook_machine.specs.declared.frame.Pace.{Pace}
 use Rattle.hook_machine.specs.declared.frame.Pace.TheVariants.{ByTurns}
@@ -22,7 +24,7 @@ use Rattle.template_parts.specs.declared.item.Shown.{Shown}
 use Rattle.template_parts.specs.declared.item.Hand.{Hand}
 use Rattle.template_parts.specs.declared.item.Hand.TheVariants.{Printed, Dropped}
 use Rattle.template_parts.specs.declared.steps.Step.{Step}
-use Rattle.template_parts.specs.Pages.{Work, Placed, IsPage, IsRefusedBy, over, each, placed_pass, shown_pass, action_pass, item_pass, page_items, page_pass}
+use Rattle.template_parts.specs.Pages.{Work, Placed, IsPage, IsRefusedBy, printed, over, each, placed_pass, shown_pass, action_pass, item_pass, page_items, page_pass}
 use Rattle.template_parts.specs.declared.place.Hook.{Hook}
 use Rattle.template_parts.specs.declared.place.Stored.{Stored}
 use Rattle.template_parts.specs.declared.place.Place.TheVariants as place
@@ -50,6 +52,13 @@ module _ (engine : Engine) (settings : Settings) where
       → shown_pass engine settings (shown_as shown) world hook value args ≡ begun now left (Some (Printed shown))
   unfolding shown_pass filtered
   filter_begun world now shown hook given value args left same is = rw (is, same) refl
+
+  -- a value that no callback filters is shown at once
+  pub shown_unfiltered : (world : World) (shown : Text → Text) (hook value : Text) (args : List Text) → has world.table hook ≡ false
+      → shown_pass engine settings shown world hook value args ≡ printed world (shown value)
+  unfolding shown_pass filtered
+  shown_unfiltered world shown hook value args none =
+      ap (λ (t : Trace Text). and_then t (λ later v. printed later (shown v))) (filter_unhooked (invoke engine) world hook value args none)
 
   -- the item of the first step, and then those of the others
   pub step_first : (posts : List Post) (world : World) (step : Step) (items : List Placed)

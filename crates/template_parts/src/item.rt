@@ -104,7 +104,29 @@ fn start_filter<S: Stated>(
     Ok(Some(Hand::Printed(shown)))
 }
 
-/// Starts the filter of a title, which also gets the post's number.
+/// Prints a value that no callback filters, as it is shown.
+fn print_unfiltered<S: Stated>(
+    alloc: Global,
+    run: &mut Run<'_, S>,
+    value: &str,
+    shown: Shown,
+) -> Result<Option<Hand>, RunFault>
+    requires { IsReady run.old }
+    ensures { Begins S.says S.number run.old result run.new
+        (λ engine world. printed world (shown_as shown value.now)) }
+{
+    match shown {
+        Shown::Plain => print(run, value),
+        Shown::HtmlEscaped => print_escaped(alloc, run, value),
+        Shown::EndsEscaped => {
+            let escaped = escape_ends(alloc, Text::copied(alloc, value)?)?;
+            print(run, escaped.as_str())
+        }
+    }
+}
+
+/// Starts the filter of a title, which also gets the post's number. If nothing is registered on it, the title is printed
+/// at once.
 fn start_title<S: Stated>(
     alloc: Global,
     run: &mut Run<'_, S>,
@@ -116,6 +138,9 @@ fn start_title<S: Stated>(
     ensures { Begins S.says S.number run.old result run.new
         (λ engine world. title_pass engine settings.now (shown_as shown) post.now world) }
 {
+    if !run.is_hooked("the_title") {
+        return print_unfiltered(alloc, run, post.title.as_str(), shown);
+    }
     let title = post.title.clone()?;
     let args = number_argument(alloc, post.id)?;
     start_filter(alloc, run, settings, "the_title", title, args, shown)
