@@ -1,6 +1,6 @@
 //! The groups of one hook.
-ghost use Rattle.std.specs.Prelude.{◌≡◌, ◌<◌, [], true, false, not, length, map};
-ghost use Rattle.std.specs.Prelude.{filter, None, Some, OnOk, OnErr, MatchOption, MatchResult};
+ghost use Rattle.std.specs.Prelude.{◌≡◌, ◌<◌, ◌∷◌, [], true, false, not, length, map};
+ghost use Rattle.std.specs.Prelude.{filter, None, Some, IfSome, OnOk, OnErr, MatchOption, MatchResult};
 ghost use Rattle.std.specs.List.{list_any};
 ghost use Rattle.hook_registry.specs.Table.{with_added, is_at, is_of, is_other, is_above, entry_of, least_priority};
 ghost use Rattle.call_plans.specs.Groups.{registrations_of, IsPlan, IsAt, IsGap, IsPlaceAbove};
@@ -8,7 +8,7 @@ ghost use Rattle.call_plans.specs.Groups.{registrations_of, IsPlan, IsAt, IsGap,
 use crate::entries::{SharedEntries, with_entry, without_callback};
 use crate::group::Group;
 use hook_changes::CallbackId;
-use hook_registry::{Entry, Priority};
+use hook_registry::{Entry, Priority, Registration};
 use std::alloc::{AllocError, Global};
 use std::marker::Model;
 
@@ -121,6 +121,25 @@ impl HookPlan {
                 Err(_) => {}
             },
         }
+    }
+
+    /// Returns the registration of a hook that has no other.
+    pub fn only(&self) -> Option<Registration>
+        ensures { IfSome result (λ only. self.now ≡ only ∷ []) }
+    {
+        if self.groups.len() != 1 {
+            return None;
+        }
+        let group = &self.groups[0];
+        let entries = group.entries.as_slice();
+        if entries.len() != 1 {
+            return None;
+        }
+        Some(Registration {
+            priority: group.priority,
+            callback: entries[0].callback,
+            accepted: entries[0].accepted,
+        })
     }
 
     /// Returns the group of the smallest priority, or of the smallest one above another if that is given.

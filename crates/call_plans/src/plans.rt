@@ -1,5 +1,5 @@
 //! The plans of every hook.
-ghost use Rattle.std.specs.Prelude.{◌≡◌, [], false, None, Some, IfOk, OnOk, OnErr, MatchOption};
+ghost use Rattle.std.specs.Prelude.{◌≡◌, ◌∷◌, [], false, None, Some, IfOk, IfSome, OnOk, OnErr, MatchOption};
 ghost use Rattle.std.specs.List.{list_any};
 ghost use Rattle.hook_registry.specs.Named.{value_of};
 ghost use Rattle.hook_registry.specs.Table.{registrations, add, remove, remove_all, is_of, group, next_priority};
@@ -11,7 +11,7 @@ use crate::group::Group;
 use crate::hook_plan::HookPlan;
 use crate::position::Position;
 use hook_changes::{CallbackId, Change, HookName};
-use hook_registry::{Entry, Priority};
+use hook_registry::{Entry, Priority, Registration};
 use indexmap::IndexMap;
 use std::alloc::{AllocError, Global};
 use std::marker::Model;
@@ -68,6 +68,16 @@ impl Plans {
                 position.reached = Some(group.priority);
                 Ok(position.entries.take_first())
             }
+        }
+    }
+
+    /// Returns the registration of a hook that has no other.
+    pub fn only(&self, hook: &str) -> Option<Registration>
+        ensures { IfSome result (λ only. registrations self.now hook.now ≡ only ∷ []) }
+    {
+        match self.hooks.get(hook) {
+            None => None,
+            Some(plan) => plan.only(),
         }
     }
 

@@ -1,10 +1,11 @@
 //! The cache of pieces.
-ghost use Rattle.std.specs.Prelude.{◌≡◌, ◌≤◌, IfOk};
+ghost use Rattle.std.specs.Prelude.{◌≡◌, ◌≤◌, IfOk, IfSome};
 ghost use Rattle.std.specs.List.{AllByRecursion};
 ghost use Rattle.shortcode_scan.specs.Pieces.{IsPieces, pieces_of};
 ghost use Rattle.shortcode_scan.specs.Spans.{HasSpansOf};
+ghost use Rattle.content_cache.specs.Opened.{tags_in, IsOpenedBy, IsCutOf};
 
-use crate::kept::{Kept, SharedPieces, are_same};
+use crate::kept::{Kept, Known, OpenedName, SharedNames, SharedPieces, are_same};
 use hook_changes::TagName;
 use lru::LruCache;
 use shortcode_scan::{Piece, pieces};
@@ -76,9 +77,38 @@ impl PieceCache {
                 return kept.pieces.share();
             }
         }
-        let found = SharedPieces::new(pieces(self.alloc, live, text)?)?;
-        self.keep(live, text, &found);
-        Ok(found)
+        self.cut_anew(live, None, text)
+    }
+
+    /// Returns how a text was cut by [`PieceCache::cut`], if that is kept.
+    pub fn known(&mut self, text: &str) -> Result<Option<Known>, AllocError>
+        ensures known { IfOk result (λ found. IfSome found (λ known. IsCutOf text.now known.opened known.pieces)) }
+        ensures spans { IfOk result (λ found. IfSome found (λ known.
+            AllByRecursion (HasSpansOf text.now) known.pieces)) }
+        ensures capacity { self.new ≡ self.old }
+    {
+        if let Some(kept) = self.kept.get(text) {
+            return kept.known();
+        }
+        Ok(None)
+    }
+
+    /// Cuts a text by the tags among the names that it opens. The pieces are kept for the next time with these names,
+    /// unless memory for that runs out.
+    pub fn cut(
+        &mut self,
+        opened: Vec<OpenedName>,
+        live: &[TagName],
+        text: &str,
+    ) -> Result<SharedPieces, AllocError>
+        requires opened { IsOpenedBy text.now opened.items }
+        requires live { live.now ≡ tags_in opened.items }
+        ensures value { IfOk result (λ pieces. pieces ≡ pieces_of live.now text.now) }
+        ensures spans { IfOk result (λ pieces. AllByRecursion (HasSpansOf text.now) pieces) }
+        ensures capacity { self.new ≡ self.old }
+    {
+        let opened = SharedNames::new(opened)?;
+        self.cut_anew(live, Some(opened), text)
     }
 
     /// Returns the number of texts whose pieces it keeps.
@@ -88,13 +118,37 @@ impl PieceCache {
         self.kept.len()
     }
 
+    /// Cuts a text by its live names, and keeps the pieces.
+    fn cut_anew(
+        &mut self,
+        live: &[TagName],
+        opened: Option<SharedNames>,
+        text: &str,
+    ) -> Result<SharedPieces, AllocError>
+        requires { IfSome opened (λ opened. (live.now ≡ tags_in opened) × IsOpenedBy text.now opened) }
+        ensures value { IfOk result (λ pieces. pieces ≡ pieces_of live.now text.now) }
+        ensures spans { IfOk result (λ pieces. AllByRecursion (HasSpansOf text.now) pieces) }
+        ensures capacity { self.new ≡ self.old }
+    {
+        let found = SharedPieces::new(pieces(self.alloc, live, text)?)?;
+        self.keep(live, opened, text, &found);
+        Ok(found)
+    }
+
     /// Keeps the pieces of a text, unless memory for that runs out.
-    fn keep(&mut self, live: &[TagName], text: &str, pieces: &SharedPieces)
-        requires { pieces.now ≡ pieces_of live.now text.now }
+    fn keep(
+        &mut self,
+        live: &[TagName],
+        opened: Option<SharedNames>,
+        text: &str,
+        pieces: &SharedPieces,
+    )
+        requires pieces { pieces.now ≡ pieces_of live.now text.now }
+        requires opened { IfSome opened (λ opened. IsCutOf text.now opened pieces.now) }
         ensures { self.new ≡ self.old }
     {
         if let Ok(key) = String::from_str(self.alloc, text) {
-            if let Ok(kept) = Kept::of(self.alloc, live, pieces) {
+            if let Ok(kept) = Kept::of(self.alloc, live, opened, pieces) {
                 let _ = self.kept.put(key, kept);
             }
         }

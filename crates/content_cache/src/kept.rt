@@ -1,7 +1,7 @@
 //! What is kept of a text.
-ghost use Rattle.std.specs.Prelude.{◌≡◌, ◌↔◌, IsTrue, IfOk};
+ghost use Rattle.std.specs.Prelude.{◌≡◌, ◌↔◌, Some, IsTrue, IfOk, IfSome};
 
-use hook_changes::{Listed, TagName};
+use hook_changes::{Listed, TagName, Text};
 use shortcode_scan::Piece;
 use std::alloc::{AllocError, Global};
 use std::marker::Model;
@@ -50,22 +50,101 @@ impl SharedPieces {
     }
 }
 
+/// A name that a text opens, and whether it was a tag when the text was cut.
+#[derive(Drop)]
+pub struct OpenedName {
+    pub name: Text,
+    pub is_tag: bool,
+}
+
+/// The names that a text opens, shared by their owners. Contracts see the list.
+#[derive(Drop)]
+pub struct SharedNames {
+    names: RcSlice<OpenedName>,
+}
+
+impl Model for SharedNames {
+    ghost use Rattle.std.specs.Prelude.{List};
+    ghost use Rattle.std.specs.Rc.{rc_slice_items};
+    ghost use Rattle.content_cache.specs.declared.kept.OpenedName.{OpenedName};
+
+    ghost Value = { List OpenedName };
+
+    ghost view = { λ s. rc_slice_items s.names };
+}
+
+impl SharedNames {
+    /// Shares the names of a `Vec`, which is moved and not copied.
+    pub fn new(names: Vec<OpenedName>) -> Result<Self, AllocError>
+        ensures { IfOk result (λ shared. shared ≡ names.items) }
+    {
+        Ok(SharedNames {
+            names: RcSlice::from_vec(names)?,
+        })
+    }
+
+    /// Borrows the names.
+    pub fn as_slice(&self) -> &[OpenedName]
+        ensures { result.now ≡ self.now }
+    {
+        self.names.as_slice()
+    }
+
+    /// Returns the same names for another owner, without copying them.
+    pub fn share(&self) -> Result<Self, AllocError>
+        ensures { IfOk result (λ shared. shared ≡ self.now) }
+    {
+        Ok(SharedNames {
+            names: self.names.clone()?,
+        })
+    }
+}
+
+/// How a text was cut: all names that it opens, and its pieces by those of them that were tags.
+#[derive(Drop)]
+pub struct Known {
+    pub opened: SharedNames,
+    pub pieces: SharedPieces,
+}
+
 /// The pieces of a text, and the live names that it was cut by.
 #[derive(Drop)]
 pub struct Kept {
     pub live: Listed<TagName>,
+    /// All names that the text opens, if it was cut by those of them that were tags.
+    pub opened: Option<SharedNames>,
     pub pieces: SharedPieces,
 }
 
 impl Kept {
-    /// Copies the names, and shares the pieces.
-    pub fn of(alloc: Global, live: &[TagName], pieces: &SharedPieces) -> Result<Self, AllocError>
-        ensures { IfOk result (λ kept. kept ≡ record { live = live.now; pieces = pieces.now }) }
+    /// Copies the live names, and shares the pieces.
+    pub fn of(
+        alloc: Global,
+        live: &[TagName],
+        opened: Option<SharedNames>,
+        pieces: &SharedPieces,
+    ) -> Result<Self, AllocError>
+        ensures { IfOk result (λ kept. kept ≡ record { live = live.now; opened = opened; pieces = pieces.now }) }
     {
         Ok(Kept {
             live: copied_names(alloc, live)?,
+            opened,
             pieces: pieces.share()?,
         })
+    }
+
+    /// Returns how the text was cut, if it was cut by the tags among the names that it opens.
+    pub fn known(&self) -> Result<Option<Known>, AllocError>
+        ensures { IfOk result (λ found. IfSome found (λ known. (self.now.opened ≡ Some known.opened)
+            × (known.pieces ≡ self.now.pieces))) }
+    {
+        match &self.opened {
+            Some(opened) => Ok(Some(Known {
+                opened: opened.share()?,
+                pieces: self.pieces.share()?,
+            })),
+            None => Ok(None),
+        }
     }
 }
 

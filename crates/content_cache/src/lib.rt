@@ -5,4 +5,4 @@ mod cache;
 mod kept;
 
 pub use cache::PieceCache;
-pub use kept::SharedPieces;
+pub use kept::{Known, OpenedName, SharedNames, SharedPieces};

@@ -1,5 +1,5 @@
 -- How the calls of the stepping machine move along what is left.
-use Rattle.std.proofs.Common.{◌≡◌, ◌⊎◌, inl, inr, ℕ, ◌+◌, ◌≤◌, ◌<◌, ℤ, true, false, List, [], ◌∷◌, ◌++◌, take, Option, None, Some, IsSome, Result, Ok, Err}
+use Rattle.std.proofs.Common.{◌≡◌, ◌⊎◌, inl, inr, ℕ, ◌+◌, ◌≤◌, ◌<◌, ℤ, true, false, List, [], ◌∷◌, ◌++◌, ◌-◌, take, Option, None, Some, IsSome, Result, Ok, Err}
 use Rattle.std.proofs.Common.{refl, sym, ap, ◌∙◌}
 use Rattle.std.specs.Prelude.{map, pos, is_some, bytes_eq}
 use Rattle.std.specs.List.{list_any}
@@ -36,7 +36,7 @@ use Rattle.hook_machine.specs.Cuts.{CutText, PassOverText}
 use Rattle.hook_machine.specs.Handling.{handling_pass}
 use Rattle.hook_machine.specs.World.{Text, World}
 use Rattle.hook_machine.specs.Trace.{Trace, Done, Refused, and_then}
-use Rattle.hook_machine.specs.Meaning.{Engine, Invocation, hook_call, arguments, value_after, pass, filter_pass, action_pass, fired, text_at}
+use Rattle.hook_machine.specs.Meaning.{Engine, Invocation, hook_call, arguments, value_after, pass, filter_pass, action_pass, filtered, fired, text_at}
 use Rattle.hook_machine.specs.Meaning.{shortcode_filter, pieces_pass, shortcodes_pass, answered, invoke, first_or_empty, last_or_empty, has_answer}
 use Rattle.hook_machine.specs.Meaning.{text_or_false}
 use Rattle.call_plans.specs.Position.{first_of, reach, next_entry}
@@ -46,10 +46,12 @@ use Rattle.hook_machine.specs.Rest.{handed, rest_with, then_rest, rest}
 use Rattle.hook_machine.specs.declared.resuming.Job.{Job}
 use Rattle.hook_machine.specs.Jobs.{job_left, left_from}
 use Rattle.hook_machine.specs.declared.frame.Pace.{Pace}
-use Rattle.hook_machine.specs.Moves.{Moves}
-use Rattle.hook_machine.proofs.Going.{leads_here}
+use Rattle.hook_machine.specs.declared.frame.Pace.TheVariants.{Through}
+use Rattle.hook_machine.specs.Moves.{Moves, Leads}
+use Rattle.hook_machine.specs.PassedOver.{left_by_core}
+use Rattle.hook_machine.proofs.Going.{leads_here, leads_over}
 use Rattle.hook_machine.proofs.Walk.{then_under}
-use Rattle.hook_machine.proofs.Ending.{filter_named, filter_unnamed, filter_unhooked, action_named, action_unnamed}
+use Rattle.hook_machine.proofs.Ending.{filter_named, filter_unnamed, filter_unhooked, unhooked, action_named, action_unnamed}
 use Rattle.hook_machine.proofs.Steps.{pass_goes, pass_ends, pass_begins, ask_plain, ask_apply, ask_act, ask_shortcodes, core_goes}
 use Rattle.hook_machine.proofs.Steps.{text_begins, moves_onto, moves_same, then_done}
 
@@ -156,6 +158,31 @@ module _ (engine : Engine) where
   pub action_back : {pace : Pace} (w : World) (hook nothing : Text) (args : List Text) (fs : List Frame) → is_hook_name hook ≡ false → nothing ≡ []
       → Moves pace engine (then_rest engine (action_pass (invoke engine) w hook args) fs) (Ok (Handed nothing)) w fs
   action_back w hook nothing args fs h n = rw n (handed_moves (action_pass (invoke engine) w hook args) w [] fs (action_unnamed (invoke engine) w hook args h))
+
+  -- a hook on which nothing is registered
+
+  pub filter_away : {pace : Pace} (w : World) (hook v : Text) (args : List Text) (fs : List Frame) → has w.table hook ≡ false
+      → Moves pace engine (then_rest engine (filter_pass (invoke engine) w hook v args) fs) (Ok (Handed v)) w fs
+  filter_away w hook v args fs h = handed_moves (filter_pass (invoke engine) w hook v args) w v fs (filter_unhooked (invoke engine) w hook v args h)
+
+  pub action_away : {pace : Pace} (w counted : World) (hook name nothing : Text) (args : List Text) (fs : List Frame) → name ≡ hook → is_hook_name hook ≡ true
+      → counted ≡ fired w name → nothing ≡ [] → has counted.table name ≡ false
+      → Moves pace engine (then_rest engine (action_pass (invoke engine) w hook args) fs) (Ok (Handed nothing)) counted fs
+  action_away w counted hook name nothing args fs e h c n none =
+      action_moves w counted hook name nothing args fs e h c n _ _ _
+      (handed_moves (pass (invoke engine) Action counted name nothing args) counted nothing fs (unhooked (invoke engine) Action counted name nothing args none))
+
+  -- core's callback alone, over a text without shortcodes, is passed over
+  pub passed_over : {pace : Pace} (w spent : World) (hook v : Text) (args : List Text) → filter_pass (invoke engine) w hook v args ≡ left_by_core w hook v
+      → pace ≡ Through → spent ≡ record w { calls = w.calls - 1 } → Leads pace (filtered engine w hook v args) (Done spent v)
+  unfolding filtered
+  passed_over w spent hook v args e p q = rw q (leads_over _ _ e p)
+
+  pub core_passed_over : {pace : Pace} (w spent : World) (hook v : Text) (args : List Text) (fs : List Frame)
+      → filter_pass (invoke engine) w hook v args ≡ left_by_core w hook v → pace ≡ Through → spent ≡ record w { calls = w.calls - 1 }
+      → Moves pace engine (then_rest engine (filter_pass (invoke engine) w hook v args) fs) (Ok (Handed v)) spent fs
+  core_passed_over w spent hook v args fs e p q =
+      rw q (record { leads = leads_over _ _ (ap (λ (t : Trace Text). then_rest engine t fs) e) p })
 
   -- ---- asks
 
@@ -317,30 +344,20 @@ module _ (engine : Engine) where
 
   -- ---- shortcodes
 
-  text_by : (w : World) (p : PassOverText) (found : Option Handling) (h : Handling) (cut : CutText) (so_far : Text)
-      → ((inv : Invocation) → pieces_pass inv p.cut.text w p.so_far p.cut.pieces ≡ handling_pass inv p.cut.text w found so_far cut.pieces) → found ≡ Some h
-      → cut.text ≡ p.cut.text
-      → text_left engine w p ≡ and_then (invoke engine w h.handler h.call)
-      (λ later x. handed engine later (frame.Shortcodes (record { cut = cut; so_far = so_far; hand = Some h.matched })) x)
-  unfolding handed text_handed
-  text_by w p found h cut so_far e q t =
-      e (invoke engine)
-      ∙ ap (λ (o : Option Handling). handling_pass (invoke engine) p.cut.text w o so_far cut.pieces) q
-      ∙ ap (λ (z : Text). and_then (invoke engine w h.handler h.call)
-      (λ later x. and_then (answer_shown (invoke engine) z later h.matched x)
-      (λ last shown. pieces_pass (invoke engine) z last (so_far ++ shown) cut.pieces))) (sym t)
-
   -- a shortcode pass invokes its next handler, by the pass and the invocation as they are then
-  pub text_invokes : (w : World) (p now : PassOverText) (found : Option Handling) (h : Handling) (i : Invoked)
+  pub text_invokes : (w : World) (p now : PassOverText) (found : Option Handling) (h : Handling)
       → ((inv : Invocation) → pieces_pass inv p.cut.text w p.so_far p.cut.pieces ≡ handling_pass inv p.cut.text w found now.so_far now.cut.pieces)
-      → found ≡ Some h → now.cut.text ≡ p.cut.text → now.hand ≡ Some h.matched → i.callback ≡ h.handler → i.call ≡ h.call
-      → text_left engine w p ≡ and_then (invoke engine w i.callback i.call) (λ later x. handed engine later (frame.Shortcodes now) x)
-  text_invokes w p now found h i e q t m k l =
-      text_by w p found h now.cut now.so_far e q t
-      ∙ ap (λ (o : Option Matched). and_then (invoke engine w h.handler h.call)
+      → found ≡ Some h → now.cut.text ≡ p.cut.text → now.hand ≡ Some h.matched
+      → text_left engine w p ≡ and_then (invoke engine w h.invoked.callback h.invoked.call) (λ later x. handed engine later (frame.Shortcodes now) x)
+  unfolding handed text_handed
+  text_invokes w p now found h e q t m =
+      e (invoke engine)
+      ∙ ap (λ (o : Option Handling). handling_pass (invoke engine) p.cut.text w o now.so_far now.cut.pieces) q
+      ∙ ap (λ (z : Text). and_then (invoke engine w h.invoked.callback h.invoked.call)
+      (λ later x. and_then (answer_shown (invoke engine) z later h.matched x)
+      (λ last shown. pieces_pass (invoke engine) z last (now.so_far ++ shown) now.cut.pieces))) (sym t)
+      ∙ ap (λ (o : Option Matched). and_then (invoke engine w h.invoked.callback h.invoked.call)
       (λ later x. handed engine later (frame.Shortcodes (record { cut = now.cut; so_far = now.so_far; hand = o })) x)) (sym m)
-      ∙ ap (λ (z : ℕ). and_then (invoke engine w z h.call) (λ later x. handed engine later (frame.Shortcodes now) x)) (sym k)
-      ∙ ap (λ (z : Call). and_then (invoke engine w i.callback z) (λ later x. handed engine later (frame.Shortcodes now) x)) (sym l)
 
   pub text_begin : {pace : Pace} (w : World) (text shown so_far : Text) (ps : List Piece) (cut : CutText) (fs : List Frame) → shown ≡ text
       → ps ≡ pieces_of (live (map (λ p. p.0) w.tags) shown) shown → cut ≡ record { text = text; pieces = ps } → so_far ≡ []

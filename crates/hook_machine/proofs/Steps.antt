@@ -20,6 +20,7 @@ use Rattle.hook_machine.specs.declared.pass.PassKind.{PassKind}
 use Rattle.call_plans.specs.declared.position.Position.{Position}
 use Rattle.hook_machine.specs.declared.pieces.Matched.{Matched}
 use Rattle.hook_machine.specs.declared.frame.HookPass.{HookPass}
+use Rattle.hook_machine.specs.declared.frame.Invoked.{Invoked}
 use Rattle.hook_machine.specs.declared.frame.Pending.{Pending}
 use Rattle.hook_machine.specs.declared.frame.Pending.TheVariants.{Next, Core, ForText, ForNothing, ForCore}
 use Rattle.hook_machine.specs.declared.frame.Frame.{Frame}
@@ -70,16 +71,16 @@ module _ (inv : Invocation) where
       ∙ ap (λ (t : Text). pieces_pass inv text w t ps) (sym m)
 
   -- a piece whose handler is invoked
-  pub piece_handled : (w : World) (text cut so_far : Text) (all ps : List Piece) (p : Piece) (todo : Work) (handler : ℕ) (call : Call)
-      (matched : Matched) → cut ≡ text → all ≡ p ∷ ps → piece_pass inv cut w p ≡ work_pass inv cut w todo → todo ≡ work.Handled handler call matched
-      → pieces_pass inv text w so_far all ≡ and_then (inv w handler call)
+  pub piece_handled : (w : World) (text cut so_far : Text) (all ps : List Piece) (p : Piece) (todo : Work) (i : Invoked) (matched : Matched)
+      → cut ≡ text → all ≡ p ∷ ps → piece_pass inv cut w p ≡ work_pass inv cut w todo → todo ≡ work.Handled i matched
+      → pieces_pass inv text w so_far all ≡ and_then (inv w i.callback i.call)
       (λ later result. and_then (answer_shown inv text later matched result) (λ last shown. pieces_pass inv text last (so_far ++ shown) ps))
-  piece_handled w text cut so_far all ps p todo handler call matched c a h k =
+  piece_handled w text cut so_far all ps p todo i matched c a h k =
       ap (λ (l : List Piece). pieces_pass inv text w so_far l) a
-      ∙ piece_by w text so_far p ps (work_pass inv text w (work.Handled handler call matched))
+      ∙ piece_by w text so_far p ps (work_pass inv text w (work.Handled i matched))
       (ap (λ (t : Text). piece_pass inv t w p) (sym c) ∙ h ∙ ap (λ (x : Work). work_pass inv cut w x) k
-      ∙ ap (λ (t : Text). work_pass inv t w (work.Handled handler call matched)) c)
-      ∙ then_then (inv w handler call) (λ later result. answer_shown inv text later matched result)
+      ∙ ap (λ (t : Text). work_pass inv t w (work.Handled i matched)) c)
+      ∙ then_then (inv w i.callback i.call) (λ later result. answer_shown inv text later matched result)
       (λ later result. pieces_pass inv text later (so_far ++ result) ps)
 
   -- no piece is left
@@ -96,7 +97,7 @@ module _ (engine : Engine) where
 
   -- ---- passes
 
-  pass_cons : (w : World) (kind : PassKind) (hook : Text) (args : List Text) (v : Text) (at : Option ℤ) (e : Entry) (es : List Entry)
+  pub pass_cons : (w : World) (kind : PassKind) (hook : Text) (args : List Text) (v : Text) (at : Option ℤ) (e : Entry) (es : List Entry)
       → pass_from engine w kind hook args v at (e ∷ es)
       ≡ and_then (invoke engine w e.callback (hook_call hook (take e.accepted (arguments kind v args))))
       (λ later r. pass_from engine later kind hook args (value_after kind v r) at es)
@@ -105,7 +106,7 @@ module _ (engine : Engine) where
       then_then (invoke engine w e.callback (hook_call hook (take e.accepted (arguments kind v args))))
       (λ later r. group_pass (invoke engine) kind hook args later (value_after kind v r) es) (λ later kept. above_left engine later kind hook args kept at)
 
-  pass_above : (w : World) (kind : PassKind) (hook : Text) (args : List Text) (v : Text) (at : Option ℤ) (p : ℤ) → next_priority w.table hook at ≡ Some p
+  pub pass_above : (w : World) (kind : PassKind) (hook : Text) (args : List Text) (v : Text) (at : Option ℤ) (p : ℤ) → next_priority w.table hook at ≡ Some p
       → pass_from engine w kind hook args v at [] ≡ pass_from engine w kind hook args v (Some p) (group w.table hook p)
   unfolding pass_from group_pass above_left walk
   pass_above w kind hook args v at p h =
@@ -115,7 +116,7 @@ module _ (engine : Engine) where
       (λ later kept. priorities_pass (invoke engine) kind hook args later.calls later kept (next_priority later.table hook (Some p)))
       (λ last x. Done (left_hook last) x)
 
-  pass_none : (w : World) (kind : PassKind) (hook : Text) (args : List Text) (v : Text) (at : Option ℤ) → next_priority w.table hook at ≡ None
+  pub pass_none : (w : World) (kind : PassKind) (hook : Text) (args : List Text) (v : Text) (at : Option ℤ) → next_priority w.table hook at ≡ None
       → pass_from engine w kind hook args v at [] ≡ Done (left_hook w) v
   unfolding pass_from group_pass above_left priorities_pass
   pass_none w kind hook args v at h = rw h refl
@@ -193,7 +194,7 @@ module _ (engine : Engine) where
   invoked_core w k call h = rw h refl
 
   -- core's callback takes a turn, and its shortcode pass is left
-  turn_core : (w taken : World) (k : ℕ) (call : Call) → 0 < w.calls → (k == 0) ≡ true → taken ≡ record w { calls = w.calls - 1 }
+  pub turn_core : (w taken : World) (k : ℕ) (call : Call) → 0 < w.calls → (k == 0) ≡ true → taken ≡ record w { calls = w.calls - 1 }
       → invoke engine w k call ≡ Turn taken (pending_left engine taken k call Core)
   unfolding pending_left
   turn_core w taken k call h n t = rw t (invoke_some engine w k call h ∙ invoked_core (record w { calls = w.calls - 1 }) k call n)

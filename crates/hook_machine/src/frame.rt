@@ -2,17 +2,19 @@
 ghost use Rattle.std.specs.Prelude.{◌≡◌, ◌++◌, ◌∷◌, [], IfOk, OnOk, take};
 ghost use Rattle.std.specs.Prelude.{List, ℕ};
 ghost use Rattle.call_plans.specs.Position.{next_entry};
+ghost use Rattle.hook_machine.specs.Calls.{shortcode_call};
 ghost use Rattle.hook_machine.specs.Meaning.{value_after, hook_call, arguments, first_or_empty};
 ghost use Rattle.hook_machine.specs.declared.frame.Pending.TheVariants.{Core, ForNothing};
 
 use crate::left::Left;
 use crate::machine::{add_answer, take_first_argument};
-use crate::pass::{PassKind, fill, kept};
+use crate::pass::{PassKind, fill, fill_handler, kept};
 use crate::replacing::TextPass;
 use crate::state::State;
 use call_plans::Position;
 use hook_changes::{Answer, Call, CallbackId, Listed, Text, Then};
 use hook_registry::Entry;
+use shortcode_atts::Atts;
 use std::alloc::{AllocError, Global};
 use std::marker::Model;
 use std::mem;
@@ -165,14 +167,6 @@ impl Invoked {
         &self.parts.call
     }
 
-    /// Makes this the invocation of another callback, with a call of its own.
-    pub fn set_call(&mut self, callback: CallbackId, call: Call)
-        ensures { self.new ≡ record self.old { callback = callback; call = call } }
-    {
-        self.parts.callback = callback;
-        self.parts.call = call;
-    }
-
     pub fn set_pending(&mut self, pending: Pending)
         ensures { self.new ≡ record self.old { pending = pending } }
     {
@@ -202,6 +196,22 @@ impl Invoked {
         ensures callback { self.new.callback ≡ self.old.callback }
     {
         take_first_argument(alloc, &mut self.parts.call)
+    }
+
+    /// Makes this the invocation of a shortcode's handler. Its call reuses the texts of the call before.
+    pub fn set_handler_call(
+        &mut self,
+        alloc: Global,
+        handler: CallbackId,
+        tag: &str,
+        atts: Atts,
+        content: &str,
+    ) -> Result<(), AllocError>
+        ensures callback { OnOk result (self.new.callback ≡ handler) }
+        ensures call { OnOk result (self.new.call ≡ shortcode_call tag.now atts content.now) }
+    {
+        self.parts.callback = handler;
+        fill_handler(alloc, &mut self.parts.call, tag, atts, content)
     }
 
     /// Makes this the invocation of a hook's callback. Its call reuses the texts of the call before. A filter needs its

@@ -24,7 +24,7 @@ use crate::state::State;
 use crate::turning::{begin_filter, invoke};
 use callback_store::{Plugins, Stated};
 use content_cache::PieceCache;
-use hook_changes::{Call, CallbackId, Listed, Text, Then};
+use hook_changes::{Listed, Text, Then};
 use shortcode_scan::{Piece, Span, text_at};
 use std::alloc::{AllocError, Global};
 use std::marker::Model;
@@ -122,11 +122,12 @@ impl TextPass {
     }
 
     /// Takes pieces up to the first one that has a handler, whose match is then in hand, and appends those before it.
-    fn next_handling(&mut self, state: &State) -> Result<Option<Handling>, AllocError>
+    fn next_handling(&mut self, state: &mut State) -> Result<Option<Handling>, AllocError>
         ensures same { self.new.cut.text ≡ self.old.cut.text }
         ensures found { IfOk result (λ found. (invocation : Invocation) →
-            pieces_pass invocation self.old.cut.text state.now self.old.so_far self.old.cut.pieces ≡ handling_pass
-            invocation self.old.cut.text state.now found self.new.so_far self.new.cut.pieces) }
+            pieces_pass invocation self.old.cut.text state.old self.old.so_far self.old.cut.pieces ≡ handling_pass
+            invocation self.old.cut.text state.old found self.new.so_far self.new.cut.pieces) }
+        ensures state { state.new ≡ state.old }
         ensures hand { IfOk result (λ found. IfSome found (λ h. self.new.hand ≡ Some h.matched)) }
     {
         self.parts.hand = None;
@@ -138,21 +139,21 @@ impl TextPass {
     }
 }
 
-/// A handler that is to be invoked, and its match.
+/// The invocation of a handler that is to be made, and its match.
 #[derive(Drop)]
 pub struct Handling {
-    pub handler: CallbackId,
-    pub call: Call,
+    pub invoked: Invoked,
     pub matched: Matched,
 }
 
 /// Takes pieces up to the first one that has a handler, and appends those before it. If no piece has one, none is left.
-fn next_handling(state: &State, parts: &mut TextParts) -> Result<Option<Handling>, AllocError>
+fn next_handling(state: &mut State, parts: &mut TextParts) -> Result<Option<Handling>, AllocError>
     ensures same { parts.new.cut.text ≡ parts.old.cut.text }
     ensures hand { parts.new.hand ≡ parts.old.hand }
     ensures found { IfOk result (λ found. (invocation : Invocation) →
-        pieces_pass invocation parts.old.cut.text state.now parts.old.so_far parts.old.cut.pieces ≡ handling_pass
-        invocation parts.old.cut.text state.now found parts.new.so_far parts.new.cut.pieces) }
+        pieces_pass invocation parts.old.cut.text state.old parts.old.so_far parts.old.cut.pieces ≡ handling_pass
+        invocation parts.old.cut.text state.old found parts.new.so_far parts.new.cut.pieces) }
+    ensures state { state.new ≡ state.old }
     ensures span { IfOk result (λ found. IfSome found (λ h. IsSpanOf parts.old.cut.text h.matched.name)) }
 {
     while let Some(piece) = parts.cut.take_first() {
@@ -160,16 +161,8 @@ fn next_handling(state: &State, parts: &mut TextParts) -> Result<Option<Handling
         let work = work_of_piece(state, whole, &piece)?;
         match work {
             Work::Shown(span) => parts.so_far.push_str(text_at(whole, span))?,
-            Work::Handled {
-                handler,
-                call,
-                matched,
-            } => {
-                return Ok(Some(Handling {
-                    handler,
-                    call,
-                    matched,
-                }));
+            Work::Handled { invoked, matched } => {
+                return Ok(Some(Handling { invoked, matched }));
             }
         }
     }
@@ -194,8 +187,7 @@ pub fn text_turn<S: Stated>(
         match pass.next_handling(state)? {
             None => return Ok(Move::Handed(pass.take_text(state.alloc()))),
             Some(handling) => {
-                let invoked = state.invocation(handling.handler, handling.call)?;
-                let went = invoke(plugins, state, invoked, pace)?;
+                let went = invoke(plugins, state, handling.invoked, pace)?;
                 match went {
                     Went::Answered(invoked, answer) => {
                         if state.is_hooked(SHORTCODE_FILTER) {

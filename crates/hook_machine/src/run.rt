@@ -10,6 +10,7 @@ use crate::pass::copies;
 use crate::paused::PausedRun;
 use crate::resuming::{Job, Turn, next_turn, run_job};
 use crate::state::State;
+use crate::turning::may_pass_over;
 use callback_store::{Plugins, Stated};
 use content_cache::PieceCache;
 use hook_changes::{Listed, Text};
@@ -148,13 +149,14 @@ fn fault_in<T>(outcome: &Result<T, RunFault>) -> Option<RunFault>
 }
 
 impl<'a, S: Stated> Run<'a, S> {
-    ghost use Rattle.std.specs.Prelude.{◌≡◌, ◌++◌, [], None, IfOk, IfErr, OnOk, IsOk};
+    ghost use Rattle.std.specs.Prelude.{◌≡◌, ◌++◌, ℕ, List, [], None, IfOk, IfErr, OnOk, IsOk, IsTrue, IsFalse};
     ghost use Rattle.callback_store.specs.Shape.{shapes_of};
     ghost use Rattle.hook_machine.specs.World.{fresh, loaded};
     ghost use Rattle.hook_machine.specs.Meaning.{Engine, filtered, acted, replaced};
     ghost use Rattle.hook_machine.specs.Outcomes.{RunsAs, engine_with};
     ghost use Rattle.hook_registry.specs.Table.{has};
-    ghost use Rattle.hook_machine.specs.Moves.{Turns, TurnsBy};
+    ghost use Rattle.hook_machine.specs.Trace.{Done};
+    ghost use Rattle.hook_machine.specs.Moves.{Leads, Turns, TurnsBy};
     ghost use Rattle.hook_machine.specs.Jobs.{job_left};
     ghost use Rattle.hook_machine.specs.Runs.{world_of, fault_of, engine_of, left_of, CanBegin, IsIdle, IsIdleAtEnd};
     ghost use Rattle.hook_machine.specs.Runs.{Keeps, paused_world, paused_left, IsPausedIdle};
@@ -356,6 +358,29 @@ impl<'a, S: Stated> Run<'a, S> {
         ensures { result ≡ has (world_of self.now).table hook.now }
     {
         self.state.is_hooked(hook)
+    }
+
+    /// Passes over a filter that leaves its value as it is, and returns whether it did. It does so only in a run that
+    /// doesn't stop, on a hook whose only callback is core's own, over a text without shortcodes.
+    pub fn pass_over(&mut self, hook: &str, value: &str, pace: Pace) -> Result<bool, RunFault>
+        requires idle { CanBegin self.old }
+        ensures idle { OnOk result (IsIdle self.new) }
+        ensures passed { fault_of self.old ≡ None → IfOk result (λ passed. IsTrue passed → (args : List (List ℕ))
+            → Leads pace (filtered (engine_of S.says S.number self.old) (world_of self.old) hook.now value.now args)
+            (Done (world_of self.new) value.now)) }
+        ensures stays { fault_of self.old ≡ None → IfOk result (λ passed. IsFalse passed →
+            world_of self.new ≡ world_of self.old) }
+        ensures succeeds { fault_of self.old ≡ None → IsOk result }
+        ensures keeps { Keeps S.says S.number self.old result self.new }
+    {
+        if let Some(fault) = self.fault {
+            return Err(fault);
+        }
+        if !may_pass_over(&self.state, hook, value, pace) {
+            return Ok(false);
+        }
+        self.state.spend_call();
+        Ok(true)
     }
 
     /// Prints a text of the page's own, after what was printed so far.

@@ -1,9 +1,11 @@
 //! How a stopped run goes on, from one invocation to the next.
-ghost use Rattle.std.specs.Prelude.{◌≡◌, ◌<◌, ℕ, List, IfOk, IfErr, OnOk, take};
+ghost use Rattle.std.specs.Prelude.{◌≡◌, ◌<◌, ℕ, List, IfOk, IfErr, IsTrue, OnOk, take};
+ghost use Rattle.hook_machine.specs.declared.frame.Pace.TheVariants.{Through};
 ghost use Rattle.hook_machine.specs.World.{World};
 ghost use Rattle.hook_machine.specs.Meaning.{Engine, pass, filter_pass, action_pass, invoke};
 ghost use Rattle.hook_machine.specs.Meaning.{hook_call, arguments, value_after};
 ghost use Rattle.hook_machine.specs.Outcomes.{engine_over};
+ghost use Rattle.hook_machine.specs.PassedOver.{left_by_core};
 ghost use Rattle.hook_machine.specs.Rest.{begun, pass_left, pending_left};
 ghost use Rattle.hook_machine.specs.Moves.{Does, Shrinks, Invokes, MayAnswer, went_left};
 
@@ -186,7 +188,18 @@ pub fn begin_pass<S: Stated>(
     pass_turn(plugins, state, stack, pass, pace)
 }
 
-/// Begins a filter pass.
+/// Returns whether a run that doesn't stop may pass over a filter, since that leaves the value as it is.
+pub fn may_pass_over(state: &State, hook: &str, value: &str, pace: Pace) -> bool
+    ensures { IsTrue result → (pace ≡ Through) × ((engine : Engine) (args : List (List ℕ))
+        → filter_pass (invoke engine) state.now hook.now value.now args ≡ left_by_core state.now hook.now value.now) }
+{
+    match pace {
+        Pace::ByTurns => false,
+        Pace::Through => state.leaves(hook, value),
+    }
+}
+
+/// Begins a filter pass. A pass that changes nothing isn't made.
 pub fn begin_filter<S: Stated>(
     plugins: &Plugins<S>,
     state: &mut State,
@@ -200,6 +213,13 @@ pub fn begin_filter<S: Stated>(
         (λ engine. filter_pass (invoke engine) state.old hook.now value args) stack.old result state.new stack.new }
     ensures shrinks { Shrinks 0 result stack.old stack.new }
 {
+    if !state.is_hooked(hook) {
+        return Ok(Move::Handed(value));
+    }
+    if may_pass_over(state, hook, value.as_str(), pace) {
+        state.spend_call();
+        return Ok(Move::Handed(value));
+    }
     match HookName::read(state.alloc(), hook) {
         Ok(hook) => {
             let kind = PassKind::Filter;
@@ -210,7 +230,7 @@ pub fn begin_filter<S: Stated>(
     }
 }
 
-/// Begins an action pass.
+/// Begins an action pass. If nothing is registered on the hook, the action is counted and no pass is made.
 pub fn begin_action<S: Stated>(
     plugins: &Plugins<S>,
     state: &mut State,
@@ -227,6 +247,9 @@ pub fn begin_action<S: Stated>(
         Ok(hook) => {
             state.fire(&hook)?;
             let nothing = Text::empty(state.alloc());
+            if !state.is_hooked(hook.as_str()) {
+                return Ok(Move::Handed(nothing));
+            }
             let kind = PassKind::Action;
             begin_pass(plugins, state, stack, kind, hook, nothing, args, pace)
         }

@@ -21,8 +21,8 @@ pub fn escape_ends(alloc: Global, text: Text) -> Result<Text, AllocError>
     Ok(Text::new(escaped))
 }
 
-/// Returns whether a text has no `]]>`.
-fn has_no_end(text: &str) -> bool
+/// Returns whether a text has no `]]>`, so that [`escape_ends`] leaves it as it is.
+pub fn has_no_end(text: &str) -> bool
     ensures { IsTrue result → ends_escaped text.now ≡ text.now }
 {
     // Most texts have no bracket, and one byte is found faster than three.
@@ -55,8 +55,8 @@ pub fn into_escaped_html(alloc: Global, text: Text) -> Result<Text, AllocError>
     escape_html(alloc, text.as_str())
 }
 
-/// Returns whether no character of a text has an entity.
-fn has_no_mark(text: &str) -> bool
+/// Returns whether no character of a text has an entity, so that [`escape_html`] leaves it as it is.
+pub fn has_no_mark(text: &str) -> bool
     ensures { IsTrue result → html_escaped text.now ≡ text.now }
 {
     let bytes = text.as_bytes();

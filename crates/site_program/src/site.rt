@@ -66,7 +66,7 @@ impl<'p, S: Stated> Site<'p, S> {
     }
 
     /// Limits how many rows each later statement on the site's tables may visit; with `None` there is no limit, as at
-    /// first. A command whose statement would visit more is refused as `Store` and leaves every row as it was.
+    /// first. A command whose statement would visit more may be refused as `Store`, which leaves every row as it was.
     pub fn limit_steps(&mut self, limit: Option<u32>)
         ensures rows { state_of S.says S.number self.new ≡ record (state_of S.says S.number self.old)
             { rows = record (rows_of self.old) { step_limit = limit } } }

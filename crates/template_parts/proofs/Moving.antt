@@ -1,6 +1,8 @@
 -- How a page moves along what is left of it.
-use Rattle.std.proofs.Common.{◌≡◌, false, ◌∙◌, List, [], ◌∷◌, ◌++◌, Option, None, Some, Result, Ok, Err, refl, sym, ap}
+use Rattle.std.proofs.Common.{◌≡◌, ℕ, false, ◌∙◌, List, [], ◌∷◌, ◌++◌, Option, None, Some, Result, Ok, Err, refl, sym, ap, subst}
 use Rattle.std.specs.Prelude.{option_to_list}
+use Rattle.hook_changes.specs.declared.reply.Call.{Call}
+use Rattle.hook_changes.specs.declared.reply.Reply.{Reply}
 use Rattle.site_records.specs.declared.post.Post.{Post}
 use Rattle.template_trees.specs.declared.tree.Item.{Item}
 use Rattle.hook_machine.specs.World.{Text, World}
@@ -14,6 +16,8 @@ use Rattle.hook_machine.specs.Meaning.{Engine, filtered, acted, invoke}
 use Rattle.hook_machine.proofs.Ending.{filter_unhooked}
 use Rattle.hook_registry.specs.Table.{has}
 use Rattle.hook_machine.specs.Jobs.{job_left}
+use Rattle.hook_machine.specs.declared.run.Run.{Run}
+use Rattle.hook_machine.specs.Runs.{world_of, engine_of, left_of}
 use Rattle.hook_machine.specs.declared.frame.Pace.{Pace}
 use Rattle.hook_machine.specs.declared.frame.Pace.TheVariants.{ByTurns}
 use Rattle.hook_machine.specs.Moves as run
@@ -29,7 +33,7 @@ use Rattle.template_parts.specs.declared.place.Hook.{Hook}
 use Rattle.template_parts.specs.declared.place.Stored.{Stored}
 use Rattle.template_parts.specs.declared.place.Place.TheVariants as place
 use Rattle.template_parts.specs.Places.{hook_name, stored_item, item_at, post_at, step_items, items_left}
-use Rattle.template_parts.specs.Left.{shown_as, handed_on, begun, item_or_nothing, step_pass, then_items, Moves, Stops}
+use Rattle.template_parts.specs.Left.{shown_as, handed_on, begun, item_or_nothing, step_pass, then_items, Begins, BeginsBy, Moves, Stops}
 use Rattle.template_parts.specs.declared.page.PageTurn.{PageTurn}
 use Rattle.template_parts.specs.declared.page.PageTurn.TheVariants as page
 use Rattle.template_parts.specs.Page.{Turns, Goes, IsDoneBy}
@@ -38,7 +42,51 @@ use Rattle.template_parts.specs.Page.{Turns, Goes, IsDoneBy}
 pub busy : {A P : Type 0} (x : A) → Some x ≡ None → P
 busy x is = absurd (let none : Some x ≡ None = is in cc)
 
+-- what has begun some work has begun it at any pace
+pub begins_by : {S : Type 0} {pace : Pace} {says : ℕ → Call → Reply} {number : S → ℕ} {before : Run S} {result : Result (Option Hand) RunFault} {after : Run S}
+    {work : Engine → World → Work} → Begins says number before result after work → BeginsBy pace says number before result after work
+begins_by {result = Ok hand} begins =
+    record { begun = (leads_here begins.begun.0, begins.begun.1, begins.begun.2); memory = tt; engine = begins.engine }
+begins_by {result = Err fault} begins = record { begun = tt; memory = begins.memory; engine = begins.engine }
+
+-- some work that leads to what a run has begun
+pub begins_after : {S : Type 0} {pace : Pace} {says : ℕ → Call → Reply} {number : S → ℕ} (before middle : Run S) (result : Result (Option Hand) RunFault)
+    (after : Run S) (work then_work : Engine → World → Work) → engine_of says number middle ≡ engine_of says number before
+    → Leads pace (work (engine_of says number before) (world_of before)) (then_work (engine_of says number middle) (world_of middle))
+    → Begins says number middle result after then_work → BeginsBy pace says number before result after work
+begins_after {pace = pace} {says = says} {number = number} before middle (Ok hand) after work then_work same leads begins =
+    record {
+      begun = (
+        leads_then leads (subst (λ (e : Engine). Leads pace (then_work (engine_of says number middle) (world_of middle)) (begun (world_of after) (left_of e after) hand)) same
+            (leads_here begins.begun.0)),
+        begins.begun.1,
+        begins.begun.2,
+      );
+      memory = tt;
+      engine = begins.engine ∙ same;
+    }
+begins_after before middle (Err fault) after work then_work same leads begins =
+    record { begun = tt; memory = begins.memory; engine = begins.engine ∙ same }
+
 module _ (engine : Engine) (settings : Settings) where
+  -- a filter that was passed over shows its value as it is
+  pub shown_passed_over : {pace : Pace} (world later : World) (shown : Text → Text) (hook value : Text) (args : List Text)
+      → Leads pace (filtered engine world hook value args) (Done later value)
+      → Leads pace (shown_pass engine settings shown world hook value args) (printed later (shown value))
+  unfolding shown_pass
+  shown_passed_over world later shown hook value args leads = leads_under (λ t. and_then t (λ later v. printed later (shown v))) through_shown leads
+    where
+      through_shown : (xs : List World) (t : Trace Text)
+          → and_then (run.through xs t) (λ later v. printed later (shown v)) ≡ run.through xs (and_then t (λ later v. printed later (shown v)))
+      through_shown [] t = refl
+      through_shown (x ∷ xs) t = ap (Turn x) (through_shown xs t)
+
+  -- what some work passes over, the page passes over
+  through_items : (items : List Placed) (xs : List World) (t : Work)
+      → then_items engine settings (run.through xs t) items ≡ run.through xs (then_items engine settings t items)
+  through_items items [] t = refl
+  through_items items (x ∷ xs) t = ap (Turn x) (through_items items xs t)
+
   -- the work of an action that was started is that of the action
   pub action_begun : (world now : World) (hook given : Text) (args : List Text) (left : Trace Text) → given ≡ hook → args ≡ []
       → left ≡ job_left engine world (Action given args)
@@ -98,13 +146,13 @@ module _ (engine : Engine) (settings : Settings) where
     none_move free none = rw (free, none) refl
 
     -- the next step was begun
-    pub step_move : (later : World) (now : Trace Text) (waits : Option Hand) (step : Step) (rest : List Step) → hand ≡ None → steps ≡ step ∷ rest
-        → step_pass engine settings posts world step ≡ begun later now waits
-        → then_items engine settings (begun world left hand) (items_left settings posts steps)
-        ≡ then_items engine settings (begun later now waits) (items_left settings posts rest)
+    pub step_move : {pace : Pace} (later : World) (now : Trace Text) (waits : Option Hand) (step : Step) (rest : List Step) → hand ≡ None
+        → steps ≡ step ∷ rest → Leads pace (step_pass engine settings posts world step) (begun later now waits)
+        → Leads pace (then_items engine settings (begun world left hand) (items_left settings posts steps))
+        (then_items engine settings (begun later now waits) (items_left settings posts rest))
     step_move later now waits step rest free is first =
-        rw (free, is) (step_first posts world step (items_left settings posts rest)
-        ∙ ap (λ work. then_items engine settings work (items_left settings posts rest)) first)
+        rw (free, is) (leads_then (leads_here (step_first posts world step (items_left settings posts rest)))
+        (leads_under (λ work. then_items engine settings work (items_left settings posts rest)) (through_items (items_left settings posts rest)) first))
 
   module _ (hand : Hand) (items : List Placed) (world : World) where
     -- what a job passes over, the page passes over

@@ -11,7 +11,7 @@ use Rattle.hook_machine.specs.declared.frame.Pace.{Pace}
 use Rattle.hook_machine.specs.declared.run.Run.{Run}
 use Rattle.hook_machine.specs.Trace.{Trace, Done, Turn, and_then}
 use Rattle.hook_machine.specs.Meaning.{Engine}
-use Rattle.hook_machine.specs.Moves.{LeadsOn}
+use Rattle.hook_machine.specs.Moves.{Leads, LeadsOn}
 use Rattle.hook_machine.specs.Runs.{world_of, fault_of, engine_of, left_of, IsIdle, IsReady}
 use Rattle.page_escapes.specs.Escapes.{ends_escaped, html_escaped}
 use Rattle.template_parts.specs.declared.settings.Settings.{Settings}
@@ -78,6 +78,18 @@ module _ {S : Type 0} where
   pub record Begins (says : ℕ → Call → Reply) (number : S → ℕ) (before : Run S) (result : Result (Option Hand) RunFault) (after : Run S)
       (work : Engine → World → Work) : Type 0 where
     pub begun : IfOk result (IsBegun (engine_of says number before) (work (engine_of says number before) (world_of before)) after)
+    pub memory : IfErr result (λ fault. fault ≡ OutOfMemory)
+    pub engine : engine_of says number after ≡ engine_of says number before
+
+  -- the same, if the work may have led to that, after invocations that were passed over
+  abbrev pub IsBegunBy : Pace → Engine → Work → Run S → Option Hand → Type 0
+  IsBegunBy pace engine work run hand =
+      Leads pace work (begun (world_of run) (left_of engine run) hand) × (fault_of run ≡ None) × (hand ≡ None → IsIdle run)
+
+  -- a run has begun some work, as `IsBegunBy` says, and has the plugins that it had; or memory ran out
+  pub record BeginsBy (pace : Pace) (says : ℕ → Call → Reply) (number : S → ℕ) (before : Run S) (result : Result (Option Hand) RunFault) (after : Run S)
+      (work : Engine → World → Work) : Type 0 where
+    pub begun : IfOk result (IsBegunBy pace (engine_of says number before) (work (engine_of says number before) (world_of before)) after)
     pub memory : IfErr result (λ fault. fault ≡ OutOfMemory)
     pub engine : engine_of says number after ≡ engine_of says number before
 

@@ -3,14 +3,14 @@ ghost use Rattle.std.specs.Prelude.{◌≡◌, [], ◌∷◌, IfOk, option_map, 
 ghost use Rattle.hook_machine.specs.Runs.{IsReady};
 ghost use Rattle.template_parts.specs.Pages.{printed, permalink, shown_pass, title_pass, content_pass, action_pass};
 ghost use Rattle.template_parts.specs.Pages.{post_tag_pass, tag_pass, item_pass};
-ghost use Rattle.template_parts.specs.Left.{shown_as, handed_on, Begins, Finishes};
+ghost use Rattle.template_parts.specs.Left.{shown_as, handed_on, Begins, BeginsBy, Finishes};
 
 use crate::settings::Settings;
 use callback_store::Stated;
 use hook_changes::{Listed, Text};
-use hook_machine::{Job, Run, RunFault};
+use hook_machine::{Job, Pace, Run, RunFault};
 use itoa::Buffer;
-use page_escapes::{escape_ends, escape_html, into_escaped_html};
+use page_escapes::{escape_ends, escape_html, has_no_end, has_no_mark, into_escaped_html};
 use site_records::{Post, PostKind};
 use std::alloc::{AllocError, Global};
 use template_trees::{Item, PostTag, Tag};
@@ -51,7 +51,27 @@ fn print_escaped<S: Stated>(
     ensures { Begins S.says S.number run.old result run.new
         (λ engine world. printed world (shown_as Shown.HtmlEscaped text.now)) }
 {
+    if has_no_mark(text) {
+        return print(run, text);
+    }
     let escaped = escape_html(alloc, text)?;
+    print(run, escaped.as_str())
+}
+
+/// Prints a text with each `]]>` escaped.
+fn print_ends_escaped<S: Stated>(
+    alloc: Global,
+    run: &mut Run<'_, S>,
+    text: &str,
+) -> Result<Option<Hand>, RunFault>
+    requires { IsReady run.old }
+    ensures { Begins S.says S.number run.old result run.new
+        (λ engine world. printed world (shown_as Shown.EndsEscaped text.now)) }
+{
+    if has_no_end(text) {
+        return print(run, text);
+    }
+    let escaped = escape_ends(alloc, Text::copied(alloc, text)?)?;
     print(run, escaped.as_str())
 }
 
@@ -118,10 +138,7 @@ fn print_unfiltered<S: Stated>(
     match shown {
         Shown::Plain => print(run, value),
         Shown::HtmlEscaped => print_escaped(alloc, run, value),
-        Shown::EndsEscaped => {
-            let escaped = escape_ends(alloc, Text::copied(alloc, value)?)?;
-            print(run, escaped.as_str())
-        }
+        Shown::EndsEscaped => print_ends_escaped(alloc, run, value),
     }
 }
 
@@ -146,17 +163,22 @@ fn start_title<S: Stated>(
     start_filter(alloc, run, settings, "the_title", title, args, shown)
 }
 
-/// Starts the filter of a content.
+/// Starts the filter of a content. If the run needn't stop in it and it leaves the content as it is, the content is
+/// printed at once.
 fn start_content<S: Stated>(
     alloc: Global,
     run: &mut Run<'_, S>,
     settings: &Settings,
     post: &Post,
+    pace: Pace,
 ) -> Result<Option<Hand>, RunFault>
     requires { IsReady run.old }
-    ensures { Begins S.says S.number run.old result run.new
+    ensures { BeginsBy pace S.says S.number run.old result run.new
         (λ engine world. content_pass engine settings.now post.now world) }
 {
+    if run.pass_over("the_content", post.content.as_str(), pace)? {
+        return print_ends_escaped(alloc, run, post.content.as_str());
+    }
     let content = post.content.clone()?;
     let args = Listed::empty(alloc);
     start_filter(
@@ -170,22 +192,23 @@ fn start_content<S: Stated>(
     )
 }
 
-#[tactic(auto, unfolding(crate::specs::Pages::post_tag_pass, crate::specs::Pages::shown_pass))]
+#[tactic(auto, using(crate::proofs::Moving::begins_by), unfolding(crate::specs::Pages::post_tag_pass, crate::specs::Pages::shown_pass))]
 fn begin_post_tag<S: Stated>(
     alloc: Global,
     run: &mut Run<'_, S>,
     settings: &Settings,
     post: &Post,
     tag: PostTag,
+    pace: Pace,
 ) -> Result<Option<Hand>, RunFault>
     requires { IsReady run.old }
-    ensures { Begins S.says S.number run.old result run.new
+    ensures { BeginsBy pace S.says S.number run.old result run.new
         (λ engine world. post_tag_pass engine settings.now post.now world tag) }
 {
     match tag {
         PostTag::TheTitle => start_title(alloc, run, settings, post, Shown::Plain),
         PostTag::TitleEscaped => start_title(alloc, run, settings, post, Shown::HtmlEscaped),
-        PostTag::TheContent => start_content(alloc, run, settings, post),
+        PostTag::TheContent => start_content(alloc, run, settings, post, pace),
         PostTag::TheId => print(run, Buffer::new().format(post.id)),
         PostTag::ThePermalink => print_permalink(alloc, run, post),
         PostTag::PostDate => print(run, post.date.as_str()),
@@ -193,21 +216,22 @@ fn begin_post_tag<S: Stated>(
 }
 
 /// Begins a tag; outside a loop there is no post, and the tags of a post print nothing.
-#[tactic(auto, unfolding(crate::specs::Pages::tag_pass))]
+#[tactic(auto, using(crate::proofs::Moving::begins_by), unfolding(crate::specs::Pages::tag_pass))]
 fn begin_tag<S: Stated>(
     alloc: Global,
     run: &mut Run<'_, S>,
     settings: &Settings,
     post: Option<&Post>,
     tag: Tag,
+    pace: Pace,
 ) -> Result<Option<Hand>, RunFault>
     requires { IsReady run.old }
-    ensures { Begins S.says S.number run.old result run.new
+    ensures { BeginsBy pace S.says S.number run.old result run.new
         (λ engine world. tag_pass engine settings.now (option_map (λ p. p.now) post.entry) world tag) }
 {
     match tag {
         Tag::OfPost(tag) => match post {
-            Some(post) => begin_post_tag(alloc, run, settings, post, tag),
+            Some(post) => begin_post_tag(alloc, run, settings, post, tag, pace),
             None => Ok(None),
         },
         Tag::SiteName => print_escaped(alloc, run, settings.site_name.as_str()),
@@ -217,21 +241,22 @@ fn begin_tag<S: Stated>(
 }
 
 /// Begins an item: a text is printed, and an action or a filter is started.
-#[tactic(auto, unfolding(crate::specs::Pages::item_pass))]
+#[tactic(auto, using(crate::proofs::Moving::begins_by), unfolding(crate::specs::Pages::item_pass))]
 pub(crate) fn begin_item<S: Stated>(
     alloc: Global,
     run: &mut Run<'_, S>,
     settings: &Settings,
     post: Option<&Post>,
     item: &Item,
+    pace: Pace,
 ) -> Result<Option<Hand>, RunFault>
     requires { IsReady run.old }
-    ensures { Begins S.says S.number run.old result run.new
+    ensures { BeginsBy pace S.says S.number run.old result run.new
         (λ engine world. item_pass engine settings.now (option_map (λ p. p.now) post.entry) world item.now) }
 {
     match item {
         Item::Text(text) => print(run, text.as_str()),
-        Item::Tag(tag) => begin_tag(alloc, run, settings, post, *tag),
+        Item::Tag(tag) => begin_tag(alloc, run, settings, post, *tag, pace),
         Item::Action(hook) => start_action(alloc, run, settings, hook.as_str()),
     }
 }

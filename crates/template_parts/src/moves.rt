@@ -2,7 +2,7 @@
 ghost use Rattle.std.specs.Prelude.{◌≡◌, None, OnOk, option_map};
 ghost use Rattle.hook_machine.specs.Runs.{world_of, fault_of, engine_of, IsIdle, IsReady};
 ghost use Rattle.template_parts.specs.Places.{post_at};
-ghost use Rattle.template_parts.specs.Left.{step_pass, Begins, run_left, IsIdleIfOver};
+ghost use Rattle.template_parts.specs.Left.{step_pass, BeginsBy, run_left, IsIdleIfOver};
 ghost use Rattle.template_parts.specs.Left.{IsIdleAtEnd, Moves, Stops, Shortens};
 
 use crate::item::{Hand, begin_item, hand_on, start_action};
@@ -60,16 +60,17 @@ fn begin_step<S: Stated>(
     settings: &Settings,
     posts: &[Post],
     step: Step,
+    pace: Pace,
 ) -> Result<Option<Hand>, RunFault>
     requires { IsReady run.old }
-    ensures { Begins S.says S.number run.old result run.new
+    ensures { BeginsBy pace S.says S.number run.old result run.new
         (λ engine world. step_pass engine settings.now posts.now world step) }
 {
     let post = post_at(posts, step.post);
     match step.place {
         Place::Hook(hook) => start_action(alloc, run, settings, hook.name()),
         Place::Stored(place) => match stored_item(settings, place) {
-            Some(item) => begin_item(alloc, run, settings, post, item),
+            Some(item) => begin_item(alloc, run, settings, post, item, pace),
             None => Ok(None),
         },
     }
@@ -107,7 +108,7 @@ fn one_move<S: Stated>(
         None => match ahead.steps.take_first() {
             None => Ok(Moved::Over),
             Some(step) => {
-                ahead.hand = begin_step(alloc, run, settings, posts, step)?;
+                ahead.hand = begin_step(alloc, run, settings, posts, step, pace)?;
                 Ok(Moved::On)
             }
         },

@@ -1,7 +1,7 @@
 use Rattle.std.proofs.Common.{IfOk, subst}
 use Rattle.hook_machine.specs.Runs.{world_of, engine_of}
 use Rattle.template_parts.specs.Left.{IsBegun}
-use Rattle.template_parts.proofs.Moving.{hook_step}
+use Rattle.template_parts.proofs.Moving.{begins_by, hook_step}
 use Rattle.template_parts.proofs.moves.begin_step.Goals as goal
 
 pub returns-in-Hook : goal.returns-in-Hook
@@ -10,8 +10,8 @@ returns-in-Hook g c =
     let same =
     hook_step engine c.args.settings.now c.args.posts.now (world_of c.args.run.now) c.args.step c.in-Hook.hook c.name.result.now c.in-Hook.is c.name.ensures in
     let begins = c.start_action.ensures in
-    record {
+    begins_by (record {
       begun = subst (λ work. IfOk c.start_action.result (IsBegun engine work c.start_action.new.run)) same begins.begun;
       memory = begins.memory;
       engine = begins.engine;
-    }
+    })

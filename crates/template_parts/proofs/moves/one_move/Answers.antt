@@ -20,9 +20,9 @@ pub returns-in_ok-ahead-in-Some-take_first-clause-moves : goal.returns-in_ok-ahe
 returns-in_ok-ahead-in-Some-take_first-clause-moves g c =
     let engine = engine_of g.S.Stated.says g.S.Stated.number c.args.run.now in
     let later = c.begin_step.new.run in
-    leads_here (step_move engine c.args.settings.now c.args.posts.now (world_of c.args.run.now) (left_of engine c.args.run.now) c.args.ahead.now.hand
+    step_move engine c.args.settings.now c.args.posts.now (world_of c.args.run.now) (left_of engine c.args.run.now) c.args.ahead.now.hand
     c.args.ahead.now.steps (world_of later) (left_of engine later) c.in_ok-ahead-in-Some-take_first.field-0 c.in-Some-take_first.step
-    c.take_first.new.self c.in-None.is c.in-Some-take_first.ensures c.in_ok-ahead-in-Some-take_first.ensures.begun.0)
+    c.take_first.new.self c.in-None.is c.in-Some-take_first.ensures c.in_ok-ahead-in-Some-take_first.ensures.begun.0
 
 -- the job under way is refused
 pub returns-in_err-go_on-in-Some-clause-moves : goal.returns-in_err-go_on-in-Some-clause-moves

@@ -1,0 +1,18 @@
+-- A pass that leaves its value as it is.
+use Rattle.std.specs.Prelude.{◌≡◌, ◌-◌, ◌<◌, [], ◌∷◌, ◌++◌}
+use Rattle.hook_registry.specs.declared.registration.Registration.{Registration}
+use Rattle.hook_registry.specs.Table.{Table, registrations}
+use Rattle.hook_machine.specs.World.{Text, World}
+use Rattle.hook_machine.specs.Trace.{Trace, Done, Turn}
+
+-- core's callback is all that is registered on a hook, and takes an argument
+pub record IsCoreAlone (table : Table) (hook : Text) : Type 0 where
+  pub only : Registration
+  pub alone : registrations table hook ≡ only ∷ []
+  pub core : only.callback ≡ 0
+  pub takes : 0 < only.accepted
+
+-- core's callback takes a call in the hook, and the value is as it was
+abbrev pub left_by_core : World → Text → Text → Trace Text
+left_by_core world hook value =
+    Turn (record world { calls = world.calls - 1; running = world.running ++ hook ∷ [] }) (Done (record world { calls = world.calls - 1 }) value)
