@@ -5,10 +5,10 @@
  *
  *     php site.php DIR < COMMANDS
  *
- * It serves what bench/wordpress/run sends: put, option, activate, get of the front page and of one post, and `pass`,
- * which times passes of a filter within this process. Posts and options are PHP arrays, and a page is the default
- * template, printed by hand; the plugins below do what those of crates/bundled_plugins of the same names do. WordPress
- * itself does far more for a page than this: its database, its theme, its other callbacks.
+ * It serves what bench/wordpress/run and tests/wordpress/run send: put, option, activate, deactivate, get of the front
+ * page and of one post, and `pass`, which times passes of a filter within this process. Posts and options are PHP arrays,
+ * and a page is the default template, printed by hand; the plugins below do what those of crates/bundled_plugins of the
+ * same names do. WordPress itself does far more for a page than this: its database, its theme, its other callbacks.
  */
 error_reporting(E_ERROR | E_PARSE);
 ini_set('display_errors', 'stderr');
@@ -35,6 +35,10 @@ foreach (['plugin', 'formatting', 'kses', 'shortcodes'] as $file) {
 // ------------------------------------------------------------------------------------------------------- the plugins
 function bold($atts, $content = '') { return "<b>$content</b>"; }
 function italic($atts, $content = '') { return '<i>' . do_shortcode($content) . '</i>'; }
+function raw() { return '[b]y[/b]'; }
+function off() { remove_shortcode('b'); return ''; }
+function alloff() { remove_all_shortcodes(); return ''; }
+function hush() { remove_all_filters('the_title', 10); return ''; }
 function show($atts) {
     $named = $others = '';
     foreach (is_array($atts) ? $atts : [] as $name => $value) {
@@ -46,6 +50,29 @@ function shown_link($atts) {
     $given = shortcode_atts(['href' => '#', 'label' => 'link'], $atts);
     return '<a href="' . $given['href'] . '">' . $given['label'] . '</a>';
 }
+function asked() {
+    $answers = [
+        current_filter(), doing_filter('the_content'), did_action('init'), has_filter('the_content', 'do_shortcode'),
+        shortcode_exists('b'), get_option('blogname'),
+    ];
+    return implode(',', array_map(fn($answer) => is_bool($answer) ? (string) (int) $answer : (string) $answer, $answers));
+}
+function deep($title) {
+    $is_run = '' !== $title && strspn($title, 'd') === strlen($title);
+    return $is_run ? '(' . apply_filters('the_title', substr($title, 1)) . ')' : $title;
+}
+function grow($title) {
+    add_filter('the_title', 'grow_before', 5, 1);
+    add_filter('the_title', 'grow_beside', 10, 1);
+    add_filter('the_title', 'grow_after', 20, 1);
+    return $title . 'a';
+}
+function grow_before($title) { return $title . '5'; }
+function grow_beside($title) { return $title . '9'; }
+function grow_after($title) { return $title . '7'; }
+function args_none(...$given) { return 'n' . count($given); }
+function args_all(...$given) { return $given[0] . '(' . count($given) . ' ' . ($given[1] ?? '') . ')'; }
+function args_footer(...$given) { echo '[', count($given), ':', $given[0] ?? '', ']'; }
 function mark_y($title) { return $title . 'Y'; }
 function mark_x($title, $id = '') { return $title . 'X' . $id; }
 function once_first($title) { return $title . '1'; }
@@ -64,20 +91,32 @@ function nest_within($title) {
 }
 function nest_after($title) { return $title . '3'; }
 function nest_last($title) { return $title . '4'; }
+function note() { add_action('wp_footer', 'note_footer', 10, 1); return '<sup>*</sup>'; }
+function note_footer() { echo '<p>note</p>'; }
+function ping() { do_action('ping'); return (string) did_action('ping'); }
+function say() { echo 'E'; return 'A'; }
+function tag_marked($output, $tag) { return $output . '{' . $tag . '}'; }
 
 // What each plugin registers: [hook, priority, callback, accepted arguments], or [shortcode, handler].
 $plugins = [
-    'atts' => [['show', 'show'], ['link', 'shown_link']],
-    'bold' => [['b', 'bold'], ['i', 'italic'], ['raw', 'bold'], ['off', 'bold'], ['alloff', 'bold'], ['hush', 'bold']],
+    'args' => [
+        ['the_title', 10, 'args_none', 0], ['the_title', 20, 'args_all', 16], ['wp_footer', 10, 'args_footer', 1],
+    ],
+    'atts' => [['show', 'show'], ['link', 'shown_link'], ['ask', 'asked']],
+    'bold' => [['b', 'bold'], ['i', 'italic'], ['raw', 'raw'], ['off', 'off'], ['alloff', 'alloff'], ['hush', 'hush']],
+    'deep' => [['the_title', 10, 'deep', 1]],
+    'grow' => [['the_title', 10, 'grow', 1]],
     'marks' => [['the_title', 10, 'mark_x', 1], ['the_title', 10, 'mark_y', 1], ['the_title', 10, 'mark_x', 2]],
     'nest' => [
         ['the_title', 10, 'nest_first', 1], ['the_title', 11, 'nest_within', 1],
         ['the_title', 11, 'nest_after', 1], ['the_title', 12, 'nest_last', 1],
     ],
+    'note' => [['note', 'note'], ['ping', 'ping'], ['say', 'say']],
     'once' => [
         ['the_title', 10, 'once_first', 1], ['the_title', 11, 'once_again', 1],
         ['the_title', 12, 'once_last', 1],
     ],
+    'tagmark' => [['do_shortcode_tag', 10, 'tag_marked', 2]],
 ];
 
 // ---------------------------------------------------------------------------------------------------------- the site
@@ -150,6 +189,9 @@ function reply_to($command) {
             return "ok\n";
         case 'activate':
             $active[$command['plugin']] = true;
+            return "ok\n";
+        case 'deactivate':
+            unset($active[$command['plugin']]);
             return "ok\n";
         case 'get':
             $page = page($command['path']);
