@@ -55,7 +55,7 @@ function asked() {
         current_filter(), doing_filter('the_content'), did_action('init'), has_filter('the_content', 'do_shortcode'),
         shortcode_exists('b'), get_option('blogname'),
     ];
-    return implode(',', array_map(fn($answer) => is_bool($answer) ? (string) (int) $answer : (string) $answer, $answers));
+    return implode(',', array_map(fn($answer) => is_bool($answer) ? (int) $answer : $answer, $answers));
 }
 function deep($title) {
     $is_run = '' !== $title && strspn($title, 'd') === strlen($title);
