@@ -6,7 +6,7 @@ use Rattle.std.proofs.lemmas.Bool.{and_parts}
 use Rattle.site_records.specs.Dates.{is_post_date}
 use Rattle.site_records.specs.declared.post.Post.{Post}
 use Rattle.site_records.specs.declared.post.PostKind.TheVariants.{Post as OfPost}
-use Rattle.post_tables.specs.Sorting.{sorted}
+use Rattle.table_rows.specs.Sorting.{sorted}
 use Rattle.post_tables.specs.Page.{newest, is_kind, is_published, is_listed, page_of}
 use Rattle.permalink_query.specs.Months.{is_month, is_in_month, month_start, month_end}
 use Rattle.permalink_query.specs.Found.{published_posts, posts_of_month, part_of_posts}

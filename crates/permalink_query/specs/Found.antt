@@ -8,7 +8,7 @@ use Rattle.site_records.specs.declared.post.Post.{Post}
 use Rattle.site_records.specs.declared.post.PostKind.{PostKind}
 use Rattle.site_records.specs.declared.post.PostKind.TheVariants.{Post as OfPost, Page as OfPage}
 use Rattle.post_tables.specs.Rows.{Text, post_with}
-use Rattle.post_tables.specs.Sorting.{sorted}
+use Rattle.table_rows.specs.Sorting.{sorted}
 use Rattle.post_tables.specs.Page.{newest, is_kind, is_published}
 use Rattle.permalink_query.specs.Numbers.{is_within, whole_number}
 use Rattle.permalink_query.specs.Months.{is_month, is_in_month}

@@ -10,10 +10,10 @@ use Rattle.site_records.specs.declared.post.Post.{Post}
 use Rattle.site_records.specs.declared.post.PostKind.{PostKind}
 use Rattle.sqlite_rules.specs.Lists.{Has}
 use Rattle.sqlite_rules.proofs.ListLemmas.{all_has}
-use Rattle.post_tables.specs.Sorting.{put_sorted, sorted}
+use Rattle.table_rows.specs.Sorting.{put_sorted, sorted}
 use Rattle.post_tables.specs.Page.{newest, is_listed, page_of}
 use Rattle.post_tables.specs.Stored.{IsSite, rows_of, trees_of, post_in}
-use Rattle.post_tables.proofs.Comparing.{mapped_from}
+use Rattle.table_rows.proofs.Lists.{mapped_from}
 use Rattle.post_tables.proofs.PageLemmas.{rising_from, rows_are}
 use Rattle.post_tables.proofs.PostRows.{few_posts}
 

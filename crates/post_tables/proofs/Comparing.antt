@@ -1,5 +1,5 @@
 -- What SQL's comparisons say of texts and numbers.
-use Rattle.std.proofs.Common.{◌≡◌, inl, inr, ℕ, ℤ, pos, suc, List, [], ◌∷◌, map, length, Bool, true, false, ◌&&◌, ◌||◌, ◌==◌, cond, Some, Ordering, Less}
+use Rattle.std.proofs.Common.{◌≡◌, inl, inr, ℕ, pos, suc, List, [], ◌∷◌, map, length, Bool, true, false, ◌&&◌, ◌||◌, ◌==◌, Some, Ordering, Less}
 use Rattle.std.proofs.Common.{Equal, Greater, refl, sym, ap, ◌∙◌, arith, true≢false}
 use Rattle.std.specs.Ordering.{is_eq, nat_cmp, int_cmp}
 use Rattle.std.specs.Cmp.Lexicographic.{slice_cmp}
@@ -7,11 +7,8 @@ use Rattle.std.specs.FinMap.{slice_cmp-IsAntisymmetric, nat_cmp-IsAntisymmetric}
 use Rattle.std.proofs.lemmas.Bool.{cases_Bool}
 use Rattle.std.proofs.lemmas.Bool.Decides.{nat_tests}
 use Rattle.std.proofs.lemmas.Cmp.{tied_itself}
-use Rattle.sqlite.specs.Ops.{unary}
-use Rattle.sqlite.specs.Kind.TheVariants.{Integer}
-use Rattle.sqlite_rules.specs.Cast.{cast}
 use Rattle.sqlite_value.specs.declared.value.Value.{Value}
-use Rattle.sqlite_value.specs.declared.value.Value.TheVariants.{Null, Int, Text}
+use Rattle.sqlite_value.specs.declared.value.Value.TheVariants.{Int, Text}
 use Rattle.sqlite_value.specs.declared.keys.Collation.TheVariants.{Binary}
 use Rattle.sqlite_value.specs.Order.{value_cmp}
 use Rattle.sqlite_value.proofs.OrderLemmas.{value_cmp-Text, value_cmp-Int, value_cmp_total}
@@ -20,19 +17,6 @@ use Rattle.sqlite_sql.specs.declared.ops.BinaryOp.TheVariants.{Compare}
 use Rattle.sqlite_sql.specs.declared.ops.CompareOp.{CompareOp}
 use Rattle.sqlite_sql.specs.declared.ops.CompareOp.TheVariants.{Eq}
 use Rattle.sqlite_schema.specs.Rules.{equal}
-use Rattle.sqlite_rules.specs.Lists.{Has}
-
-either : (b : Bool) (x : Value) → cond b x x ≡ x
-either true x = refl
-either false x = refl
-
-pub cast_null : cast Integer Null ≡ Null
-unfolding unary
-cast_null = either _ Null
-
-pub cast_int : (n : ℤ) → cast Integer (Int n) ≡ Int n
-unfolding unary
-cast_int n = either _ (Int n)
 
 pub equal_is : (o : Ordering) → is_eq o ≡ true → o ≡ Equal
 equal_is Less h = absurd (true≢false (sym h))
@@ -84,16 +68,6 @@ number_compares m n = and_true _ ∙ truth_of (is_eq (value_cmp (Int (pos m)) (I
     ∙ same_number m n
 
 -- ---- lists
-
-pub mapped_from : {X Y : Type 0} (f : X → Y) (xs : List X) (y : Y) → Has (map f xs) y → (x : X) × Has xs x × (y ≡ f x)
-mapped_from f [] y h = absurd h
-mapped_from f (x ∷ xs) y (inl same) = (x, inl refl, same)
-mapped_from f (x ∷ xs) y (inr more) = let it = mapped_from f xs y more in (it.0, inr it.1, it.2)
-
-pub mapped_has : {X Y : Type 0} (f : X → Y) (xs : List X) (x : X) → Has xs x → Has (map f xs) (f x)
-mapped_has f [] x h = absurd h
-mapped_has f (y ∷ xs) x (inl same) = inl (ap f same)
-mapped_has f (y ∷ xs) x (inr more) = inr (mapped_has f xs x more)
 
 pub len_map : {A B : Type 0} (f : A → B) (xs : List A) → length (map f xs) ≡ length xs
 len_map f [] = refl

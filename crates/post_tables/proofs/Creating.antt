@@ -1,5 +1,5 @@
 -- What the statements make that define the tables.
-use Rattle.std.proofs.Common.{◌≡◌, ◌⊎◌, inl, inr, ℕ, List, [], ◌∷◌, ◌++◌, map, true, false, None, Ok, Err, Result, OnOk, ◌<◌, ◌^◌, lit≤, refl, sym, ap}
+use Rattle.std.proofs.Common.{◌≡◌, ℕ, List, [], ◌∷◌, ◌++◌, map, true, false, None, Ok, Err, Result, OnOk, ◌<◌, ◌^◌, lit≤, refl, sym, ap}
 use Rattle.std.proofs.Common.{subst, ◌∙◌}
 use Rattle.std.specs.List.{AllByRecursion}
 use Rattle.sqlite.specs.Order.{Row}
@@ -28,15 +28,8 @@ use Rattle.post_tables.specs.Schema.{create_template, create_active, create_inde
 use Rattle.post_tables.specs.Stored.{IsBare, IsSite, ArePosts, AreNamed, IsCounter, AreGiven, rows_of, text_rest, text_in, no_rest, nothing_in, named_in}
 use Rattle.post_tables.specs.Stored.{post_in, top_in}
 use Rattle.post_tables.proofs.Texts.{post_is, sequence_is, option_is, template_is, active_is, index_is}
+use Rattle.table_rows.proofs.Steps.{went, same_value}
 use Rattle.post_tables.proofs.Memory.{wrote}
-
--- a part that has a value did not stop on the way
-pub went : {B E R : Type 0} {b : B} {Stops : E → Type 0} → ((stop : E) × Stops stop × (Ok b ≡ Err stop)) ⊎ R → R
-went (inl stopped) = absurd (let e = stopped.2 in cc)
-went (inr on) = on
-
-pub same_value : {B E : Type 0} {a b : B} → ◌≡◌ {A = Result B E} (Ok a) (Ok b) → a ≡ b
-same_value e = cc
 
 -- ---- what the texts are
 

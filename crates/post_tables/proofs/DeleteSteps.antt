@@ -31,13 +31,13 @@ use Rattle.post_tables.specs.Schema.{site_schema, post_table}
 use Rattle.post_tables.specs.Rows.{without_post}
 use Rattle.post_tables.specs.Stored.{HoldsSite, ArePosts, IsCounter, post_in, top_in}
 use Rattle.post_tables.proofs.Comparing.{number_compares}
-use Rattle.post_tables.proofs.Creating.{went, same_value}
+use Rattle.table_rows.proofs.Steps.{went, same_value}
 use Rattle.post_tables.proofs.Memory.{wrote}
 use Rattle.post_tables.proofs.GivenIds.{some_given}
 use Rattle.post_tables.proofs.Parts.{posts_now}
 use Rattle.post_tables.proofs.PostRows.{mapped_filter, some_posts}
 use Rattle.post_tables.proofs.Statements.{IsDone}
-use Rattle.post_tables.proofs.Deleting as deleting
+use Rattle.table_rows.proofs.Deleting as deleting
 
 abbrev pub delete_text : List ℕ
 delete_text = codes "DELETE FROM post WHERE id = ?1"

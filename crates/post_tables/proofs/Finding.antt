@@ -27,7 +27,7 @@ use Rattle.sqlite.specs.State.{Shown}
 use Rattle.sqlite.proofs.Callers.{IsPlain, command_of, reads_as}
 use Rattle.site_records.specs.declared.post.Post.{Post}
 use Rattle.post_tables.specs.Schema.{site_schema}
-use Rattle.post_tables.specs.Sorting.{sorted}
+use Rattle.table_rows.specs.Sorting.{sorted}
 use Rattle.post_tables.specs.Rows.{has_post, post_with}
 use Rattle.post_tables.specs.Stored.{row_of, post_in, ArePosts, HoldsSite, rows_of, trees_of}
 use Rattle.post_tables.specs.Reading.{post_from, IsPostRow}
@@ -37,7 +37,7 @@ use Rattle.post_tables.proofs.Refusing.{IsWhole, IsSafe}
 use Rattle.std.specs.Prelude.{All}
 use Rattle.std.proofs.lemmas.Bool.{cases_Bool}
 use Rattle.post_tables.proofs.PostRows.{one_or_none, any_is_found}
-use Rattle.post_tables.proofs.Reading as reading
+use Rattle.table_rows.proofs.Answering as reading
 
 abbrev wheres : List Term
 wheres = op2 (Compare Eq Binary) (col 1 0) (col 0 0) ∷ []

@@ -25,14 +25,15 @@ use Rattle.sqlite_rules.specs.declared.error.Rowids.TheVariants.{Above}
 use Rattle.sqlite.proofs.Callers.{one_step}
 use Rattle.site_records.specs.declared.post.Post.{Post}
 use Rattle.post_tables.specs.Stored.{row_of, kind_text, status_text, IsCounter, top_in}
-use Rattle.post_tables.proofs.Comparing.{cast_int, cast_null, text_itself}
+use Rattle.table_rows.proofs.Casting.{cast_int, cast_null}
+use Rattle.post_tables.proofs.Comparing.{text_itself}
 use Rattle.std.proofs.lemmas.Cmp.{tied_itself}
 use Rattle.sqlite_value.proofs.OrderLemmas.{value_cmp_total}
 use Rattle.std.proofs.Common.{fold, ◌<◌, ◌≤◌}
 use Rattle.std.proofs.lemmas.Bool.Decides.{nat_tests}
 use Rattle.std.proofs.lemmas.Int.{ints}
 use Rattle.sqlite.specs.Rows.{Counts, CounterIn}
-use Rattle.post_tables.proofs.Creating.{went, same_value}
+use Rattle.table_rows.proofs.Steps.{went, same_value}
 use Rattle.post_tables.specs.Schema.{site_schema, post_table, sequence_table}
 use Rattle.post_tables.proofs.Parts.{Others}
 

@@ -8,11 +8,8 @@ pub mod Comparing
 pub mod NamedTable
 pub mod NamedRows
 pub mod Replacing
-pub mod SortLemmas
-pub mod Reading
 pub mod Refusing
 pub mod NamedReading
-pub mod Deleting
 pub mod NamedDeleting
 pub mod NamedSteps
 pub mod PageLemmas

@@ -33,11 +33,11 @@ use Rattle.post_tables.specs.Schema.{site_schema, named_table}
 use Rattle.post_tables.specs.Rows.{by_bytes}
 use Rattle.post_tables.specs.Stored.{HoldsSite, IsIdle, AreNamed, name_in}
 use Rattle.post_tables.proofs.Comparing.{text_compares, and_true}
-use Rattle.post_tables.proofs.Creating.{went, same_value}
+use Rattle.table_rows.proofs.Steps.{went, same_value}
 use Rattle.post_tables.proofs.Memory.{wrote}
 use Rattle.post_tables.proofs.NamedTable.{NamedTable}
 use Rattle.post_tables.proofs.Parts.{Others}
-use Rattle.post_tables.proofs.Deleting as deleting
+use Rattle.table_rows.proofs.Deleting as deleting
 
 abbrev pub wheres : List Term
 wheres = op2 (Compare Eq Binary) (col 1 1) (col 0 0) ∷ []

@@ -30,14 +30,15 @@ use Rattle.sqlite.specs.Steps.{over_memory}
 use Rattle.sqlite.specs.State.{Shown}
 use Rattle.sqlite.proofs.Callers.{IsPlain, command_of, reads_as}
 use Rattle.post_tables.specs.Schema.{site_schema}
-use Rattle.post_tables.specs.Sorting.{sorted, put_sorted}
+use Rattle.table_rows.specs.Sorting.{sorted, put_sorted}
 use Rattle.post_tables.specs.Rows.{by_bytes}
 use Rattle.post_tables.specs.Stored.{IsText, IsSite, trees_of, AreNamed, IsNamed, named_in, name_in}
-use Rattle.post_tables.proofs.Comparing.{equal_is, tied_text, mapped_from, nil_of}
+use Rattle.table_rows.proofs.Lists.{mapped_from}
+use Rattle.post_tables.proofs.Comparing.{equal_is, tied_text, nil_of}
 use Rattle.post_tables.proofs.NamedTable.{NamedTable}
 use Rattle.post_tables.proofs.NamedRows.{pair}
-use Rattle.post_tables.proofs.SortLemmas.{sorted_mapped, sorted_had}
-use Rattle.post_tables.proofs.Reading as reading
+use Rattle.table_rows.proofs.SortLemmas.{sorted_mapped, sorted_had}
+use Rattle.table_rows.proofs.Answering as reading
 use Rattle.post_tables.proofs.Refusing.{IsWhole, IsSafe}
 use Rattle.sqlite_typing.specs.Types.{accepts_program}
 

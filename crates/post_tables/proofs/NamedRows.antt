@@ -30,7 +30,8 @@ use Rattle.sqlite_rules.proofs.PlaceLemmas.{row_at_is, left_or_taken, next_is_fr
 use Rattle.post_tables.specs.Schema.{site_schema, named_table}
 use Rattle.post_tables.specs.Rows.{by_bytes}
 use Rattle.post_tables.specs.Stored.{name_in, IsText, IsNamed, AreNamed, named_in}
-use Rattle.post_tables.proofs.Comparing.{equal_is, equal_tied, tied_text, equal_text, mapped_from, mapped_has}
+use Rattle.table_rows.proofs.Lists.{mapped_from, mapped_has}
+use Rattle.post_tables.proofs.Comparing.{equal_is, equal_tied, tied_text, equal_text}
 use Rattle.post_tables.proofs.NamedTable.{NamedTable, met}
 
 met_is : (a b : Bool) → met a b ≡ true → (a ≡ true) ⊎ (b ≡ true)

@@ -43,7 +43,7 @@ use Rattle.site_records.specs.declared.post.PostKind.{PostKind}
 use Rattle.site_records.specs.declared.post.PostKind.TheVariants.{Post as OfPost, Page as OfPage}
 use Rattle.site_records.specs.declared.post.PostStatus.{PostStatus}
 use Rattle.site_records.specs.declared.post.PostStatus.TheVariants.{Publish, Draft}
-use Rattle.post_tables.specs.Sorting.{sorted}
+use Rattle.table_rows.specs.Sorting.{sorted}
 use Rattle.post_tables.specs.Rows.{by_bytes}
 use Rattle.post_tables.specs.Page.{newest, is_kind, is_published, is_listed, page_of}
 use Rattle.post_tables.specs.Stored.{IsReadable, ArePosts, IsSite, rows_of, trees_of, row_of, post_in, kind_text, kind_of, status_text, status_of}
@@ -58,9 +58,10 @@ use Rattle.std.specs.Cmp.{IsTotalOrder}
 use Rattle.std.proofs.lemmas.Cmp.{on_total, then_total, back_total}
 use Rattle.std.specs.Cmp.Lexicographic.{nat_list_cmp_total}
 use Rattle.post_tables.proofs.Refusing.{IsWhole, IsSafe}
-use Rattle.post_tables.proofs.Comparing.{equal_is, mapped_from, text_compares, and_true, pos_cmp}
-use Rattle.post_tables.proofs.SortLemmas.{sorted_mapped, sorted_had}
-use Rattle.post_tables.proofs.Reading as reading
+use Rattle.table_rows.proofs.Lists.{mapped_from}
+use Rattle.post_tables.proofs.Comparing.{equal_is, text_compares, and_true, pos_cmp}
+use Rattle.table_rows.proofs.SortLemmas.{sorted_mapped, sorted_had}
+use Rattle.table_rows.proofs.Answering as reading
 
 abbrev by : Key
 by = record { collation = Binary; descending = true }

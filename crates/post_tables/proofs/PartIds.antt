@@ -31,7 +31,7 @@ use Rattle.post_tables.specs.Page.{page_of}
 use Rattle.post_tables.specs.Reading.{IsId}
 use Rattle.post_tables.specs.Stored.{IsReadable, IsSite, rows_of, trees_of, post_in, magnitude}
 use Rattle.post_tables.proofs.Refusing.{IsWhole, IsSafe}
-use Rattle.post_tables.proofs.Reading as reading
+use Rattle.table_rows.proofs.Answering as reading
 use Rattle.post_tables.proofs.PageLemmas.{query, wheres, orders, params, answered_page, rows_are, each_readable, paged_from}
 use Rattle.post_tables.proofs.PartLemmas.{found_in_part, site_rises}
 

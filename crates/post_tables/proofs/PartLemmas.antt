@@ -18,14 +18,14 @@ use Rattle.sqlite.specs.Held.{Held}
 use Rattle.site_records.specs.Dates.{is_post_date}
 use Rattle.site_records.specs.declared.post.Post.{Post}
 use Rattle.site_records.specs.declared.post.PostKind.{PostKind}
-use Rattle.post_tables.specs.Sorting.{sorted}
+use Rattle.table_rows.specs.Sorting.{sorted}
 use Rattle.post_tables.specs.Rows.{by_bytes, post_with, has_post}
 use Rattle.post_tables.specs.Page.{newest, is_listed, page_of}
 use Rattle.post_tables.specs.Stored.{IsSite, rows_of, trees_of}
 use Rattle.post_tables.proofs.Comparing.{equal_is}
 use Rattle.post_tables.proofs.GivenIds.{next_is_free}
 use Rattle.post_tables.proofs.PageLemmas.{Rising, rising_from, rising_filter, rows_are, each_readable, newest_total, has_left, has_taken}
-use Rattle.post_tables.proofs.SortLemmas.{sorted_rises, sorted_had}
+use Rattle.table_rows.proofs.SortLemmas.{sorted_rises, sorted_had}
 
 -- ---- IDs
 

@@ -21,7 +21,8 @@ use Rattle.sqlite.specs.Tree.{rowid, put_row, IsTable}
 use Rattle.site_records.specs.declared.post.Post.{Post}
 use Rattle.post_tables.specs.Rows.{with_post, without_post, has_post, post_with, PostEdit, edited_post, edited_posts}
 use Rattle.post_tables.specs.Stored.{row_of, post_in, IsReadable, ArePosts}
-use Rattle.post_tables.proofs.Comparing.{pos_cmp, mapped_has}
+use Rattle.table_rows.proofs.Lists.{mapped_has}
+use Rattle.post_tables.proofs.Comparing.{pos_cmp}
 use Rattle.post_tables.proofs.PageLemmas.{kind_back, status_back, Rising}
 
 -- a row that was written for a post is read as that post

@@ -15,7 +15,7 @@ use Rattle.site_records.specs.declared.post.Post.{Post}
 use Rattle.post_tables.specs.Schema.{site_schema}
 use Rattle.post_tables.specs.Rows.{with_post, with_new}
 use Rattle.post_tables.specs.Stored.{HoldsSite, IsReadable, ArePosts, IsCounter, row_of, post_in, top_in}
-use Rattle.post_tables.proofs.Creating.{went, same_value}
+use Rattle.table_rows.proofs.Steps.{went, same_value}
 use Rattle.post_tables.proofs.Memory.{wrote}
 use Rattle.post_tables.proofs.GivenIds.{more_given}
 use Rattle.post_tables.proofs.Parts.{posts_now}

@@ -30,8 +30,8 @@ use Rattle.sqlite.specs.Table.{Table}
 use Rattle.std.proofs.lemmas.Bool.{and_parts, not-true}
 use Rattle.post_tables.specs.Schema.{site_schema, named_table}
 use Rattle.post_tables.specs.Stored.{IsIdle, HoldsSite}
-use Rattle.post_tables.proofs.Comparing.{cast_int, cast_null}
-use Rattle.post_tables.proofs.Creating.{went, same_value}
+use Rattle.table_rows.proofs.Casting.{cast_int, cast_null}
+use Rattle.table_rows.proofs.Steps.{went, same_value}
 use Rattle.post_tables.proofs.Memory.{wrote}
 use Rattle.post_tables.proofs.NamedTable.{NamedTable}
 use Rattle.post_tables.proofs.NamedRows.{put_in, IsReplaced}

@@ -25,11 +25,11 @@ use Rattle.sqlite.specs.Steps.{over_memory}
 use Rattle.sqlite.specs.State.{Shown}
 use Rattle.sqlite.proofs.Callers.{IsPlain, command_of, reads_as}
 use Rattle.post_tables.specs.Schema.{site_schema}
-use Rattle.post_tables.specs.Sorting.{sorted}
+use Rattle.table_rows.specs.Sorting.{sorted}
 use Rattle.post_tables.specs.Stored.{IsSite, rows_of, trees_of, IsCounter, top_in}
 use Rattle.post_tables.specs.Reading.{IsTop, IsTopRow}
 use Rattle.post_tables.proofs.Comparing.{equal_text}
-use Rattle.post_tables.proofs.Reading as reading
+use Rattle.table_rows.proofs.Answering as reading
 use Rattle.post_tables.proofs.Refusing.{IsWhole, IsSafe}
 
 abbrev wheres : List Term

@@ -40,18 +40,19 @@ use Rattle.sqlite.proofs.Callers.{IsPlain, command_of, statement_of, runs_as, on
 use Rattle.site_records.specs.declared.post.Post.{Post}
 use Rattle.site_records.specs.declared.post.PostStatus.{PostStatus}
 use Rattle.post_tables.specs.Schema.{site_schema, post_table}
-use Rattle.post_tables.specs.Sorting.{sorted}
+use Rattle.table_rows.specs.Sorting.{sorted}
 use Rattle.post_tables.specs.Rows.{with_post, without_post, post_with, PostEdit, edited_post, edited_posts}
 use Rattle.post_tables.specs.Stored.{HoldsSite, IsReadable, ArePosts, IsCounter, row_of, post_in, top_in, status_text}
-use Rattle.post_tables.proofs.Comparing.{cast_int, cast_null, number_compares, pos_cmp, same_number}
-use Rattle.post_tables.proofs.Creating.{went, same_value}
+use Rattle.table_rows.proofs.Casting.{cast_int, cast_null}
+use Rattle.post_tables.proofs.Comparing.{number_compares, pos_cmp, same_number}
+use Rattle.table_rows.proofs.Steps.{went, same_value}
 use Rattle.post_tables.proofs.Memory.{wrote}
 use Rattle.post_tables.proofs.GivenIds.{edited_given}
 use Rattle.post_tables.proofs.Parts.{posts_now}
 use Rattle.post_tables.proofs.PageLemmas.{rising_from, rows_are}
 use Rattle.post_tables.proofs.PostRows.{same_posts, still_posts, some_posts, mapped_filter, one_or_none, none_edited, one_edited}
 use Rattle.post_tables.proofs.Statements.{IsDone}
-use Rattle.post_tables.proofs.Reading as reading
+use Rattle.table_rows.proofs.Answering as reading
 
 abbrev pub update_text : List ℕ
 update_text = codes "UPDATE post SET status = coalesce(?2, status), title = coalesce(?3, title), content = coalesce(?4, content), date = coalesce(?5, date) WHERE id = ?1"

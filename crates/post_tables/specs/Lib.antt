@@ -1,5 +1,4 @@
 pub mod Schema
-pub mod Sorting
 pub mod Rows
 pub mod Page
 pub mod Stored

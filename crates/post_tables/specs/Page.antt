@@ -7,7 +7,7 @@ use Rattle.site_records.specs.declared.post.PostKind.{PostKind}
 use Rattle.site_records.specs.declared.post.PostKind.TheVariants.{Post as OfPost, Page as OfPage}
 use Rattle.site_records.specs.declared.post.PostStatus.{PostStatus}
 use Rattle.site_records.specs.declared.post.PostStatus.TheVariants.{Publish, Draft}
-use Rattle.post_tables.specs.Sorting.{sorted}
+use Rattle.table_rows.specs.Sorting.{sorted}
 use Rattle.post_tables.specs.Rows.{Text, by_bytes}
 
 -- by date, newest first, and then by ID, largest first (WordPress, WP_Query, orderby)

@@ -119,7 +119,7 @@ impl Tables {
     }
 
     /// Limits how many rows each later statement may visit, from the next call on; with `None` there is no limit. A
-    /// statement that would visit more is refused as `Store` and leaves every row as it was.
+    /// statement that would visit more may be refused as `Store`, and then leaves every row as it was.
     pub fn limit_steps(&mut self, limit: Option<u32>)
         ensures { self.new ≡ record self.old { step_limit = limit } }
     {

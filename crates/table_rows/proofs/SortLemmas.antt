@@ -10,7 +10,7 @@ use Rattle.std.proofs.lemmas.List.Sorted.{Contains-permutation, IsPermutation-sy
 use Rattle.std.proofs.lemmas.Cmp.{tied_itself}
 use Rattle.sqlite_rules.specs.Lists.{Has}
 use Rattle.sqlite_rules.proofs.ListLemmas.{has_contained, contains_had, all_has, all_from}
-use Rattle.post_tables.specs.Sorting.{put_sorted, sorted}
+use Rattle.table_rows.specs.Sorting.{put_sorted, sorted}
 
 module _ {X : Type 0} (R : X → X → Ordering) (o : IsTotalOrder R) where
   below : (a b : X) → is_lt (R b a) ≡ false → eq_by_cmp R a b ≡ false → R a b ≡ Less

@@ -21,8 +21,8 @@ use Rattle.sqlite_rules.specs.Calls.{ids_of}
 use Rattle.sqlite_rules.proofs.ListLemmas.{has_contained, contains_had, has_filtered, has_kept, some_has, some_from}
 use Rattle.sqlite_rules.proofs.TableLemmas.{int_is}
 use Rattle.sqlite_rules.proofs.PlaceLemmas.{row_at_is}
-use Rattle.post_tables.proofs.Comparing.{mapped_from, mapped_has}
-use Rattle.post_tables.proofs.Reading as reading
+use Rattle.table_rows.proofs.Lists.{mapped_from, mapped_has}
+use Rattle.table_rows.proofs.Answering as reading
 
 -- the rows whose rowid isn't one of these
 without_is : (ids : List ℤ) (rows : List Row) → without_all rows ids ≡ filter (λ r. not (list_any (λ id. has_rowid id r) ids)) rows

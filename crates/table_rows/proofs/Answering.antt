@@ -11,8 +11,8 @@ use Rattle.sqlite_value.specs.declared.keys.Collation.{Collation}
 use Rattle.sqlite_value.specs.declared.keys.Key.{Key}
 use Rattle.sqlite_sql.proofs.QueryLemmas.{output_cmp_total}
 use Rattle.sqlite_sql.specs.Program.{QueryOverflows}
-use Rattle.post_tables.specs.Sorting.{sorted}
-use Rattle.post_tables.proofs.SortLemmas.{in_order}
+use Rattle.table_rows.specs.Sorting.{sorted}
+use Rattle.table_rows.proofs.SortLemmas.{in_order}
 
 module _ (t : ℕ) (where_ : List Term) (project : List Term) (collations : List Collation) (order : List (Term × Key)) (limit offset : Term) where
   abbrev pub query : Query

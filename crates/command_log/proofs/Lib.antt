@@ -1,0 +1,16 @@
+pub mod Texts
+pub mod Numbers
+pub mod Inserting
+pub mod Putting
+pub mod States
+pub mod Creating
+pub mod Reading
+pub mod Batches
+pub mod Typed
+pub mod Queries
+pub mod QuerySteps
+pub mod Files
+pub mod Restart
+pub mod Clearing
+pub mod Refusals
+pub mod Causes

@@ -1,0 +1,53 @@
+-- A line that is put within a transaction.
+use Rattle.std.proofs.Common.{◌≡◌, inl, inr, ℕ, List, [], ◌∷◌, Ok, Err, Result, OnOk}
+use Rattle.sqlite.specs.Order.{Row}
+use Rattle.sqlite_value.specs.declared.value.Value.TheVariants.{Text}
+use Rattle.sqlite.specs.Store.{Ghosts}
+use Rattle.sqlite.specs.State.{State, KeepsCommit, IsUnchanged, IsRolledBack, ExecutesInside}
+use Rattle.sqlite.specs.Held.{Held, state}
+use Rattle.sqlite.specs.declared.error.Error.{Error}
+use Rattle.command_log.specs.Lines.{HoldsLog, IsOpen, Puts}
+use Rattle.std.proofs.Common.{IfErr, Some, None, pos, ◌+ℤ◌, lit<, refl, sym, ap, subst, ◌∙◌, arith}
+use Rattle.std.proofs.lemmas.Int.{ints}
+use Rattle.sqlite_sql.specs.Ops.{fits_i64}
+use Rattle.sqlite_rules.specs.Edit.{next_rowid}
+use Rattle.command_log.specs.Lines.{rows_of}
+use Rattle.command_log.specs.Faults.{IsCaused, Unstorable, fault_of}
+use Rattle.command_log.proofs.Causes.{write_failed}
+use Rattle.command_log.proofs.Refusals.{PutStops, put_stops}
+use Rattle.command_log.proofs.Texts.{insert_text, insert_command, insert_is, insert_plain, insert_whole}
+use Rattle.command_log.proofs.Inserting.{adds_line}
+
+pub same_commit : (old new : State) → IsUnchanged old new → KeepsCommit old new
+same_commit old new h = record { was_open = λ up. h.0.was_open; committed = λ up. h.0.committed_is }
+
+pub back_commit : (old new : State) → IsRolledBack old new → KeepsCommit old new
+back_commit old new h = record { was_open = h.was_open; committed = λ up. (h.undone up).1 }
+
+-- within a transaction nothing is committed
+pub keeps_commit : (sql : List ℕ) (params : Row) (old new : State) (r : Result ℕ Error) → ExecutesInside 0 sql params old new r → KeepsCommit old new
+keeps_commit sql params old new (Ok count) h = record { was_open = λ up. h.1.was_open; committed = λ up. h.1.committed_is }
+keeps_commit sql params old new (Err e) (inl ran) = elim ran.1 [ inl same ↦ same_commit old new same | inr back ↦ back_commit old new back ]
+keeps_commit sql params old new (Err e) (inr ends) = same_commit old new ends.2
+
+module _ {S : Type 0} (g : Ghosts S) (old new : Held S) (line : List ℕ) (holds : IsOpen g old → HoldsLog (state g old).now) where
+  pub puts_line : (r : Result ℕ Error) → ExecutesInside 0 insert_text (Text line ∷ []) (state g old) (state g new) r → OnOk r (Puts g old new (line ∷ []))
+  puts_line (Err e) h = tt
+  puts_line (Ok count) h =
+      let adds = adds_line (state g old) (state g new) (holds h.1.was_open) line count h.0 in
+      record { was_open = h.1.was_open; is_open = h.1.is_open; inside = h.1.mode; holds = adds.holds; sound = adds.sound; lines = adds.lines; number = adds.number }
+
+module _ {S : Type 0} (g : Ghosts S) (old new : Held S) (line : List ℕ) (up : IsOpen g old) (holds : HoldsLog (state g old).now) where
+  -- why a line is not put
+  stops : (e : Error) → PutStops (state g old) holds line (Some e) → IsCaused (state g old) (state g new) (Unstorable (rows_of g old) (line ∷ [])) (fault_of e)
+  stops e (inl late) = subst (λ x. IsCaused (state g old) (state g new) (Unstorable (rows_of g old) (line ∷ [])) (fault_of x)) (sym late.0) late.1
+  stops e (inr used) =
+      let same : next_rowid (rows_of g old) +ℤ pos 0 ≡ next_rowid (rows_of g old) = omega (arith, ints) in
+      subst (λ x. IsCaused (state g old) (state g new) (Unstorable (rows_of g old) (line ∷ [])) (fault_of x)) (sym used.0) (0, lit< tt, ap fits_i64 same ∙ used.1)
+
+  pub put_failed : (r : Result ℕ Error) → ExecutesInside 0 insert_text (Text line ∷ []) (state g old) (state g new) r
+      → IfErr r (λ e. IsCaused (state g old) (state g new) (Unstorable (rows_of g old) (line ∷ [])) (fault_of e))
+  put_failed (Ok count) h = tt
+  put_failed (Err e) h =
+      write_failed insert_text (Text line ∷ []) insert_plain insert_whole (state g old) (state g new) up holds.schema_is insert_command (inl (0, _, refl)) insert_is (Unstorable (rows_of g old) (line ∷ []))
+      (λ x does. stops x (put_stops (state g old) holds line (Some x) does)) (λ does. (line, (0, lit< tt, refl), put_stops (state g old) holds line None does)) e h

@@ -1,0 +1,78 @@
+-- What a call of the log answers to each error of the database.
+use Rattle.std.specs.Prelude.{◌≡◌, ◌⊎◌, ⊤, ℕ, ◌+◌, ◌^◌, ◌<◌, ◌+ℤ◌, pos, false, List, length, All, Contains, IsSome, IsUtf8}
+use Rattle.sqlite.specs.Order.{Row}
+use Rattle.sqlite_rules.specs.Edit.{next_rowid}
+use Rattle.sqlite_sql.specs.Ops.{fits_i64}
+use Rattle.sqlite.specs.State.{State}
+use Rattle.sqlite_disk.specs.declared.Disk.{Ghosts}
+use Rattle.sqlite.specs.Disk.{MoreFaults}
+use Rattle.sqlite_store.specs.declared.store.FileStore.{FileStore}
+use Rattle.sqlite.specs.FileStore.{view, faults}
+use Rattle.sqlite.specs.Held.{Held}
+use Rattle.sqlite.specs.declared.error.Error.{Error}
+use Rattle.sqlite.specs.declared.error.Error.TheVariants.{SqliteFailure, Utf8Error}
+use Rattle.sqlite.specs.declared.error.ErrorCode.TheVariants as code
+use Rattle.command_log.specs.declared.fault.LogFault.{LogFault}
+use Rattle.command_log.specs.declared.fault.LogFault.TheVariants as fault
+
+abbrev pub fault_of : Error → LogFault
+fault_of (SqliteFailure code.OutOfMemory) = fault.OutOfMemory
+fault_of (SqliteFailure code.DatabaseBusy) = fault.Busy
+fault_of (SqliteFailure code.CannotOpen) = fault.CannotOpen
+fault_of (SqliteFailure code.NotADatabase) = fault.Damaged
+fault_of (SqliteFailure code.DatabaseCorrupt) = fault.Damaged
+fault_of (SqliteFailure code.DiskFull) = fault.DiskFull
+fault_of (SqliteFailure code.SystemIoFailure) = fault.Disk
+fault_of (SqliteFailure code.TooBig) = fault.TooBig
+fault_of (SqliteFailure code.NoRowid) = fault.NumbersUsedUp
+fault_of (SqliteFailure code.Closed) = fault.Shut
+fault_of (SqliteFailure code.OperationInterrupted) = fault.Interrupted
+fault_of (Utf8Error at) = fault.NotText
+fault_of _ = fault.Store
+
+-- Why a call failed on a log that was open, by what it met between two states. `Own` says when the faults of the call
+-- itself come. It never fails as shut.
+abbrev pub IsCaused : State → State → (LogFault → Type 0) → LogFault → Type 0
+IsCaused old new Own fault.OutOfMemory = ⊤
+IsCaused old new Own fault.Damaged = MoreFaults old.faults new.faults
+IsCaused old new Own fault.DiskFull = MoreFaults old.faults new.faults
+IsCaused old new Own fault.Disk = MoreFaults old.faults new.faults
+IsCaused old new Own fault.Interrupted = IsSome old.step_limit
+IsCaused old new Own f = Own f
+
+-- the call has no fault of its own
+abbrev pub Nothing : LogFault → Type 0
+Nothing f = ⊥
+
+-- lines that another program has written, since a `String` is UTF-8
+abbrev pub AreText : List (List ℕ) → Type 0
+AreText = All IsUtf8
+
+-- what a call that reads these lines may meet
+abbrev pub Unreadable : List (List ℕ) → LogFault → Type 0
+Unreadable lines fault.NotText = ¬ AreText lines
+Unreadable lines _ = ⊥
+
+-- a line and what is stored beside it has more than a billion bytes
+abbrev pub IsTooLong : List ℕ → Type 0
+IsTooLong line = 10 ^ 9 < 54 + length line
+
+-- the number of the line after so many others is past the largest
+abbrev pub IsUsedUp : List Row → ℕ → Type 0
+IsUsedUp rows more = fits_i64 (next_rowid rows +ℤ pos more) ≡ false
+
+-- what a call that puts these lines behind rows may meet
+abbrev pub Unstorable : List Row → List (List ℕ) → LogFault → Type 0
+Unstorable rows lines fault.TooBig = (line : List ℕ) × Contains lines line × IsTooLong line
+Unstorable rows lines fault.NumbersUsedUp = (more : ℕ) × (more < length lines) × IsUsedUp rows more
+Unstorable rows lines _ = ⊥
+
+module _ {D : Type 0} {g : Ghosts D} where
+  -- why a close failed: an allocation, a fault of the disk, or a log that was shut
+  abbrev pub IsCloseFault : Held (FileStore D g) → FileStore D g → LogFault → Type 0
+  IsCloseFault log last fault.OutOfMemory = ⊤
+  IsCloseFault log last fault.Damaged = MoreFaults (faults log.store) (faults last)
+  IsCloseFault log last fault.DiskFull = MoreFaults (faults log.store) (faults last)
+  IsCloseFault log last fault.Disk = MoreFaults (faults log.store) (faults last)
+  IsCloseFault log last fault.Shut = ((view log.store).is_open ≡ false) ⊎ MoreFaults (faults log.store) (faults last)
+  IsCloseFault log last _ = ⊥

@@ -1,0 +1,54 @@
+-- What an open of files finds.
+use Rattle.std.specs.Prelude.{◌≡◌, ℕ, List, [], Result, IsErrOf}
+use Rattle.sqlite.specs.Recovery.{Image}
+use Rattle.sqlite.specs.Tree.{Trees}
+use Rattle.sqlite.specs.Schema.{Schema}
+use Rattle.sqlite.specs.Effect.{Database, IsDatabase}
+use Rattle.sqlite.specs.Files.{HoldsDatabase, AreFoundIn, file_state, image_of}
+use Rattle.sqlite.specs.WalFiles.{outcomes}
+use Rattle.sqlite_disk.specs.declared.Disk.{Ghosts}
+use Rattle.sqlite_disk.specs.declared.Files.{Files}
+use Rattle.sqlite_store.specs.declared.store.FileStore.{FileStore}
+use Rattle.sqlite_store.specs.FileStore as store
+use Rattle.sqlite.specs.Held.{Held}
+use Rattle.sqlite.specs.State.{HasCleanDisk}
+use Rattle.sqlite.specs.Start.{FindsIn}
+use Rattle.command_log.specs.declared.fault.LogFault.{LogFault}
+use Rattle.command_log.specs.declared.fault.LogFault.TheVariants.{NotALog}
+use Rattle.command_log.specs.Table.{IsOther}
+use Rattle.sqlite.specs.Files.{over_files}
+use Rattle.command_log.specs.Lines.{HoldsLines, IsOpen, lines_of}
+
+-- the lines are those of the database that the files held, or none if it held nothing
+abbrev pub FindsLines : Image → List (List ℕ) → Type 0
+FindsLines image lines =
+    (db : Trees) → HoldsDatabase image db
+    → (schema : Schema) × IsDatabase (record { schema = schema; trees = db }) × HoldsLines (record { schema = schema; trees = db }) lines
+
+-- and there is such a database, or nothing that holds a log of no lines
+abbrev pub ReadsLines : Image → List (List ℕ) → Type 0
+ReadsLines image lines = (d : Database) × AreFoundIn image d.trees × IsDatabase d × HoldsLines d lines
+
+-- a log that an open of the files finds has these lines
+abbrev pub FindsOnly : Image → List (List ℕ) → Type 0
+FindsOnly image lines = (found : List (List ℕ)) → FindsLines image found → found ≡ lines
+
+-- and so has one that is found in the database file with no log file
+abbrev pub FindsOnlyAlone : Image → List (List ℕ) → Type 0
+FindsOnlyAlone image lines = FindsOnly image lines × FindsOnly (record image { log = [] }) lines
+
+module _ {D : Type 0} {g : Ghosts D} where
+  -- an open is refused as no log if it found a database whose schema is neither the log's nor empty, and else not
+  abbrev pub RefusesOther : Image → Result (Held (FileStore D g)) LogFault → Type 0
+  RefusesOther image result =
+      IsErrOf result NotALog → (c : Held (FileStore D g)) × IsOther (file_state c).now.schema × (HasCleanDisk (file_state c) → FindsIn image (file_state c))
+
+  -- Whatever a crash at this moment leaves of the files, the lines of a log that an open of them finds are these.
+  abbrev pub IsFoundAgain : Held (FileStore D g) → Type 0
+  IsFoundAgain log = IsOpen over_files log → (image : Image) → (store.state log.store).may_leave image → FindsOnly image (lines_of over_files log)
+
+  -- The files that a close handed back hold the lines, and the database file alone does: as they are, and after a crash.
+  pub record IsKeptAlone (log : Held (FileStore D g)) (files : Files D) : Type 0 where
+    pub was_open : IsOpen over_files log
+    pub seen : FindsOnlyAlone (image_of g files) (lines_of over_files log)
+    pub left : (image : Image) → outcomes g files.log files.db image → FindsOnlyAlone image (lines_of over_files log)

@@ -1,0 +1,155 @@
+-- The lines of a log, and what a call may do to them.
+use Rattle.std.specs.Prelude.{◌≡◌, ◌⊎◌, ℕ, ℤ, pos, ◌+ℤ◌, Bool, true, false, List, [], ◌∷◌, ◌++◌, length, map, filter, fold, Option, None, Some, IsTrue}
+use Rattle.std.specs.Ordering.{is_lt, int_cmp}
+use Rattle.std.specs.List.{AllByRecursion}
+use Rattle.sqlite.specs.Order.{Row}
+use Rattle.sqlite_value.specs.declared.value.Value.TheVariants.{Int, Text}
+use Rattle.sqlite_value.specs.Order.{column, bytes}
+use Rattle.sqlite.specs.Query.{as_count, limited}
+use Rattle.sqlite_rules.specs.Edit.{id_in, next_rowid}
+use Rattle.sqlite.specs.Tree.{Trees, rowid, IsTable}
+use Rattle.sqlite_trees.specs.View.{is_int}
+use Rattle.sqlite.specs.Store.{Ghosts}
+use Rattle.sqlite.specs.Effect.{Database, IsDatabase}
+use Rattle.sqlite.specs.Held.{Held, state}
+use Rattle.command_log.specs.Table.{log_schema, no_schema}
+
+-- a row is its number, a NULL in the column of the number, and the line
+abbrev pub line_in : Row → List ℕ
+line_in r = bytes (column r 2)
+
+-- the lines of the table, in ascending number
+abbrev pub lines_in : Trees → List (List ℕ)
+lines_in db = map line_in (db 0)
+
+-- ---- reading in steps
+
+-- the line has a number above this one
+abbrev pub is_past : ℤ → Row → Bool
+is_past n r = is_lt (int_cmp n (id_in (rowid r)))
+
+-- the rows after a place, which is the number of the line before it, or the start
+abbrev pub rows_after : Option ℤ → List Row → List Row
+rows_after None rows = rows
+rows_after (Some n) rows = filter (is_past n) rows
+
+abbrev pub lines_after : Option ℤ → Trees → List (List ℕ)
+lines_after place db = map line_in (rows_after place (db 0))
+
+-- what a query shows of a row: its number and its line
+abbrev pub shown : Row → Row
+shown r = rowid r ∷ column r 2 ∷ []
+
+abbrev pub text_in : Row → List ℕ
+text_in r = bytes (column r 1)
+
+-- a row that can be read as one, but for bytes that are not UTF-8
+pub record IsLineRow (r : Row) : Type 0 where
+  pub width : length r ≡ 2
+  pub number : (n : ℤ) × (column r 0 ≡ Int n)
+  pub text : (t : List ℕ) × (column r 1 ≡ Text t)
+
+-- the place after rows that were shown
+abbrev pub place_after : Option ℤ → List Row → Option ℤ
+place_after = fold (λ _ r. Some (id_in (column r 0)))
+
+-- ---- what a database holds
+
+-- the numbers ascend
+abbrev pub IsRising : List Row → Type 0
+IsRising rows = IsTable rows × AllByRecursion (λ r. IsTrue (is_int (rowid r))) rows
+
+-- a database that holds a log
+pub record HoldsLog (d : Database) : Type 0 where
+  pub schema_is : d.schema ≡ log_schema
+  pub rising : IsRising (d.trees 0)
+
+-- what a database holds as a log: the lines of its table, or none if it holds nothing
+abbrev pub HoldsLines : Database → List (List ℕ) → Type 0
+HoldsLines d lines = ((d.schema ≡ log_schema) × (lines ≡ lines_in d.trees)) ⊎ ((d.schema ≡ no_schema) × (lines ≡ []))
+
+-- the trees are those of a log with these lines: what a crash leaves, and the next open finds
+pub record KeepsLines (lines : List (List ℕ)) (db : Trees) : Type 0 where
+  pub sound : IsDatabase (record { schema = log_schema; trees = db })
+  pub are : lines_in db ≡ lines
+
+module _ {S : Type 0} (g : Ghosts S) where
+  -- no failure has shut it, and the disk has returned what was written
+  abbrev pub IsOpen : Held S → Type 0
+  IsOpen h = IsTrue (state g h).is_open
+
+  -- the lines that were committed, which says nothing once the log is shut
+  abbrev pub lines_of : Held S → List (List ℕ)
+  lines_of h = lines_in (state g h).committed.trees
+
+  -- the rows that a call finds, which are the committed ones if no transaction is under way
+  abbrev pub rows_of : Held S → List Row
+  rows_of h = (state g h).now.trees 0
+
+  -- the lines after a place
+  abbrev pub lines_left : Held S → Option ℤ → List (List ℕ)
+  lines_left h place = lines_after place (state g h).committed.trees
+
+  -- what an open after a crash at this moment may find
+  abbrev pub MayLeave : Held S → Trees → Type 0
+  MayLeave h = (state g h).may_leave
+
+  -- no transaction is under way
+  pub record IsIdle (h : Held S) : Type 0 where
+    pub autocommit : h.in_transaction ≡ false
+    pub settled : IsOpen h → (state g h).committed ≡ (state g h).now
+
+  pub record IsLog (h : Held S) : Type 0 where
+    pub idle : IsIdle h
+    pub holds : IsOpen h → HoldsLog (state g h).now
+
+  -- a transaction has put these lines behind the others
+  pub record Puts (old new : Held S) (more : List (List ℕ)) : Type 0 where
+    pub was_open : IsOpen old
+    pub is_open : IsOpen new
+    pub inside : new.in_transaction ≡ true
+    pub holds : HoldsLog (state g new).now
+    pub sound : IsDatabase (state g new).now
+    pub lines : lines_in (state g new).now.trees ≡ lines_in (state g old).now.trees ++ more
+    pub number : next_rowid (rows_of new) ≡ next_rowid (rows_of old) +ℤ pos (length more)
+
+  -- or has put none so far
+  abbrev pub PutsAny : Held S → Held S → List (List ℕ) → Type 0
+  PutsAny old new more = ((more ≡ []) × (new ≡ old)) ⊎ Puts old new more
+
+  -- the rows that a query shows of the lines after a place
+  abbrev pub GivesRows : Held S → Option ℤ → ℤ → List Row → Type 0
+  GivesRows h place limit rows = IsOpen h × (rows ≡ limited (as_count (Int limit)) (map shown (rows_after place ((state g h).now.trees 0))))
+
+  -- the trees that a commit of the new lines leaves
+  abbrev pub IsAppended : Held S → List (List ℕ) → Trees → Type 0
+  IsAppended old more db = IsOpen old × KeepsLines (lines_of old ++ more) db
+
+  -- a transaction has made the table
+  pub record Makes (old new : Held S) : Type 0 where
+    pub was_open : IsOpen old
+    pub is_open : IsOpen new
+    pub inside : new.in_transaction ≡ true
+    pub holds : HoldsLog (state g new).now
+    pub sound : IsDatabase (state g new).now
+    pub lines : lines_in (state g new).now.trees ≡ []
+
+  -- a connection whose rows ascend, if it holds the table of a log
+  abbrev pub IsOrderly : Held S → Type 0
+  IsOrderly h = IsOpen h → (state g h).now.schema ≡ log_schema → IsRising ((state g h).now.trees 0)
+
+  -- the trees that the making of a log leaves
+  abbrev pub IsMade : Held S → Trees → Type 0
+  IsMade old db = ((state g old).now.schema ≡ no_schema) × KeepsLines [] db
+
+  -- a transaction has left these lines alone
+  pub record Fills (old new : Held S) (lines : List (List ℕ)) : Type 0 where
+    pub was_open : IsOpen old
+    pub inside : new.in_transaction ≡ true
+    pub holds : HoldsLog (state g new).now
+    pub sound : IsDatabase (state g new).now
+    pub lines_are : lines_in (state g new).now.trees ≡ lines
+
+  -- the trees that a commit of other lines leaves
+  abbrev pub IsReplaced : Held S → List (List ℕ) → Trees → Type 0
+  IsReplaced old lines db = IsOpen old × KeepsLines lines db

@@ -1,0 +1,84 @@
+//! What can go wrong in a call of the log.
+ghost use Rattle.std.specs.Prelude.{◌≡◌};
+ghost use Rattle.command_log.specs.Faults.{fault_of};
+
+use sqlite::{Error, ErrorCode};
+use std::alloc::AllocError;
+use thiserror::Error as DeriveError;
+
+/// Why a call was refused.
+#[derive(Clone, Copy, Debug, PartialEq, Eq, Drop, DeriveError)]
+pub enum LogFault {
+    /// The database holds something else than a log.
+    #[error("the database is not a log of commands")]
+    NotALog,
+    /// Memory ran out.
+    #[error("out of memory")]
+    OutOfMemory,
+    /// Another program has the file.
+    #[error("the file is in use")]
+    Busy,
+    /// The path cannot be opened as a file.
+    #[error("the file cannot be opened")]
+    CannotOpen,
+    /// The file is no database, or a damaged one.
+    #[error("the file is no sound database")]
+    Damaged,
+    /// The disk has no room.
+    #[error("the disk is full")]
+    DiskFull,
+    /// A read or a write of the disk failed.
+    #[error("the disk failed")]
+    Disk,
+    /// A line is too long to be stored.
+    #[error("a line is too long")]
+    TooBig,
+    /// The largest number is taken, so no line can be appended.
+    #[error("the numbers of the lines are used up")]
+    NumbersUsedUp,
+    /// The disk failed before, so the log has to be opened again.
+    #[error("the log is shut")]
+    Shut,
+    /// A line, which another program must have written, is not UTF-8.
+    #[error("a line of the log is not UTF-8")]
+    NotText,
+    /// The limit on the steps of a statement was met. Only a caller of
+    /// [`over`](crate::CommandLog::over) can have set one.
+    #[error("interrupted")]
+    Interrupted,
+    /// The database refused for a reason of its own. The clauses `cause` rule that out.
+    #[error("the database refused")]
+    Store,
+}
+
+impl From<Error> for LogFault {
+    ghost from_gives = { λ error fault. fault ≡ fault_of error };
+
+    fn from(error: Error) -> LogFault {
+        match error {
+            Error::SqliteFailure(ErrorCode::OutOfMemory) => LogFault::OutOfMemory,
+            Error::SqliteFailure(ErrorCode::DatabaseBusy) => LogFault::Busy,
+            Error::SqliteFailure(ErrorCode::CannotOpen) => LogFault::CannotOpen,
+            Error::SqliteFailure(ErrorCode::NotADatabase | ErrorCode::DatabaseCorrupt) =>
+                LogFault::Damaged,
+            Error::SqliteFailure(ErrorCode::DiskFull) => LogFault::DiskFull,
+            Error::SqliteFailure(ErrorCode::SystemIoFailure) => LogFault::Disk,
+            Error::SqliteFailure(ErrorCode::TooBig) => LogFault::TooBig,
+            Error::SqliteFailure(ErrorCode::NoRowid) => LogFault::NumbersUsedUp,
+            Error::SqliteFailure(ErrorCode::Closed) => LogFault::Shut,
+            Error::SqliteFailure(ErrorCode::OperationInterrupted) => LogFault::Interrupted,
+            Error::Utf8Error(_) => LogFault::NotText,
+            _ => LogFault::Store,
+        }
+    }
+}
+
+impl From<AllocError> for LogFault {
+    ghost use Rattle.command_log.specs.declared.fault.LogFault.TheVariants.{OutOfMemory};
+
+    ghost from_gives = { λ _ fault. fault ≡ OutOfMemory };
+
+    fn from(_error: AllocError) -> LogFault {
+        LogFault::OutOfMemory
+    }
+}

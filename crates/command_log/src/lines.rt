@@ -1,0 +1,301 @@
+//! The statements on lines.
+ghost use Rattle.std.specs.Prelude.{
+  ℕ,
+  pos,
+  drop,
+  ◌≡◌,
+  ◌<◌,
+  ◌∷◌,
+  ◌++◌,
+  [],
+  true,
+  length,
+  map,
+  Some,
+  None,
+  All,
+  IsUtf8,
+  ◌⊎◌,
+  IfErr,
+  IfOk,
+  OnOk,
+  OnErr,
+};
+ghost use Rattle.std.specs.String.{string_bytes};
+ghost use Rattle.sqlite_value.specs.declared.value.Value.TheVariants.{Int};
+ghost use Rattle.sqlite_value.specs.Order.{column};
+ghost use Rattle.sqlite.specs.Query.{as_count, limited};
+ghost use Rattle.sqlite.specs.Held.{state};
+ghost use Rattle.sqlite.specs.State.{HasCleanDisk, KeepsCommit, Survives};
+ghost use Rattle.command_log.specs.Faults.{fault_of, IsCaused, Nothing, Unreadable, Unstorable, AreText};
+ghost use Rattle.command_log.specs.Lines.{
+  IsLineRow,
+  text_in,
+  place_after,
+  HoldsLog,
+  IsOpen,
+  IsLog,
+  Puts,
+  PutsAny,
+  Makes,
+  IsAppended,
+  IsReplaced,
+  GivesRows,
+  rows_of,
+  lines_of,
+  lines_left,
+};
+
+use sqlite::{Connection, Error, ErrorCode, Row, Transaction, params};
+use sqlite_trees::store::Alter;
+use std::alloc::Global;
+
+const INSERT: &str = "INSERT INTO command (line) VALUES (?1)";
+
+const CLEAR: &str = "DELETE FROM command";
+
+const FIRST: &str = "SELECT number, line FROM command ORDER BY number LIMIT ?1";
+
+const LATER: &str = "SELECT number, line FROM command WHERE number > ?1 ORDER BY number LIMIT ?2";
+
+/// A LIMIT that is none.
+pub(crate) const NO_LIMIT: i64 = -1;
+
+/// Lines that were read, and the place after them: the number of the last one, if there is any.
+pub(crate) struct ReadLines {
+    pub(crate) lines: Vec<String>,
+    pub(crate) next: Option<i64>,
+}
+
+/// Puts one more line behind the others.
+fn put_line<S: Alter>(tx: &mut Transaction<'_, S>, line: &str) -> Result<usize, Error>
+    requires inside { HasCleanDisk (state S.Store tx.old.conn.now)
+        → tx.old.conn.now.in_transaction ≡ true }
+    requires holds { IsOpen S.Store tx.old.conn.now
+        → HoldsLog (state S.Store tx.old.conn.now).now }
+    ensures same_reference { tx.new.conn.ghost_name ≡ tx.old.conn.ghost_name }
+    ensures survives { Survives (state S.Store tx.old.conn.now) (state S.Store tx.new.conn.now)
+        (λ _. ⊥) }
+    ensures commit { HasCleanDisk (state S.Store tx.new.conn.now)
+        → KeepsCommit (state S.Store tx.old.conn.now) (state S.Store tx.new.conn.now) }
+    ensures put { HasCleanDisk (state S.Store tx.new.conn.now)
+        → OnOk result (Puts S.Store tx.old.conn.now tx.new.conn.now (line.now ∷ [])) }
+    ensures cause { HasCleanDisk (state S.Store tx.new.conn.now) → IsOpen S.Store tx.old.conn.now
+        → IfErr result (λ e. IsCaused (state S.Store tx.old.conn.now) (state S.Store tx.new.conn.now)
+        (Unstorable (rows_of S.Store tx.old.conn.now) (line.now ∷ [])) (fault_of e)) }
+{
+    tx.execute(INSERT, params![line])
+}
+
+/// Puts the lines behind the others, in order, up to the first that fails.
+fn put_lines<S: Alter>(tx: &mut Transaction<'_, S>, lines: &[String]) -> Result<(), Error>
+    requires inside { HasCleanDisk (state S.Store tx.old.conn.now)
+        → tx.old.conn.now.in_transaction ≡ true }
+    requires holds { IsOpen S.Store tx.old.conn.now
+        → HoldsLog (state S.Store tx.old.conn.now).now }
+    ensures same_reference { tx.new.conn.ghost_name ≡ tx.old.conn.ghost_name }
+    ensures survives { Survives (state S.Store tx.old.conn.now) (state S.Store tx.new.conn.now)
+        (λ _. ⊥) }
+    ensures commit { HasCleanDisk (state S.Store tx.new.conn.now)
+        → KeepsCommit (state S.Store tx.old.conn.now) (state S.Store tx.new.conn.now) }
+    ensures put { HasCleanDisk (state S.Store tx.new.conn.now)
+        → OnOk result (PutsAny S.Store tx.old.conn.now tx.new.conn.now
+        (map string_bytes lines.now)) }
+    ensures cause { HasCleanDisk (state S.Store tx.new.conn.now) → IsOpen S.Store tx.old.conn.now
+        → IfErr result (λ e. IsCaused (state S.Store tx.old.conn.now) (state S.Store tx.new.conn.now)
+        (Unstorable (rows_of S.Store tx.old.conn.now) (map string_bytes lines.now)) (fault_of e)) }
+{
+    for line in lines {
+        put_line(tx, line.as_str())?;
+    }
+    Ok(())
+}
+
+/// Puts all of the lines behind the others, or none. There is at least one.
+pub(crate) fn put_all<S: Alter>(conn: &mut Connection<S>, more: &[String]) -> Result<(), Error>
+    requires log { IsLog S.Store conn.old }
+    requires some { 0 < length more.now }
+    ensures log { IsLog S.Store conn.new }
+    ensures ok { IsOpen S.Store conn.new → OnOk result
+        (lines_of S.Store conn.new ≡ lines_of S.Store conn.old ++ map string_bytes more.now) }
+    ensures err { IsOpen S.Store conn.new → OnErr result
+        (lines_of S.Store conn.new ≡ lines_of S.Store conn.old) }
+    ensures stays { HasCleanDisk (state S.Store conn.new) → OnOk result (IsOpen S.Store conn.new) }
+    ensures survives { Survives (state S.Store conn.old) (state S.Store conn.new)
+        (IsAppended S.Store conn.old (map string_bytes more.now)) }
+    ensures cause { HasCleanDisk (state S.Store conn.new) → IsOpen S.Store conn.old
+        → IfErr result (λ e. IsCaused (state S.Store conn.old) (state S.Store conn.new)
+        (Unstorable (rows_of S.Store conn.old) (map string_bytes more.now)) (fault_of e)) }
+{
+    let mut tx = conn.transaction();
+    put_lines(&mut tx, more)?;
+    tx.commit()
+}
+
+/// Deletes all lines.
+fn clear<S: Alter>(tx: &mut Transaction<'_, S>) -> Result<usize, Error>
+    requires inside { HasCleanDisk (state S.Store tx.old.conn.now)
+        → tx.old.conn.now.in_transaction ≡ true }
+    requires holds { IsOpen S.Store tx.old.conn.now
+        → HoldsLog (state S.Store tx.old.conn.now).now }
+    ensures same_reference { tx.new.conn.ghost_name ≡ tx.old.conn.ghost_name }
+    ensures survives { Survives (state S.Store tx.old.conn.now) (state S.Store tx.new.conn.now)
+        (λ _. ⊥) }
+    ensures commit { HasCleanDisk (state S.Store tx.new.conn.now)
+        → KeepsCommit (state S.Store tx.old.conn.now) (state S.Store tx.new.conn.now) }
+    ensures made { HasCleanDisk (state S.Store tx.new.conn.now)
+        → OnOk result (Makes S.Store tx.old.conn.now tx.new.conn.now) }
+    ensures cause { HasCleanDisk (state S.Store tx.new.conn.now) → IsOpen S.Store tx.old.conn.now
+        → IfErr result (λ e. IsCaused (state S.Store tx.old.conn.now) (state S.Store tx.new.conn.now)
+        Nothing (fault_of e)) }
+{
+    tx.execute(CLEAR, &[])
+}
+
+/// Puts these lines in the place of all others, or changes nothing.
+pub(crate) fn replace_all<S: Alter>(conn: &mut Connection<S>, lines: &[String]) -> Result<(), Error>
+    requires { IsLog S.Store conn.old }
+    ensures log { IsLog S.Store conn.new }
+    ensures ok { IsOpen S.Store conn.new → OnOk result
+        (lines_of S.Store conn.new ≡ map string_bytes lines.now) }
+    ensures err { IsOpen S.Store conn.new → OnErr result
+        (lines_of S.Store conn.new ≡ lines_of S.Store conn.old) }
+    ensures stays { HasCleanDisk (state S.Store conn.new) → OnOk result (IsOpen S.Store conn.new) }
+    ensures survives { Survives (state S.Store conn.old) (state S.Store conn.new)
+        (IsReplaced S.Store conn.old (map string_bytes lines.now)) }
+    ensures cause { HasCleanDisk (state S.Store conn.new) → IsOpen S.Store conn.old
+        → IfErr result (λ e. IsCaused (state S.Store conn.old) (state S.Store conn.new)
+        (Unstorable [] (map string_bytes lines.now)) (fault_of e)) }
+{
+    let mut tx = conn.transaction();
+    clear(&mut tx)?;
+    put_lines(&mut tx, lines)?;
+    tx.commit()
+}
+
+/// Reads the rows of the first lines, within a transaction.
+fn first_rows<S: Alter>(tx: &mut Transaction<'_, S>, limit: i64) -> Result<Vec<Row>, Error>
+    requires inside { HasCleanDisk (state S.Store tx.old.conn.now)
+        → tx.old.conn.now.in_transaction ≡ true }
+    requires holds { IsOpen S.Store tx.old.conn.now
+        → HoldsLog (state S.Store tx.old.conn.now).now }
+    ensures same_reference { tx.new.conn.ghost_name ≡ tx.old.conn.ghost_name }
+    ensures survives { Survives (state S.Store tx.old.conn.now) (state S.Store tx.new.conn.now)
+        (λ _. ⊥) }
+    ensures commit { HasCleanDisk (state S.Store tx.new.conn.now)
+        → KeepsCommit (state S.Store tx.old.conn.now) (state S.Store tx.new.conn.now) }
+    ensures rows { HasCleanDisk (state S.Store tx.new.conn.now)
+        → IfOk result (λ rows. GivesRows S.Store tx.old.conn.now None limit rows.items) }
+    ensures cause { HasCleanDisk (state S.Store tx.new.conn.now) → IsOpen S.Store tx.old.conn.now
+        → IfErr result (λ e. IsCaused (state S.Store tx.old.conn.now) (state S.Store tx.new.conn.now)
+        Nothing (fault_of e)) }
+{
+    tx.query_all(FIRST, params![limit])
+}
+
+/// Reads the rows of the lines after the one with this number, within a transaction.
+fn later_rows<S: Alter>(
+    tx: &mut Transaction<'_, S>,
+    number: i64,
+    limit: i64,
+) -> Result<Vec<Row>, Error>
+    requires inside { HasCleanDisk (state S.Store tx.old.conn.now)
+        → tx.old.conn.now.in_transaction ≡ true }
+    requires holds { IsOpen S.Store tx.old.conn.now
+        → HoldsLog (state S.Store tx.old.conn.now).now }
+    ensures same_reference { tx.new.conn.ghost_name ≡ tx.old.conn.ghost_name }
+    ensures survives { Survives (state S.Store tx.old.conn.now) (state S.Store tx.new.conn.now)
+        (λ _. ⊥) }
+    ensures commit { HasCleanDisk (state S.Store tx.new.conn.now)
+        → KeepsCommit (state S.Store tx.old.conn.now) (state S.Store tx.new.conn.now) }
+    ensures rows { HasCleanDisk (state S.Store tx.new.conn.now)
+        → IfOk result (λ rows. GivesRows S.Store tx.old.conn.now (Some number) limit rows.items) }
+    ensures cause { HasCleanDisk (state S.Store tx.new.conn.now) → IsOpen S.Store tx.old.conn.now
+        → IfErr result (λ e. IsCaused (state S.Store tx.old.conn.now) (state S.Store tx.new.conn.now)
+        Nothing (fault_of e)) }
+{
+    tx.query_all(LATER, params![number, limit])
+}
+
+/// Reads the rows of the lines after a place, within a transaction.
+fn rows_after<S: Alter>(
+    tx: &mut Transaction<'_, S>,
+    place: Option<i64>,
+    limit: i64,
+) -> Result<Vec<Row>, Error>
+    requires inside { HasCleanDisk (state S.Store tx.old.conn.now)
+        → tx.old.conn.now.in_transaction ≡ true }
+    requires holds { IsOpen S.Store tx.old.conn.now
+        → HoldsLog (state S.Store tx.old.conn.now).now }
+    ensures same_reference { tx.new.conn.ghost_name ≡ tx.old.conn.ghost_name }
+    ensures survives { Survives (state S.Store tx.old.conn.now) (state S.Store tx.new.conn.now)
+        (λ _. ⊥) }
+    ensures commit { HasCleanDisk (state S.Store tx.new.conn.now)
+        → KeepsCommit (state S.Store tx.old.conn.now) (state S.Store tx.new.conn.now) }
+    ensures rows { HasCleanDisk (state S.Store tx.new.conn.now)
+        → IfOk result (λ rows. GivesRows S.Store tx.old.conn.now place limit rows.items) }
+    ensures cause { HasCleanDisk (state S.Store tx.new.conn.now) → IsOpen S.Store tx.old.conn.now
+        → IfErr result (λ e. IsCaused (state S.Store tx.old.conn.now) (state S.Store tx.new.conn.now)
+        Nothing (fault_of e)) }
+{
+    match place {
+        None => first_rows(tx, limit),
+        Some(number) => later_rows(tx, number, limit),
+    }
+}
+
+fn number_of(row: &Row) -> Result<i64, Error>
+    ensures ok { IfOk result (λ number. column row.now 0 ≡ Int number) }
+    ensures err { IsLineRow row.now → IfErr result (λ e. e ≡ Error.SqliteFailure ErrorCode.OutOfMemory) }
+{
+    row.get(0)
+}
+
+fn text_of(row: &Row) -> Result<String, Error>
+    ensures ok { IfOk result (λ text. string_bytes text ≡ text_in row.now) }
+    ensures err { IsLineRow row.now → IfErr result (λ e. (e ≡ Error.SqliteFailure ErrorCode.OutOfMemory)
+        ⊎ ((e ≡ Error.Utf8Error 1) × ¬ IsUtf8 (text_in row.now))) }
+{
+    row.get(1)
+}
+
+/// Reads the rows as lines. The place after no row is the one that is given.
+fn lines_from(alloc: Global, rows: &[Row], place: Option<i64>) -> Result<ReadLines, Error>
+    ensures lines { IfOk result (λ read. map string_bytes read.lines.items ≡ map text_in rows.now) }
+    ensures next { IfOk result (λ read. read.next ≡ place_after place rows.now) }
+    ensures err { All IsLineRow rows.now → IfErr result (λ e. (e ≡ Error.SqliteFailure ErrorCode.OutOfMemory)
+        ⊎ ((e ≡ Error.Utf8Error 1) × ¬ AreText (map text_in rows.now))) }
+{
+    let mut lines = Vec::new(alloc);
+    let mut next = place;
+    for row in rows {
+        next = Some(number_of(row)?);
+        lines.push(text_of(row)?)?;
+    }
+    Ok(ReadLines { lines, next })
+}
+
+/// Reads the first lines after a place. A negative limit is none.
+pub(crate) fn read_after<S: Alter>(
+    alloc: Global,
+    conn: &mut Connection<S>,
+    place: Option<i64>,
+    limit: i64,
+) -> Result<ReadLines, Error>
+    requires { IsLog S.Store conn.old }
+    ensures log { IsLog S.Store conn.new }
+    ensures same { IsOpen S.Store conn.new → lines_of S.Store conn.new ≡ lines_of S.Store conn.old }
+    ensures lines { HasCleanDisk (state S.Store conn.new) → IfOk result (λ read.
+        map string_bytes read.lines.items ≡ limited (as_count (Int limit)) (lines_left S.Store conn.old place)) }
+    ensures left { HasCleanDisk (state S.Store conn.new) → IfOk result (λ read. (n : ℕ) → limit ≡ pos n
+        → lines_left S.Store conn.old read.next ≡ drop n (lines_left S.Store conn.old place)) }
+    ensures survives { Survives (state S.Store conn.old) (state S.Store conn.new) (λ _. ⊥) }
+    ensures cause { HasCleanDisk (state S.Store conn.new) → IsOpen S.Store conn.old
+        → IfErr result (λ e. IsCaused (state S.Store conn.old) (state S.Store conn.new)
+        (Unreadable (lines_left S.Store conn.old place)) (fault_of e)) }
+{
+    let _schema = conn.schema();
+    let mut tx = conn.transaction();
+    let rows = rows_after(&mut tx, place, limit)?;
+    lines_from(alloc, &rows, place)
+}

@@ -1,0 +1,276 @@
+//! The log.
+ghost use Rattle.std.specs.Prelude.{
+  ◌≡◌,
+  ◌↔◌,
+  ◌++◌,
+  [],
+  map,
+  take,
+  drop,
+  IfOk,
+  IfErr,
+  IsOk,
+  OnOk,
+  OnErr,
+  IsTrue,
+  IsErrOf,
+};
+ghost use Rattle.std.specs.String.{string_bytes};
+ghost use Rattle.sqlite.specs.Tree.{Trees};
+ghost use Rattle.sqlite.specs.Held.{state};
+ghost use Rattle.sqlite.specs.State.{HasCleanDisk, Survives};
+ghost use Rattle.sqlite.specs.Files.{over_files};
+ghost use Rattle.sqlite.specs.Steps.{over_memory};
+ghost use Rattle.sqlite.specs.WalFiles.{image_at};
+ghost use Rattle.command_log.specs.Lines.{
+  IsOpen,
+  IsIdle,
+  IsLog,
+  IsOrderly,
+  IsAppended,
+  IsReplaced,
+  IsMade,
+  KeepsLines,
+  HoldsLines,
+  MayLeave,
+  lines_of,
+  lines_left,
+  rows_of,
+};
+ghost use Rattle.command_log.specs.Table.{log_schema, IsOther};
+ghost use Rattle.command_log.specs.Faults.{IsCaused, IsCloseFault, Unreadable, Unstorable};
+ghost use Rattle.sqlite.specs.WalReads.{AreClean};
+ghost use Rattle.sqlite.specs.View.{IsClean};
+ghost use Rattle.sqlite.specs.FileStore.{view};
+ghost use Rattle.command_log.specs.Found.{
+  FindsLines,
+  ReadsLines,
+  RefusesOther,
+  IsFoundAgain,
+  IsKeptAlone,
+};
+
+use crate::batch::{Batch, Place};
+use crate::fault::LogFault;
+use crate::lines::{NO_LIMIT, ReadLines, put_all, read_after, replace_all};
+use crate::table::{Holds, held_by, make};
+use sqlite::{Connection, FileFrom, FileStore, MemStore, Start};
+use sqlite_disk::{Disk, Files};
+use sqlite_trees::store::Alter;
+use std::alloc::Global;
+use std::marker::Model;
+
+/// A log of text lines in a database. Contracts see the connection that it holds, and of it the lines that were
+/// committed, whether it is open, and what a crash may leave.
+pub struct CommandLog<S: Alter> {
+    conn: Connection<S>,
+    alloc: Global,
+}
+
+impl<S: Alter> Model for CommandLog<S> {
+    ghost use Rattle.sqlite.specs.Held.{Held, held_code};
+    ghost use Rattle.command_log.specs.Lines.{IsLog};
+
+    ghost Value = { Held S };
+
+    ghost coded = { held_code S.code };
+
+    ghost view = { λ l. l.conn };
+
+    ghost invariant = { λ l. IsLog S.Store l.conn };
+}
+
+impl<S: Alter + Drop> Drop for CommandLog<S> {
+    fn drop(self) {
+        let CommandLog { conn: _, alloc: _ } = self;
+    }
+}
+
+impl CommandLog<MemStore> {
+    /// Makes a new log in memory.
+    pub fn open_in_memory(alloc: Global) -> Result<CommandLog<MemStore>, LogFault>
+        ensures empty { IfOk result (λ log. IsOpen over_memory log → lines_of over_memory log ≡ []) }
+    {
+        let conn = Connection::open_in_memory(alloc)?;
+        CommandLog::over(alloc, conn)
+    }
+}
+
+impl<S: Start> CommandLog<FileStore<FileFrom<S>>> {
+    /// Opens the log in a file, or makes it. What the files held as they were opened is `S`, and so is what a torn
+    /// write may leave of them: [`Unknown`](sqlite_disk::Unknown) or [`Wary`](sqlite_disk::Wary).
+    pub fn open(
+        rt: &HostRuntime,
+        path: &str,
+        start: S,
+    ) -> Result<CommandLog<FileStore<FileFrom<S>>>, LogFault>
+        ensures found { IfOk result (λ log. IsOpen over_files log
+            → FindsLines (image_at S.Start) (lines_of over_files log)) }
+        ensures read { IfOk result (λ log. IsOpen over_files log
+            → ReadsLines (image_at S.Start) (lines_of over_files log)) }
+        ensures other { RefusesOther (image_at S.Start) result }
+    {
+        let conn = match Connection::open_from(rt, path, false, start) {
+            Ok(conn) => conn,
+            Err((error, _)) => return Err(error.into()),
+        };
+        CommandLog::over(rt.alloc(), conn)
+    }
+}
+
+impl<S: Alter + Drop> CommandLog<S> {
+    /// Takes the log that the database holds, or makes one in a database that holds nothing.
+    pub fn over(alloc: Global, mut conn: Connection<S>) -> Result<CommandLog<S>, LogFault>
+        requires idle { IsIdle S.Store conn }
+        requires orderly { IsOrderly S.Store conn }
+
+        // It has the lines of the table, or none if the database held nothing.
+        ensures lines { IfOk result (λ log. IsOpen S.Store log
+            → HoldsLines (state S.Store conn).now (lines_of S.Store log)) }
+
+        // A crash leaves what it could leave before, or an empty log where there was nothing.
+        ensures survives { IfOk result (λ log. Survives (state S.Store conn) (state S.Store log)
+            (IsMade S.Store conn)) }
+
+        // A database with another schema is refused as that, and no other is. A log is never refused.
+        ensures other { IsErrOf result LogFault.NotALog ↔ IsOther (state S.Store conn).now.schema }
+        ensures taken { (state S.Store conn).now.schema ≡ log_schema → IsOk result }
+    {
+        match held_by(conn.schema()) {
+            Holds::Log => Ok(CommandLog { conn, alloc }),
+            Holds::Nothing => {
+                make(&mut conn)?;
+                Ok(CommandLog { conn, alloc })
+            }
+            Holds::Other => Err(LogFault::NotALog),
+        }
+    }
+}
+
+impl<D: Disk + Drop> CommandLog<FileStore<D>> {
+    /// Copies the last commit into the database file, and hands both files back. From then on the database file alone
+    /// has the lines, as it is and after a crash. A file beside it, SQLite's log, stays. An error comes with the store.
+    pub fn close(self) -> Result<Files<D>, (LogFault, FileStore<D>)>
+        ensures alone { IfOk result (λ files. AreClean D.Disk files.log files.db → IsKeptAlone self files) }
+        ensures usable { IfOk result (λ files. IsTrue (D.Disk.is_usable files.log)
+            × IsTrue (D.Disk.is_usable files.db)) }
+        ensures cause { IfErr result (λ e. IsClean (view e.1) → IsCloseFault self e.1 e.0) }
+    {
+        let CommandLog { conn, alloc: _ } = self;
+        let _schema = conn.schema();
+        match conn.close_files() {
+            Ok(files) => Ok(files),
+            Err((error, store)) => Err((error.into(), store)),
+        }
+    }
+
+    /// A law: whatever a crash leaves of the files of an open log, an open of them as a log finds its lines. The call
+    /// does no IO: it gives up the store, and carries this fact.
+    pub fn found_after_a_crash(self) -> FileStore<D>
+        ensures { IsClean (view result) → IsFoundAgain self }
+    {
+        let CommandLog { conn, alloc: _ } = self;
+        let _schema = conn.schema();
+        conn.into_store()
+    }
+}
+
+impl<S: Alter> CommandLog<S> {
+    /// Appends the lines, all or none.
+    pub fn append(&mut self, lines: &[String]) -> Result<(), LogFault>
+        ensures ok { IsOpen S.Store self.new → OnOk result
+            (lines_of S.Store self.new ≡ lines_of S.Store self.old ++ map string_bytes lines.now) }
+        ensures err { IsOpen S.Store self.new → OnErr result
+            (lines_of S.Store self.new ≡ lines_of S.Store self.old) }
+
+        // Only a fault of the disk shuts the log, and none that a call of `Ok` met.
+        ensures stays { HasCleanDisk (state S.Store self.new) → OnOk result
+            (IsOpen S.Store self.old → IsOpen S.Store self.new) }
+
+        // An open log fails for memory, by a fault of the disk, or if a line cannot be stored behind the others.
+        ensures cause { HasCleanDisk (state S.Store self.new) → IsOpen S.Store self.old
+            → IfErr result (IsCaused (state S.Store self.old) (state S.Store self.new)
+            (Unstorable (rows_of S.Store self.old) (map string_bytes lines.now))) }
+
+        // A crash leaves what it could leave before, or the lines with the new ones behind them.
+        ensures survives { Survives (state S.Store self.old) (state S.Store self.new)
+            (IsAppended S.Store self.old (map string_bytes lines.now)) }
+    {
+        if lines.is_empty() {
+            return Ok(());
+        }
+        put_all(&mut self.conn, lines)?;
+        Ok(())
+    }
+
+    /// Puts these lines in the place of all others, or changes nothing.
+    pub fn replace(&mut self, lines: &[String]) -> Result<(), LogFault>
+        ensures ok { IsOpen S.Store self.new → OnOk result
+            (lines_of S.Store self.new ≡ map string_bytes lines.now) }
+        ensures err { IsOpen S.Store self.new → OnErr result
+            (lines_of S.Store self.new ≡ lines_of S.Store self.old) }
+        ensures stays { HasCleanDisk (state S.Store self.new)
+            → OnOk result (IsOpen S.Store self.new) }
+
+        ensures cause { HasCleanDisk (state S.Store self.new) → IsOpen S.Store self.old
+            → IfErr result (IsCaused (state S.Store self.old) (state S.Store self.new)
+            (Unstorable [] (map string_bytes lines.now))) }
+
+        // A crash leaves what it could leave before, or the new lines alone.
+        ensures survives { Survives (state S.Store self.old) (state S.Store self.new)
+            (IsReplaced S.Store self.old (map string_bytes lines.now)) }
+    {
+        replace_all(&mut self.conn, lines)?;
+        Ok(())
+    }
+
+    /// Reads all lines in order, and holds them all in memory. [`read_batch`](CommandLog::read_batch) reads in steps.
+    pub fn read(&mut self) -> Result<Vec<String>, LogFault>
+        ensures ok { HasCleanDisk (state S.Store self.new) → IfOk result (λ read.
+            map string_bytes read.items ≡ lines_of S.Store self.old) }
+        ensures same { IsOpen S.Store self.new → lines_of S.Store self.new ≡ lines_of S.Store self.old }
+        ensures survives { Survives (state S.Store self.old) (state S.Store self.new) (λ _. ⊥) }
+        ensures cause { HasCleanDisk (state S.Store self.new) → IsOpen S.Store self.old
+            → IfErr result (IsCaused (state S.Store self.old) (state S.Store self.new)
+            (Unreadable (lines_of S.Store self.old))) }
+    {
+        let ReadLines { lines, next: _ } = read_after(self.alloc, &mut self.conn, None, NO_LIMIT)?;
+        Ok(lines)
+    }
+
+    /// Reads the first lines after the place, `limit` of them at most, and says the place after them. Fewer lines than
+    /// the limit are the last ones. A place is a number of a line, so what was replaced meanwhile is not noticed.
+    pub fn read_batch(&mut self, place: Place, limit: u32) -> Result<Batch, LogFault>
+        ensures ok { HasCleanDisk (state S.Store self.new) → IfOk result (λ batch.
+            map string_bytes batch.lines.items ≡ take limit (lines_left S.Store self.old place)) }
+
+        // What is left after it is all that it did not return, so batches read one after the other are the lines.
+        ensures left { HasCleanDisk (state S.Store self.new) → IfOk result (λ batch.
+            lines_left S.Store self.old batch.next ≡ drop limit (lines_left S.Store self.old place)) }
+        ensures same { IsOpen S.Store self.new → lines_of S.Store self.new ≡ lines_of S.Store self.old }
+        ensures survives { Survives (state S.Store self.old) (state S.Store self.new) (λ _. ⊥) }
+        ensures cause { HasCleanDisk (state S.Store self.new) → IsOpen S.Store self.old
+            → IfErr result (IsCaused (state S.Store self.old) (state S.Store self.new)
+            (Unreadable (lines_left S.Store self.old place))) }
+    {
+        let ReadLines { lines, next } = read_after(
+            self.alloc,
+            &mut self.conn,
+            place.last(),
+            i64::from(limit),
+        )?;
+        Ok(Batch {
+            lines,
+            next: Place::after(next),
+        })
+    }
+
+    /// A law: while the log is open, a crash leaves its lines and nothing else. The call changes nothing: it carries
+    /// this fact.
+    pub fn left_by_a_crash(&self)
+        ensures { IsOpen S.Store self.now → (db : Trees) → MayLeave S.Store self.now db
+            → KeepsLines (lines_of S.Store self.now) db }
+    {
+        let _schema = self.conn.schema();
+    }
+}
