@@ -13,7 +13,7 @@ ghost use Rattle.bundled_plugins.specs.Rows.{replies_of, AreStated};
 
 use crate::calls::{answer, first_argument, joined, listed, push_all, show, text_in};
 use crate::rows::{ChangeRow, Part, ReplyRow, changes_of, reply_of};
-use hook_changes::{Answer, Ask, Atts, Call, CallbackId, Listed, Reply, Text};
+use hook_changes::{Answer, Ask, Atts, Call, CallbackId, CoreHook, Listed, Reply, Text};
 use std::alloc::{AllocError, Global};
 
 // The replies of the callbacks that need no more than a row, by their numbers.
@@ -268,7 +268,7 @@ fn title_pass(alloc: Global, value: &str) -> Result<Ask, AllocError>
     ensures { IfOk result (λ ask. ask ≡ Ask.Apply the_title value.now []) }
 {
     Ok(Ask::Apply {
-        hook: Text::copied(alloc, "the_title")?,
+        hook: Text::core(alloc, CoreHook::TheTitle),
         value: Text::copied(alloc, value)?,
         args: Listed::empty(alloc),
     })
@@ -337,13 +337,13 @@ fn ask_in_turn(alloc: Global, answers: &[Answer]) -> Result<Reply, AllocError>
     let question = match answers.len() {
         0 => Ask::Current,
         1 => Ask::Doing {
-            hook: Text::copied(alloc, "the_content")?,
+            hook: Text::core(alloc, CoreHook::TheContent),
         },
         2 => Ask::Did {
-            hook: Text::copied(alloc, "init")?,
+            hook: Text::core(alloc, CoreHook::Init),
         },
         3 => Ask::Has {
-            hook: Text::copied(alloc, "the_content")?,
+            hook: Text::core(alloc, CoreHook::TheContent),
             callback: Some(CallbackId::new(0)),
         },
         4 => Ask::TagExists {
@@ -362,7 +362,7 @@ fn go_deeper(alloc: Global, value: &str, answers: &[Answer]) -> Result<Reply, Al
     ensures { IfOk result (λ reply. reply ≡ goes_deeper value.now answers.now) }
 {
     if value == "spin" {
-        let hook = Text::copied(alloc, "init")?;
+        let hook = Text::core(alloc, CoreHook::Init);
         return Ok(Reply::ask(alloc, Ask::Did { hook }));
     }
     if !is_run_of_d(value) {

@@ -1,5 +1,5 @@
 //! Changes and replies as rows of tables, and what is made of a row.
-ghost use Rattle.std.specs.Prelude.{◌≡◌, ◌++◌, IfOk, OnOk, map};
+ghost use Rattle.std.specs.Prelude.{◌≡◌, ◌++◌, IfOk, OnOk, map, string_bytes};
 ghost use Rattle.bundled_plugins.specs.Rows.{change_of, part_of, text_of, reply_of};
 
 use crate::calls::{first_argument, second_argument};
@@ -46,32 +46,41 @@ pub struct ReplyRow {
     pub answers: &'static [Part],
 }
 
+/// Copies a text, whose copies then share its memory: a load list is carried out anew for each request.
+fn shared(alloc: Global, text: &str) -> Result<Text, AllocError>
+    ensures { IfOk result (λ shared. shared ≡ text.now) }
+{
+    let mut shared = Text::copied(alloc, text)?;
+    shared.share()?;
+    Ok(shared)
+}
+
 /// Makes the change of a row.
 fn change_of(alloc: Global, row: &ChangeRow) -> Result<Change, AllocError>
     ensures { IfOk result (λ change. change ≡ change_of row.now) }
 {
     Ok(match row {
         ChangeRow::Add(hook, priority, number, accepted) => Change::Add {
-            hook: Text::copied(alloc, hook)?,
+            hook: shared(alloc, hook)?,
             priority: *priority,
             callback: CallbackId::new(*number),
             accepted: *accepted,
         },
         ChangeRow::Remove(hook, priority, number) => Change::Remove {
-            hook: Text::copied(alloc, hook)?,
+            hook: shared(alloc, hook)?,
             priority: *priority,
             callback: CallbackId::new(*number),
         },
         ChangeRow::RemoveAll(hook, priority) => Change::RemoveAll {
-            hook: Text::copied(alloc, hook)?,
+            hook: shared(alloc, hook)?,
             priority: Some(*priority),
         },
         ChangeRow::AddTag(tag, number) => Change::AddTag {
-            tag: Text::copied(alloc, tag)?,
+            tag: shared(alloc, tag)?,
             callback: CallbackId::new(*number),
         },
         ChangeRow::RemoveTag(tag) => Change::RemoveTag {
-            tag: Text::copied(alloc, tag)?,
+            tag: shared(alloc, tag)?,
         },
         ChangeRow::RemoveAllTags => Change::RemoveAllTags,
     })
@@ -89,8 +98,8 @@ pub fn changes_of(alloc: Global, rows: &[ChangeRow]) -> Result<Listed<Change>, A
 }
 
 /// Appends a part to a text.
-fn push_part(text: &mut Text, part: &Part, call: &Call) -> Result<(), AllocError>
-    ensures { OnOk result (text.new ≡ text.old ++ part_of call.now part.now) }
+fn push_part(text: &mut String, part: &Part, call: &Call) -> Result<(), AllocError>
+    ensures { OnOk result (string_bytes text.new ≡ string_bytes text.old ++ part_of call.now part.now) }
 {
     match part {
         Part::Fixed(fixed) => text.push_str(fixed),
@@ -120,11 +129,14 @@ fn room_for(parts: &[Part], call: &Call) -> usize {
 fn text_of(alloc: Global, parts: &[Part], call: &Call) -> Result<Text, AllocError>
     ensures { IfOk result (λ text. text ≡ text_of call.now parts.now) }
 {
-    let mut text = Text::new(String::with_capacity(alloc, room_for(parts, call))?);
+    if parts.is_empty() {
+        return Ok(Text::empty(alloc));
+    }
+    let mut text = String::with_capacity(alloc, room_for(parts, call))?;
     for part in parts {
         push_part(&mut text, part, call)?;
     }
-    Ok(text)
+    Ok(Text::new(text))
 }
 
 /// Makes the reply of a row to a call.

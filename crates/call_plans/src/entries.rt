@@ -69,11 +69,21 @@ impl SharedEntries {
     }
 }
 
+/// Where a group was as a pass reached it: the index of its hook among the plans, and its own among the groups of its
+/// hook. Changes may have moved both, so what is found there is compared before it is used.
+#[derive(Clone, Copy)]
+pub struct Place {
+    pub hook: usize,
+    pub group: usize,
+}
+
 /// What a pass has left of the group that it reached. Contracts see the entries left, the next one first.
 #[derive(Drop)]
 pub struct EntriesLeft {
     group: Option<SharedEntries>,
     taken: usize,
+    /// Where the group was. No contract sees it.
+    place: Place,
 }
 
 impl Model for EntriesLeft {
@@ -93,17 +103,24 @@ impl EntriesLeft {
         EntriesLeft {
             group: None,
             taken: 0,
+            place: Place { hook: 0, group: 0 },
         }
     }
 
-    /// Starts with all entries of a group.
-    pub(crate) fn all(group: SharedEntries) -> Self
+    /// Starts with all entries of a group, which was found at this place.
+    pub(crate) fn all(group: SharedEntries, place: Place) -> Self
         ensures { result ≡ group }
     {
         EntriesLeft {
             group: Some(group),
             taken: 0,
+            place,
         }
+    }
+
+    /// Returns where the group was as it was reached.
+    pub(crate) fn place(&self) -> Place {
+        self.place
     }
 
     /// Takes the next entry, if one is left.

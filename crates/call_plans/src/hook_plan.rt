@@ -1,9 +1,9 @@
 //! The groups of one hook.
-ghost use Rattle.std.specs.Prelude.{◌≡◌, ◌<◌, ◌∷◌, [], true, false, not, length, map};
+ghost use Rattle.std.specs.Prelude.{◌≡◌, ◌<◌, ◌+◌, ◌∷◌, [], true, false, not, length, map, IsTrue};
 ghost use Rattle.std.specs.Prelude.{filter, None, Some, IfSome, OnOk, OnErr, MatchOption, MatchResult};
 ghost use Rattle.std.specs.List.{list_any};
 ghost use Rattle.hook_registry.specs.Table.{with_added, is_at, is_of, is_other, is_above, entry_of, least_priority};
-ghost use Rattle.call_plans.specs.Groups.{registrations_of, IsPlan, IsAt, IsGap, IsPlaceAbove};
+ghost use Rattle.call_plans.specs.Groups.{registrations_of, IsPlan, IsAt, IsGap, IsEnd, IsPlaceAbove};
 
 use crate::entries::{SharedEntries, with_entry, without_callback};
 use crate::group::Group;
@@ -142,13 +142,18 @@ impl HookPlan {
         })
     }
 
-    /// Returns the group of the smallest priority, or of the smallest one above another if that is given.
-    pub fn next_group(&self, above: Option<Priority>) -> Option<&Group>
-        ensures { MatchOption result (least_priority (is_above above) self.entry.now ≡ None) (λ group.
-            (least_priority (is_above above) self.entry.now ≡ Some group.now.priority)
-            × (map entry_of (filter (is_at group.now.priority) self.entry.now) ≡ group.now.entries)) }
+    /// Returns the group of the smallest priority, or of the smallest one above another if that is given, and its
+    /// index. The group after the index of a hint is tried first.
+    pub fn next_group(&self, above: Option<Priority>, hint: usize) -> Option<(usize, &Group)>
+        ensures { MatchOption result (least_priority (is_above above) self.entry.now ≡ None) (λ found.
+            (least_priority (is_above above) self.entry.now ≡ Some found.1.now.priority)
+            × (map entry_of (filter (is_at found.1.now.priority) self.entry.now) ≡ found.1.now.entries)) }
     {
-        self.groups.get(place_above(&self.groups, above))
+        let at = place_above(&self.groups, above, hint);
+        match self.groups.get(at) {
+            None => None,
+            Some(group) => Some((at, group)),
+        }
     }
 }
 
@@ -167,12 +172,32 @@ fn find(groups: &[Group], priority: Priority) -> Result<usize, usize>
 }
 
 /// Returns the index of the first group, or of the first one above a priority; the number of groups if there is none.
-fn place_above(groups: &[Group], above: Option<Priority>) -> usize
+/// The index after that of a hint is tried first.
+fn place_above(groups: &[Group], above: Option<Priority>, hint: usize) -> usize
     requires { IsPlan groups.now }
     ensures { IsPlaceAbove above groups.now result }
 {
     match above {
         None => 0,
-        Some(priority) => groups.partition_point(|group| !group.is_above(priority)),
+        Some(priority) => {
+            if hint < groups.len() {
+                if ends_after(groups, priority, hint) {
+                    return hint + 1;
+                }
+            }
+            groups.partition_point(|group| !group.is_above(priority))
+        }
     }
+}
+
+/// Returns whether the group at an index is the last one that isn't above a priority.
+fn ends_after(groups: &[Group], priority: Priority, at: usize) -> bool
+    requires plan { IsPlan groups.now }
+    requires within { at < length groups.now }
+    ensures { IsTrue result → IsEnd priority groups.now (1 + at) }
+{
+    if groups[at].is_above(priority) {
+        return false;
+    }
+    at + 1 == groups.len() || groups[at + 1].is_above(priority)
 }

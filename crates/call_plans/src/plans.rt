@@ -6,7 +6,7 @@ ghost use Rattle.hook_registry.specs.Table.{registrations, add, remove, remove_a
 ghost use Rattle.call_plans.specs.Changes.{IsApplicable, applied};
 ghost use Rattle.call_plans.specs.Position.{next_entry};
 
-use crate::entries::EntriesLeft;
+use crate::entries::{EntriesLeft, Place};
 use crate::group::Group;
 use crate::hook_plan::HookPlan;
 use crate::position::Position;
@@ -61,17 +61,18 @@ impl Plans {
         if let Some(entry) = position.entries.take_first() {
             return Ok(Some(entry));
         }
-        match self.next_group(position.hook.as_str(), position.reached) {
+        let place = position.entries.place();
+        match self.next_group(position.hook.as_str(), position.reached, place) {
             None => Ok(None),
-            Some(group) => {
-                position.entries = EntriesLeft::all(group.entries.share()?);
+            Some((group, place)) => {
+                position.entries = EntriesLeft::all(group.entries.share()?, place);
                 position.reached = Some(group.priority);
                 Ok(position.entries.take_first())
             }
         }
     }
 
-    /// Returns the registration of a hook that has no other.
+    /// Returns the registration of a hook that has no other; `None` if it has none or several.
     pub fn only(&self, hook: &str) -> Option<Registration>
         ensures { IfSome result (λ only. registrations self.now hook.now ≡ only ∷ []) }
     {
@@ -115,16 +116,44 @@ impl Plans {
         }
     }
 
-    /// Returns the group of a hook's smallest priority, or of the smallest one above another if that is given.
-    fn next_group(&self, hook: &str, above: Option<Priority>) -> Option<&Group>
-        ensures { MatchOption result (next_priority self.entry.now hook.entry.now above ≡ None) (λ found.
-            (next_priority self.entry.now hook.entry.now above ≡ Some found.now.priority)
-            × (group self.entry.now hook.entry.now found.now.priority ≡ found.now.entries)) }
+    /// Returns the plan of a hook and its index, if it has one. The plan at the place of a hint is tried first: that
+    /// spares the look-up by name.
+    fn plan_of(&self, hook: &str, hint: usize) -> Option<(usize, &HookPlan)>
+        ensures { MatchOption result (value_of self.entry.now hook.entry.now ≡ None) (λ found.
+            value_of self.entry.now hook.entry.now ≡ Some found.1.now) }
     {
-        match self.hooks.get(hook) {
-            None => None,
-            Some(plan) => plan.next_group(above),
+        if let Some((name, plan)) = self.hooks.get_index(hint) {
+            if name.as_str() == hook {
+                return Some((hint, plan));
+            }
         }
+        match self.hooks.get_full(hook) {
+            None => None,
+            Some((at, _name, plan)) => Some((at, plan)),
+        }
+    }
+
+    /// Returns the group of a hook's smallest priority, or of the smallest one above another if that is given, and
+    /// where it is. The search begins at the place of the group before it.
+    fn next_group(
+        &self,
+        hook: &str,
+        above: Option<Priority>,
+        before: Place,
+    ) -> Option<(&Group, Place)>
+        ensures { MatchOption result (next_priority self.entry.now hook.entry.now above ≡ None) (λ found.
+            (next_priority self.entry.now hook.entry.now above ≡ Some found.0.now.priority)
+            × (group self.entry.now hook.entry.now found.0.now.priority ≡ found.0.now.entries)) }
+    {
+        let (at, plan) = self.plan_of(hook, before.hook)?;
+        let (place, group) = plan.next_group(above, before.group)?;
+        Some((
+            group,
+            Place {
+                hook: at,
+                group: place,
+            },
+        ))
     }
 
     /// Adds an entry under a hook at a priority.

@@ -1,6 +1,8 @@
--- Which texts are names of hooks and of shortcodes (Plugin Handbook, Hooks; Shortcode API).
-use Rattle.std.specs.Prelude.{ℕ, Bool, ◌&&◌, List, length, nat_le}
+-- Which texts are names of hooks and of shortcodes, and what the hooks are called that the engine itself runs (Plugin Handbook, Hooks; Shortcode API).
+use Rattle.std.specs.Prelude.{ℕ, Bool, ◌&&◌, List, length, nat_le, codes}
 use Rattle.std.specs.List.{list_all}
+use Rattle.hook_changes.specs.declared.core_hooks.CoreHook.{CoreHook}
+use Rattle.hook_changes.specs.declared.core_hooks.CoreHook.TheVariants as hook
 use Rattle.shortcode_atts.specs.NameByte.{is_name_byte}
 
 -- 1 to 64 bytes
@@ -14,3 +16,17 @@ is_hook_name text = has_name_length text
 -- a shortcode's name, and a plugin's, is made of ASCII letters, digits, `_` and `-`
 abbrev pub is_tag_name : List ℕ → Bool
 is_tag_name text = has_name_length text && list_all is_name_byte text
+
+abbrev pub core_name : CoreHook → List ℕ
+core_name hook.PluginsLoaded = codes "plugins_loaded"
+core_name hook.Init = codes "init"
+core_name hook.WpLoaded = codes "wp_loaded"
+core_name hook.Wp = codes "wp"
+core_name hook.TemplateRedirect = codes "template_redirect"
+core_name hook.GetHeader = codes "get_header"
+core_name hook.GetFooter = codes "get_footer"
+core_name hook.WpHead = codes "wp_head"
+core_name hook.WpFooter = codes "wp_footer"
+core_name hook.TheTitle = codes "the_title"
+core_name hook.TheContent = codes "the_content"
+core_name hook.DoShortcodeTag = codes "do_shortcode_tag"

@@ -1,19 +1,45 @@
 //! Texts and lists as fields of plain data: contracts see their bytes and their items, and no capacity or pointer.
-ghost use Rattle.std.specs.Prelude.{◌≡◌, ℕ, List, [], ◌++◌, ◌∷◌, string_bytes, IfOk, OnOk, OnErr};
+ghost use Rattle.std.specs.Prelude.{◌≡◌, ◌<◌, ℕ, List, [], ◌++◌, ◌∷◌, string_bytes, length, slice_set};
+ghost use Rattle.std.specs.Prelude.{IfOk, OnOk, OnErr};
+ghost use Rattle.hook_changes.specs.Names.{core_name};
 
+use crate::core_hooks::CoreHook;
 use std::alloc::{AllocError, AllocFailed, Global};
 use std::marker::Model;
+use std::mem;
+use std::rc::Rc;
+
+/// How a text is held.
+#[derive(Drop)]
+enum Held {
+    /// In memory of its own.
+    Own(String),
+    /// In memory that its copies share.
+    Shared(Rc<String>),
+    /// In the program: the name of one of the engine's own hooks.
+    Core(CoreHook),
+}
 
 /// A text in UTF-8, which contracts see as its bytes.
-#[derive(Drop)]
 pub struct Text {
-    text: String,
+    alloc: Global,
+    held: Held,
 }
 
 impl Model for Text {
+    ghost use Rattle.std.specs.Prelude.{ℕ, List};
+    ghost use Rattle.hook_changes.specs.Texts.{bytes_held};
+
     ghost Value = { List ℕ };
 
-    ghost view = { λ t. string_bytes t.text };
+    ghost view = { λ t. bytes_held t.held };
+}
+
+/// Written out, so that all who own a text call this drop, and no proof tells apart how a text is held.
+impl Drop for Text {
+    fn drop(self) {
+        let Text { alloc: _, held: _ } = self;
+    }
 }
 
 impl Text {
@@ -21,7 +47,10 @@ impl Text {
     pub fn new(text: String) -> Self
         ensures { result ≡ string_bytes text }
     {
-        Text { text }
+        Text {
+            alloc: *text.allocator(),
+            held: Held::Own(text),
+        }
     }
 
     /// Makes the empty text. Does not allocate.
@@ -29,7 +58,18 @@ impl Text {
         ensures { result ≡ [] }
     {
         Text {
-            text: String::new(alloc),
+            alloc,
+            held: Held::Own(String::new(alloc)),
+        }
+    }
+
+    /// Makes the name of one of the engine's own hooks. Does not allocate, nor does a copy of it.
+    pub fn core(alloc: Global, hook: CoreHook) -> Self
+        ensures { result ≡ core_name hook }
+    {
+        Text {
+            alloc,
+            held: Held::Core(hook),
         }
     }
 
@@ -37,41 +77,81 @@ impl Text {
     pub fn copied(alloc: Global, text: &str) -> Result<Self, AllocError>
         ensures { IfOk result (λ copy. copy ≡ text.now) }
     {
-        Ok(Text {
-            text: String::from_str(alloc, text)?,
-        })
+        Ok(Text::new(String::from_str(alloc, text)?))
     }
 
     /// Borrows the text.
     pub fn as_str(&self) -> &str
         ensures { result.now ≡ self.now }
     {
-        self.text.as_str()
+        match &self.held {
+            Held::Own(text) => text.as_str(),
+            Held::Shared(text) => text.as_str(),
+            Held::Core(hook) => hook.name(),
+        }
     }
 
-    /// Appends a text. On allocation failure nothing is appended.
+    /// Appends a text. A text that shares its memory gets memory of its own first. On allocation failure nothing is
+    /// appended.
     pub fn push_str(&mut self, text: &str) -> Result<(), AllocError>
         ensures ok { OnOk result (self.new ≡ self.old ++ text.now) }
         ensures err { OnErr result (self.new ≡ self.old) }
     {
-        self.text.push_str(text)
+        if let Held::Own(own) = &mut self.held {
+            return own.push_str(text);
+        }
+        let joined = joined(self.alloc, self.as_str(), text)?;
+        self.held = Held::Own(joined);
+        Ok(())
     }
 
-    /// Returns the `String`, which is moved and not copied.
-    pub fn into_string(self) -> String
-        ensures { string_bytes result ≡ self }
+    /// Lets copies of the text share its memory, so that a copy doesn't allocate. On allocation failure the text is
+    /// empty.
+    pub fn share(&mut self) -> Result<(), AllocError>
+        ensures { OnOk result (self.new ≡ self.old) }
     {
-        let Text { text } = self;
-        text
+        match mem::replace(&mut self.held, Held::Own(String::new(self.alloc))) {
+            Held::Own(own) => self.held = Held::Shared(Rc::new(self.alloc, own)?),
+            other => self.held = other,
+        }
+        Ok(())
+    }
+
+    /// Returns the `String`, which is moved, or copied if the text has no memory of its own.
+    pub fn into_string(self) -> Result<String, AllocError>
+        ensures { IfOk result (λ text. string_bytes text ≡ self) }
+    {
+        let Text { alloc, held } = self;
+        match held {
+            Held::Own(text) => Ok(text),
+            Held::Shared(text) => String::from_str(alloc, text.as_str()),
+            Held::Core(hook) => String::from_str(alloc, hook.name()),
+        }
     }
 }
 
+/// Joins two texts.
+fn joined(alloc: Global, text: &str, more: &str) -> Result<String, AllocError>
+    ensures { IfOk result (λ joined. string_bytes joined ≡ text.now ++ more.now) }
+{
+    let mut joined = String::from_str(alloc, text)?;
+    joined.push_str(more)?;
+    Ok(joined)
+}
+
+/// A text that shares its memory, or has none, is copied without allocating.
 impl Clone for Text {
     fn clone(&self) -> Result<Self, AllocError>
         ensures { IfOk result (λ text. text ≡ self.now) }
     {
+        let held = match &self.held {
+            Held::Own(text) => Held::Own(text.clone()?),
+            Held::Shared(text) => Held::Shared(text.clone()?),
+            Held::Core(hook) => Held::Core(*hook),
+        };
         Ok(Text {
-            text: self.text.clone()?,
+            alloc: self.alloc,
+            held,
         })
     }
 }
@@ -126,5 +206,15 @@ impl<T> Listed<T> {
     {
         let Listed { items } = self;
         items
+    }
+}
+
+impl<T: Drop> Listed<T> {
+    /// Puts an item in the place of another. Does not allocate.
+    pub fn set(&mut self, at: usize, item: T)
+        requires { at < length self.old }
+        ensures { self.new ≡ slice_set self.old at item }
+    {
+        self.items[at] = item;
     }
 }

@@ -3,12 +3,14 @@
 #![tactic(auto)]
 
 mod callback;
+mod core_hooks;
 mod kept;
 mod names;
 mod reply;
 
 pub use callback::CallbackId;
+pub use core_hooks::CoreHook;
 pub use kept::{Listed, Text};
-pub use names::{HookName, NameFault, TagName, is_tag_name};
+pub use names::{HookName, NameFault, TagName, is_hook_name, is_tag_name};
 pub use reply::{Answer, Ask, Call, Change, Reply, Then};
 pub use shortcode_atts::Atts;

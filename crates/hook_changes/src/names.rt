@@ -1,9 +1,10 @@
 //! The names of hooks and of shortcodes.
-ghost use Rattle.std.specs.Prelude.{◌≡◌, ◌↔◌, ℕ, List, IsTrue, IsFalse, IfOk, Err, bytes_eq};
+ghost use Rattle.std.specs.Prelude.{◌≡◌, ◌↔◌, ℕ, List, IsTrue, IsFalse, IfOk, Err, MatchOption, bytes_eq};
 ghost use Rattle.std.specs.List.{list_all};
 ghost use Rattle.shortcode_atts.specs.NameByte.{is_name_byte};
 ghost use Rattle.hook_changes.specs.Names.{has_name_length, is_hook_name, is_tag_name};
 
+use crate::kept::Text;
 use shortcode_atts::is_name_byte;
 use std::alloc::{AllocError, Global};
 use std::marker::Model;
@@ -34,18 +35,18 @@ impl From<AllocError> for NameFault {
 /// engine's own).
 #[derive(Drop)]
 pub struct HookName {
-    name: String,
+    name: Text,
 }
 
 impl Model for HookName {
-    ghost use Rattle.std.specs.Prelude.{ℕ, List, IsTrue, string_bytes};
+    ghost use Rattle.std.specs.Prelude.{ℕ, List, IsTrue};
     ghost use Rattle.hook_changes.specs.Names.{is_hook_name};
 
     ghost Value = { List ℕ };
 
-    ghost view = { λ n. string_bytes n.name };
+    ghost view = { λ n. n.name };
 
-    ghost invariant = { λ n. IsTrue (is_hook_name (string_bytes n.name)) };
+    ghost invariant = { λ n. IsTrue (is_hook_name n.name) };
 }
 
 impl HookName {
@@ -54,12 +55,23 @@ impl HookName {
         ensures ok { IfOk result (λ name. name ≡ text.now) }
         ensures bad_name { (result ≡ Err NameFault.BadName) ↔ IsFalse (is_hook_name text.now) }
     {
-        if !has_name_length(text.as_bytes()) {
+        if !is_hook_name(text) {
             return Err(NameFault::BadName);
         }
         Ok(HookName {
-            name: String::from_str(alloc, text)?,
+            name: Text::copied(alloc, text)?,
         })
+    }
+
+    /// Makes a text the name of a hook, if it is one. It is moved and not copied.
+    pub fn of(text: Text) -> Option<Self>
+        ensures { MatchOption result (IsFalse (is_hook_name text))
+            (λ name. IsTrue (is_hook_name text) × (name ≡ text)) }
+    {
+        if !is_hook_name(text.as_str()) {
+            return None;
+        }
+        Some(HookName { name: text })
     }
 
     /// Returns the text that was read.
@@ -137,6 +149,13 @@ impl Clone for TagName {
             name: self.name.clone()?,
         })
     }
+}
+
+/// Returns whether a text is the name of a hook.
+pub fn is_hook_name(text: &str) -> bool
+    ensures { result ≡ is_hook_name text.now }
+{
+    has_name_length(text.as_bytes())
 }
 
 /// Returns whether a text is the name of a shortcode.

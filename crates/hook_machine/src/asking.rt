@@ -73,7 +73,7 @@ fn ask_apply<S: Stated>(
     ensures grows { Shrinks 1 result stack.old stack.new }
 {
     wait(state, stack, invoked, Pending::ForText)?;
-    begin_filter(plugins, state, stack, hook.as_str(), value, args, pace)
+    begin_filter(plugins, state, stack, hook, value, args, pace)
 }
 
 /// Begins the action pass that a callback asked for.
@@ -92,7 +92,7 @@ fn ask_act<S: Stated>(
     ensures grows { Shrinks 1 result stack.old stack.new }
 {
     wait(state, stack, invoked, Pending::ForNothing)?;
-    begin_action(plugins, state, stack, hook.as_str(), args, pace)
+    begin_action(plugins, state, stack, hook, args, pace)
 }
 
 /// Begins to replace the shortcodes of a text, as a callback asked.
@@ -109,6 +109,7 @@ fn ask_shortcodes<S: Stated>(
         (λ engine. pending_left engine state.old invoked.callback invoked.call
         (Next (next.Ask (Shortcodes text)))) stack.old result state.new stack.new }
     ensures grows { Shrinks 1 result stack.old stack.new }
+    ensures cache { cache.new ≡ cache.old }
 {
     wait(state, stack, invoked, Pending::ForText)?;
     begin_text(plugins, state, stack, text, cache, pace)
@@ -128,6 +129,7 @@ fn core_turn<S: Stated>(
         (λ engine. pending_left engine state.old invoked.callback invoked.call Core)
         stack.old result state.new stack.new }
     ensures grows { Shrinks 1 result stack.old stack.new }
+    ensures cache { cache.new ≡ cache.old }
 {
     let mut invoked = invoked;
     let text = invoked.take_first_argument(state.alloc());
@@ -149,6 +151,7 @@ fn ask_turn<S: Stated>(
         (λ engine. pending_left engine state.old invoked.callback invoked.call (Next (next.Ask ask)))
         stack.old result state.new stack.new }
     ensures grows { Shrinks 1 result stack.old stack.new }
+    ensures cache { cache.new ≡ cache.old }
 {
     match ask {
         Ask::Apply { hook, value, args } => {
@@ -202,6 +205,7 @@ fn follow_turn<S: Stated>(
         (λ engine. pending_left engine state.old invoked.callback invoked.call (Next next))
         stack.old result state.new stack.new }
     ensures grows { Shrinks 1 result stack.old stack.new }
+    ensures cache { cache.new ≡ cache.old }
 {
     match next {
         Then::Answer(text) => {
@@ -225,6 +229,7 @@ pub fn invocation_turn<S: Stated>(
         (λ engine. pending_left engine state.old invoked.callback invoked.call invoked.pending)
         stack.old result state.new stack.new }
     ensures grows { Shrinks 1 result stack.old stack.new }
+    ensures cache { cache.new ≡ cache.old }
 {
     let mut invoked = invoked;
     match invoked.take_pending() {

@@ -13,11 +13,14 @@ use crate::replacing::TextPass;
 use crate::state::State;
 use call_plans::Position;
 use hook_changes::{Answer, Call, CallbackId, Listed, Text, Then};
-use hook_registry::Entry;
+use hook_registry::{Entry, Priority};
 use shortcode_atts::Atts;
 use std::alloc::{AllocError, Global};
 use std::marker::Model;
 use std::mem;
+
+/// After how many answers the value of a pass is made one that copies share.
+const SHARE_EVERY: u32 = 8;
 
 /// What a pass over a hook has.
 #[derive(Drop)]
@@ -69,6 +72,13 @@ impl HookPass {
         self.parts.args.as_slice()
     }
 
+    /// Returns the priority that the pass has reached, if it has reached one.
+    pub fn reached(&self) -> Option<Priority>
+        ensures { result ≡ self.now.position.reached }
+    {
+        self.parts.position.reached
+    }
+
     /// Takes the next entry of the pass, if there is one (class WP_Hook).
     pub fn next(&mut self, state: &State) -> Result<Option<Entry>, AllocError>
         ensures entry { IfOk result (λ found. found ≡ (next_entry state.now.table self.old.position).0) }
@@ -91,6 +101,20 @@ impl HookPass {
         ensures { self.new ≡ record self.old { value = value } }
     {
         self.parts.value = value;
+    }
+
+    /// Hands a pass the answer of its nth callback. From time to time the value is made one that copies share: most
+    /// callbacks of a long pass answer the value as it came.
+    pub fn hand_in_turn(&mut self, alloc: Global, answer: Text, nth: u32) -> Result<(), AllocError>
+        ensures { OnOk result (self.new ≡ record self.old {
+          value = value_after self.old.kind self.old.value answer;
+        }) }
+    {
+        self.hand(alloc, answer);
+        if nth % SHARE_EVERY == 0 {
+            self.parts.value.share()?;
+        }
+        Ok(())
     }
 
     /// Hands the pass a callback's answer.

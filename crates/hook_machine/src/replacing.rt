@@ -24,7 +24,7 @@ use crate::state::State;
 use crate::turning::{begin_filter, invoke};
 use callback_store::{Plugins, Stated};
 use content_cache::PieceCache;
-use hook_changes::{Listed, Text, Then};
+use hook_changes::{CoreHook, Listed, Text, Then};
 use shortcode_scan::{Piece, Span, text_at};
 use std::alloc::{AllocError, Global};
 use std::marker::Model;
@@ -214,8 +214,8 @@ fn wait_for_handler(stack: &mut Stack, pass: TextPass, invoked: Invoked) -> Resu
     Ok(Move::Turned)
 }
 
-/// Puts the invocation of a handler that has answered on the stack, and the pass, since the answer goes through a filter
-/// first.
+/// Puts the invocation of a handler that has answered on the stack, and the pass, since the answer goes through a
+/// filter first.
 fn filter_later(
     stack: &mut Stack,
     pass: TextPass,
@@ -303,7 +303,8 @@ fn filter_turn<S: Stated>(
     let mut pass = pass;
     pass.put_away();
     stack.put_first(Frame::Shortcodes(pass))?;
-    begin_filter(plugins, state, stack, SHORTCODE_FILTER, text, args, pace)
+    let hook = Text::core(state.alloc(), CoreHook::DoShortcodeTag);
+    begin_filter(plugins, state, stack, hook, text, args, pace)
 }
 
 /// Hands a shortcode pass the answer of its match's handler, which goes through the filter first, or that filter's
@@ -356,6 +357,7 @@ pub fn begin_text<S: Stated>(
     ensures moves { Does pace (engine_over S.says S.number plugins.now)
         (λ engine. shortcodes_pass (invoke engine) state.old text) stack.old result state.new stack.new }
     ensures shrinks { Shrinks 0 result stack.old stack.new }
+    ensures cache { cache.new ≡ cache.old }
 {
     let pieces = state.pieces(text.as_str(), cache)?;
     if is_one_stretch(text.as_str(), pieces.as_slice()) {

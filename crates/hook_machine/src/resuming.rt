@@ -56,6 +56,7 @@ fn frame_turn<S: Stated>(
     ensures moves { Moves pace (engine_over S.says S.number plugins.now)
         (rest (engine_over S.says S.number plugins.now) state.old (frame ∷ stack.old)) result state.new stack.new }
     ensures grows { Shrinks 1 result stack.old stack.new }
+    ensures cache { cache.new ≡ cache.old }
 {
     match frame {
         Frame::Pass(pass) => pass_turn(plugins, state, stack, pass, pace),
@@ -124,19 +125,13 @@ pub fn begin<S: Stated>(
 ) -> Result<Move, RunFault>
     ensures moves { Does pace (engine_over S.says S.number plugins.now)
         (λ engine. job_left engine state.old job) stack.old result state.new stack.new }
+    ensures cache { cache.new ≡ cache.old }
 {
     match job {
         Job::Filters { hook, value, args } => {
-            begin_filter(plugins, state, stack, hook.as_str(), value, args, pace)
+            begin_filter(plugins, state, stack, hook, value, args, pace)
         }
-        Job::Action { hook, args } => begin_action(
-            plugins,
-            state,
-            stack,
-            hook.as_str(),
-            args,
-            pace,
-        ),
+        Job::Action { hook, args } => begin_action(plugins, state, stack, hook, args, pace),
         Job::Shortcodes { text } => begin_text(plugins, state, stack, text, cache, pace),
     }
 }
@@ -152,6 +147,7 @@ fn move_on<S: Stated>(
 ) -> Result<Move, RunFault>
     ensures moves { Moves pace (engine_over S.says S.number plugins.now)
         (left_from (engine_over S.says S.number plugins.now) state.old job stack.old) result state.new stack.new }
+    ensures cache { cache.new ≡ cache.old }
 {
     if let Some(job) = job {
         return begin(plugins, state, stack, job, cache, pace);
@@ -174,6 +170,7 @@ pub fn next_turn<S: Stated>(
     ensures turns { TurnsBy pace (left_from (engine_over S.says S.number plugins.now) state.old job stack.old) result
         state.new (rest (engine_over S.says S.number plugins.now) state.new stack.new) }
     ensures over { IsOver result stack.new }
+    ensures cache { cache.new ≡ cache.old }
 {
     let moved = move_on(plugins, state, stack, job, cache, pace)?;
     hand_on(plugins, state, stack, moved, pace)
@@ -190,6 +187,7 @@ pub fn all_turns<S: Stated>(
     ensures ends { RunsAs
         (left_from (engine_over S.says S.number plugins.now) state.old job stack.old) result state.new }
     ensures over { OnOk result (stack.new ≡ []) }
+    ensures cache { cache.new ≡ cache.old }
 {
     let mut turned = next_turn(plugins, state, stack, job, cache, Pace::Through)?;
     'turns: loop {
@@ -211,6 +209,7 @@ pub fn run_job<S: Stated>(
     requires { stack.old ≡ [] }
     ensures ends { RunsAs (job_left (engine_over S.says S.number plugins.now) state.old job) result state.new }
     ensures over { OnOk result (stack.new ≡ []) }
+    ensures cache { cache.new ≡ cache.old }
 {
     all_turns(plugins, state, stack, Some(job), cache)
 }

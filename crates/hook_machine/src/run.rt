@@ -86,6 +86,7 @@ fn run_filters<S: Stated>(
     ensures ends { RunsAs
         (filtered (engine_over S.says S.number plugins.now) state.old hook.now value args.now) result state.new }
     ensures over { OnOk result (stack.new ≡ []) }
+    ensures cache { cache.new ≡ cache.old }
 {
     let job = filters(state.alloc(), hook, value, args)?;
     run_job(plugins, state, stack, job, cache)
@@ -104,6 +105,7 @@ fn run_action<S: Stated>(
     ensures ends { RunsAs
         (action_pass (invoke (engine_over S.says S.number plugins.now)) state.old hook.now args.now) result state.new }
     ensures over { OnOk result (stack.new ≡ []) }
+    ensures cache { cache.new ≡ cache.old }
 {
     let job = action(state.alloc(), hook, args)?;
     run_job(plugins, state, stack, job, cache)
@@ -121,6 +123,7 @@ fn run_shortcodes<S: Stated>(
     ensures ends { RunsAs
         (replaced (engine_over S.says S.number plugins.now) state.old text.now) result state.new }
     ensures over { OnOk result (stack.new ≡ []) }
+    ensures cache { cache.new ≡ cache.old }
 {
     let job = shortcodes(state.alloc(), text)?;
     run_job(plugins, state, stack, job, cache)
@@ -158,7 +161,7 @@ impl<'a, S: Stated> Run<'a, S> {
     ghost use Rattle.hook_machine.specs.Trace.{Done};
     ghost use Rattle.hook_machine.specs.Moves.{Leads, Turns, TurnsBy};
     ghost use Rattle.hook_machine.specs.Jobs.{job_left};
-    ghost use Rattle.hook_machine.specs.Runs.{world_of, fault_of, engine_of, left_of, CanBegin, IsIdle, IsIdleAtEnd};
+    ghost use Rattle.hook_machine.specs.Runs.{world_of, fault_of, engine_of, left_of, left_in, CanBegin, IsIdle, IsIdleAtEnd};
     ghost use Rattle.hook_machine.specs.Runs.{Keeps, paused_world, paused_left, IsPausedIdle};
 
     /// Makes a run with nothing registered and nothing printed, of a site with these active plugins and options, that
@@ -226,6 +229,7 @@ impl<'a, S: Stated> Run<'a, S> {
             RunsAs (filtered (engine_of S.says S.number self.old) (world_of self.old) hook.now value args.now) result
             (world_of self.new) }
         ensures keeps { Keeps S.says S.number self.old result self.new }
+        ensures cache { cache.new ≡ cache.old }
     {
         if let Some(fault) = self.fault {
             return Err(fault);
@@ -256,6 +260,7 @@ impl<'a, S: Stated> Run<'a, S> {
             RunsAs (acted (engine_of S.says S.number self.old) (world_of self.old) hook.now args.now) result
             (world_of self.new) }
         ensures keeps { Keeps S.says S.number self.old result self.new }
+        ensures cache { cache.new ≡ cache.old }
     {
         if let Some(fault) = self.fault {
             return Err(fault);
@@ -284,6 +289,7 @@ impl<'a, S: Stated> Run<'a, S> {
             RunsAs (replaced (engine_of S.says S.number self.old) (world_of self.old) text.now) result
             (world_of self.new) }
         ensures keeps { Keeps S.says S.number self.old result self.new }
+        ensures cache { cache.new ≡ cache.old }
     {
         if let Some(fault) = self.fault {
             return Err(fault);
@@ -324,6 +330,7 @@ impl<'a, S: Stated> Run<'a, S> {
             (left_of (engine_of S.says S.number self.old) self.new) }
         ensures idle { IsIdleAtEnd result self.new }
         ensures keeps { Keeps S.says S.number self.old result self.new }
+        ensures cache { cache.new ≡ cache.old }
     {
         self.go_on(Pace::ByTurns, cache)
     }
@@ -336,6 +343,7 @@ impl<'a, S: Stated> Run<'a, S> {
             (left_of (engine_of S.says S.number self.old) self.new) }
         ensures idle { IsIdleAtEnd result self.new }
         ensures keeps { Keeps S.says S.number self.old result self.new }
+        ensures cache { cache.new ≡ cache.old }
     {
         if let Some(fault) = self.fault {
             return Err(fault);
@@ -405,10 +413,12 @@ impl<'a, S: Stated> Run<'a, S> {
         }
     }
 
-    /// Takes what was printed so far, which leaves nothing printed. Does not allocate.
+    /// Takes what was printed so far, which leaves nothing printed. A job that is under way goes on as before. Does not
+    /// allocate.
     pub fn take_output(&mut self) -> Result<Text, RunFault>
-        requires idle { CanBegin self.old }
-        ensures idle { OnOk result (IsIdle self.new) }
+        ensures left { fault_of self.old ≡ None → (engine : Engine)
+            → left_of engine self.new ≡ left_in engine (world_of self.new) self.old }
+        ensures idle { OnOk result (IsIdle self.old → IsIdle self.new) }
         ensures text { fault_of self.old ≡ None →
             IfOk result (λ text. (text ≡ (world_of self.old).output) ×
             (world_of self.new ≡ record (world_of self.old) { output = [] })) }

@@ -16,7 +16,7 @@ use crate::pass::PassKind;
 use crate::state::State;
 use call_plans::Position;
 use callback_store::{Plugins, Stated};
-use hook_changes::{HookName, Listed, NameFault, Text, Then};
+use hook_changes::{HookName, Listed, Text, Then};
 use hook_registry::Entry;
 use std::alloc::AllocError;
 
@@ -137,6 +137,7 @@ pub fn pass_turn<S: Stated>(
     ensures shrinks { Shrinks 0 result stack.old stack.new }
 {
     let mut pass = pass;
+    let mut answered = 0u32;
     'entries: loop {
         match pass.next(state)? {
             None => {
@@ -149,7 +150,8 @@ pub fn pass_turn<S: Stated>(
                 match went {
                     Went::Answered(invoked, answer) => {
                         state.keep_spare(invoked);
-                        pass.hand(state.alloc(), answer);
+                        answered = answered.wrapping_add(1);
+                        pass.hand_in_turn(state.alloc(), answer, answered)?;
                     }
                     Went::Waits(invoked) => {
                         stack.put_first(Frame::Pass(pass))?;
@@ -199,34 +201,29 @@ pub fn may_pass_over(state: &State, hook: &str, value: &str, pace: Pace) -> bool
     }
 }
 
-/// Begins a filter pass. A pass that changes nothing isn't made.
+/// Begins a filter pass. If nothing is registered on the hook, no pass is made.
 pub fn begin_filter<S: Stated>(
     plugins: &Plugins<S>,
     state: &mut State,
     stack: &mut Stack,
-    hook: &str,
+    hook: Text,
     value: Text,
     args: Listed<Text>,
     pace: Pace,
 ) -> Result<Move, RunFault>
     ensures moves { Does pace (engine_over S.says S.number plugins.now)
-        (λ engine. filter_pass (invoke engine) state.old hook.now value args) stack.old result state.new stack.new }
+        (λ engine. filter_pass (invoke engine) state.old hook value args) stack.old result state.new stack.new }
     ensures shrinks { Shrinks 0 result stack.old stack.new }
 {
-    if !state.is_hooked(hook) {
+    if !state.is_hooked(hook.as_str()) {
         return Ok(Move::Handed(value));
     }
-    if may_pass_over(state, hook, value.as_str(), pace) {
-        state.spend_call();
-        return Ok(Move::Handed(value));
-    }
-    match HookName::read(state.alloc(), hook) {
-        Ok(hook) => {
+    match HookName::of(hook) {
+        Some(hook) => {
             let kind = PassKind::Filter;
             begin_pass(plugins, state, stack, kind, hook, value, args, pace)
         }
-        Err(NameFault::BadName) => Ok(Move::Handed(value)),
-        Err(NameFault::OutOfMemory) => Err(RunFault::OutOfMemory),
+        None => Ok(Move::Handed(value)),
     }
 }
 
@@ -235,16 +232,16 @@ pub fn begin_action<S: Stated>(
     plugins: &Plugins<S>,
     state: &mut State,
     stack: &mut Stack,
-    hook: &str,
+    hook: Text,
     args: Listed<Text>,
     pace: Pace,
 ) -> Result<Move, RunFault>
     ensures moves { Does pace (engine_over S.says S.number plugins.now)
-        (λ engine. action_pass (invoke engine) state.old hook.now args) stack.old result state.new stack.new }
+        (λ engine. action_pass (invoke engine) state.old hook args) stack.old result state.new stack.new }
     ensures shrinks { Shrinks 0 result stack.old stack.new }
 {
-    match HookName::read(state.alloc(), hook) {
-        Ok(hook) => {
+    match HookName::of(hook) {
+        Some(hook) => {
             state.fire(&hook)?;
             let nothing = Text::empty(state.alloc());
             if !state.is_hooked(hook.as_str()) {
@@ -253,7 +250,6 @@ pub fn begin_action<S: Stated>(
             let kind = PassKind::Action;
             begin_pass(plugins, state, stack, kind, hook, nothing, args, pace)
         }
-        Err(NameFault::BadName) => Ok(Move::Handed(Text::empty(state.alloc()))),
-        Err(NameFault::OutOfMemory) => Err(RunFault::OutOfMemory),
+        None => Ok(Move::Handed(Text::empty(state.alloc()))),
     }
 }

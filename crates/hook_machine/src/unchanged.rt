@@ -1,22 +1,14 @@
 //! Passes that change nothing but what a run has left of its calls. They need not be made.
 ghost use Rattle.std.specs.Prelude.{◌≡◌, ◌<◌, ◌∷◌, [], List, IsTrue, IfSome};
-ghost use Rattle.hook_changes.specs.Names.{is_hook_name};
 ghost use Rattle.hook_registry.specs.Table.{registrations};
 ghost use Rattle.hook_machine.specs.World.{Text};
 ghost use Rattle.hook_machine.specs.Meaning.{Engine, filter_pass, invoke};
 ghost use Rattle.hook_machine.specs.PassedOver.{IsCoreAlone, left_by_core};
 
 use crate::state::{DEEPEST, State};
+use hook_changes::is_hook_name;
 use hook_registry::Registration;
 use shortcode_scan::is_plain;
-
-/// Returns whether a text is as long as the name of a hook may be.
-fn may_name_hook(text: &str) -> bool
-    ensures { result ≡ is_hook_name text.now }
-{
-    let some = !text.is_empty();
-    some && text.len() <= 64
-}
 
 impl State {
     /// Returns whether a callback may be invoked, and ask for something.
@@ -52,7 +44,7 @@ impl State {
         ensures { IsTrue result → (engine : Engine) (args : List Text)
             → filter_pass (invoke engine) self.now hook.now value.now args ≡ left_by_core self.now hook.now value.now }
     {
-        if !self.has_room() || !may_name_hook(hook) {
+        if !self.has_room() || !is_hook_name(hook) {
             return false;
         }
         self.has_core_alone(hook) && is_plain(value)

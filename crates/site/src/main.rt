@@ -8,7 +8,7 @@ use bundled_plugins::{NUMBERS, Stored, bundle, bundled_reply};
 use callback_store::{PluginFault, Plugins, Stated};
 use hook_changes::{Call, CallbackId, Listed, Reply};
 use site_args::{ArgsAnswer, read_args};
-use site_program::{Reading, Site, StoreFault, Writing};
+use site_program::{PageLog, Reading, Site, StoreFault, Writing};
 use std::alloc::{AllocError, Global};
 use std::fmt::Display;
 use std::process::ExitCode;
@@ -49,7 +49,11 @@ fn run(rt: &HostRuntime, callbacks: Listed<Stored>) -> ExitCode
         Err(_) => return failed(rt, StoreFault::OutOfMemory),
     };
     match read_args(alloc, &words) {
-        ArgsAnswer::Run { calls, cache } => serve(rt, callbacks, calls, cache),
+        ArgsAnswer::Run {
+            calls,
+            cache,
+            trace,
+        } => serve(rt, callbacks, calls, cache, trace),
         ArgsAnswer::Help(text) => {
             let _ = print!(rt; "{text}");
             ExitCode::SUCCESS
@@ -62,8 +66,15 @@ fn run(rt: &HostRuntime, callbacks: Listed<Stored>) -> ExitCode
     }
 }
 
-/// Serves a site over the bundle, from standard input to standard output.
-fn serve(rt: &HostRuntime, callbacks: Listed<Stored>, calls: u32, cache: u32) -> ExitCode
+/// Serves a site over the bundle, from standard input to standard output. With `trace` each invocation is told on
+/// standard error.
+fn serve(
+    rt: &HostRuntime,
+    callbacks: Listed<Stored>,
+    calls: u32,
+    cache: u32,
+    trace: bool,
+) -> ExitCode
     requires callbacks { map ⟦<Stored as Stated>⟧.number callbacks ≡ numbers }
     requires calls { (1 ≤ calls) × (calls ≤ 100000) }
     requires cache { (1 ≤ cache) × (cache ≤ 4096) }
@@ -78,7 +89,13 @@ fn serve(rt: &HostRuntime, callbacks: Listed<Stored>, calls: u32, cache: u32) ->
     };
     let mut reader = Reading::new(rt.reader());
     let mut writer = Writing::new(io::writer(rt));
-    match site.serve(&mut reader, &mut writer) {
+    let served = if trace {
+        let mut log = PageLog::new(alloc, Writing::new(rt.stderr()));
+        site.serve_watched(&mut reader, &mut writer, &mut log)
+    } else {
+        site.serve(&mut reader, &mut writer)
+    };
+    match served {
         Ok(()) => ExitCode::SUCCESS,
         Err(fault) => failed(rt, fault),
     }

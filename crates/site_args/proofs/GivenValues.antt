@@ -22,7 +22,7 @@ use Rattle.clap.specs.declared.parser.matches.MatchedArg.{MatchedArg}
 use Rattle.clap.proofs.CallerLemmas.{entry_by_id, same_rules_by_id}
 use Rattle.clap.proofs.CallerReads.{signed_reads}
 use Rattle.site_args.specs.CommandLine.{site_app, number_or}
-use Rattle.site_args.proofs.SiteApp.{two_rules, plain, no_groups}
+use Rattle.site_args.proofs.SiteApp.{three_rules, plain, no_groups}
 
 -- argument k of the command reads a number from 1 to the most, and has an id of its own
 pub record IsNumberArg (c : Command) (k : ℕ) (a : Arg) (id : Text) (most : ℕ) : Type 0 where
@@ -108,45 +108,53 @@ given old k a id most n m p is t text = go (matched_of (found_of m) id) refl tex
     go (Some x) e h = entry_read old k a id most n m p none x t (entry_by_id (EntryPasses p.built) (found_of m).entries.items id x
         (p.parsed (p.from.globals ∙ (plain old is).globals)).values e) (rw e at h)
 
--- a list whose items are seen as these two
-record AreTwo {A B : Type 0} (f : A → B) (xs : List A) (r s : B) : Type 0 where
+-- a list whose items are seen as these three
+record AreThree {A B : Type 0} (f : A → B) (xs : List A) (r s t : B) : Type 0 where
   first : A
   second : A
-  list : xs ≡ first ∷ second ∷ []
+  third : A
+  list : xs ≡ first ∷ second ∷ third ∷ []
   first_is : f first ≡ r
   second_is : f second ≡ s
+  third_is : f third ≡ t
 
-two_items : {A B : Type 0} (f : A → B) (xs : List A) (r s : B) → map f xs ≡ r ∷ s ∷ [] → AreTwo f xs r s
-two_items f [] r s e = cc
-two_items f (a ∷ []) r s e = let same : f a ∷ [] ≡ r ∷ s ∷ [] = e in cc
-two_items f (a ∷ b ∷ []) r s e = let same : f a ∷ f b ∷ [] ≡ r ∷ s ∷ [] = e in record { first = a; second = b; list = refl; first_is = cc; second_is = cc }
-two_items f (a ∷ b ∷ x ∷ xs) r s e = let same : f a ∷ f b ∷ f x ∷ map f xs ≡ r ∷ s ∷ [] = e in cc
+three_items : {A B : Type 0} (f : A → B) (xs : List A) (r s t : B) → map f xs ≡ r ∷ s ∷ t ∷ [] → AreThree f xs r s t
+three_items f [] r s t e = cc
+three_items f (a ∷ []) r s t e = let same : f a ∷ [] ≡ r ∷ s ∷ t ∷ [] = e in cc
+three_items f (a ∷ b ∷ []) r s t e = let same : f a ∷ f b ∷ [] ≡ r ∷ s ∷ t ∷ [] = e in cc
+three_items f (a ∷ b ∷ d ∷ []) r s t e =
+    let same : f a ∷ f b ∷ f d ∷ [] ≡ r ∷ s ∷ t ∷ [] = e in
+    record { first = a; second = b; third = d; list = refl; first_is = cc; second_is = cc; third_is = cc }
+three_items f (a ∷ b ∷ d ∷ x ∷ xs) r s t e = let same : f a ∷ f b ∷ f d ∷ f x ∷ map f xs ≡ r ∷ s ∷ t ∷ [] = e in cc
 
--- an id of one option is not that of the other
-calls_alone : (a b : Arg) → a.id.now ≡ codes "calls" → b.id.now ≡ codes "cache" → (j : ℕ) (e : Arg) → j < 2
-    → bytes_eq (slice_index_or (a ∷ b ∷ []) j e).id.now (codes "calls") ≡ true → j ≡ 0
-calls_alone a b p q zero e lt same = refl
-calls_alone a b p q (suc zero) e lt same = let no : bytes_eq (codes "cache") (codes "calls") ≡ true = rw q at same in cc
-calls_alone a b p q (suc (suc j)) e lt same = absurd (omega arith)
+-- an id of one option is not that of another
+calls_alone : (a b d : Arg) → a.id.now ≡ codes "calls" → b.id.now ≡ codes "cache" → d.id.now ≡ codes "trace" → (j : ℕ) (e : Arg) → j < 3
+    → bytes_eq (slice_index_or (a ∷ b ∷ d ∷ []) j e).id.now (codes "calls") ≡ true → j ≡ 0
+calls_alone a b d p q r zero e lt same = refl
+calls_alone a b d p q r (suc zero) e lt same = let no : bytes_eq (codes "cache") (codes "calls") ≡ true = rw q at same in cc
+calls_alone a b d p q r (suc (suc zero)) e lt same = let no : bytes_eq (codes "trace") (codes "calls") ≡ true = rw r at same in cc
+calls_alone a b d p q r (suc (suc (suc j))) e lt same = absurd (omega arith)
 
-cache_alone : (a b : Arg) → a.id.now ≡ codes "calls" → b.id.now ≡ codes "cache" → (j : ℕ) (e : Arg) → j < 2
-    → bytes_eq (slice_index_or (a ∷ b ∷ []) j e).id.now (codes "cache") ≡ true → j ≡ 1
-cache_alone a b p q zero e lt same = let no : bytes_eq (codes "calls") (codes "cache") ≡ true = rw p at same in cc
-cache_alone a b p q (suc zero) e lt same = refl
-cache_alone a b p q (suc (suc j)) e lt same = absurd (omega arith)
+cache_alone : (a b d : Arg) → a.id.now ≡ codes "calls" → b.id.now ≡ codes "cache" → d.id.now ≡ codes "trace" → (j : ℕ) (e : Arg) → j < 3
+    → bytes_eq (slice_index_or (a ∷ b ∷ d ∷ []) j e).id.now (codes "cache") ≡ true → j ≡ 1
+cache_alone a b d p q r zero e lt same = let no : bytes_eq (codes "calls") (codes "cache") ≡ true = rw p at same in cc
+cache_alone a b d p q r (suc zero) e lt same = refl
+cache_alone a b d p q r (suc (suc zero)) e lt same = let no : bytes_eq (codes "trace") (codes "cache") ≡ true = rw r at same in cc
+cache_alone a b d p q r (suc (suc (suc j))) e lt same = absurd (omega arith)
 
 calls_arg : (c : Command) → app_of c ≡ site_app → (a : Arg) × IsNumberArg c 0 a (codes "calls") 100000
 calls_arg c is =
-    let two = two_items rule_of (args_of c) _ _ (two_rules c is) in
-    let first_id : two.first.id.now ≡ codes "calls" = ap (λ (r : Rule). r.id) two.first_is in
-    let second_id : two.second.id.now ≡ codes "cache" = ap (λ (r : Rule). r.id) two.second_is in (
-      two.first,
+    let three = three_items rule_of (args_of c) _ _ _ (three_rules c is) in
+    let first_id : three.first.id.now ≡ codes "calls" = ap (λ (r : Rule). r.id) three.first_is in
+    let second_id : three.second.id.now ≡ codes "cache" = ap (λ (r : Rule). r.id) three.second_is in
+    let third_id : three.third.id.now ≡ codes "trace" = ap (λ (r : Rule). r.id) three.third_is in (
+      three.first,
       record {
-        within = rw two.list (omega arith);
-        is = ap (λ (xs : List Arg). slice_index_or xs 0 two.first) two.list;
+        within = rw three.list (omega arith);
+        is = ap (λ (xs : List Arg). slice_index_or xs 0 three.first) three.list;
         id_is = first_id;
-        parser = ap (λ (r : Rule). r.parser) two.first_is;
-        alone = rw two.list (calls_alone two.first two.second first_id second_id);
+        parser = ap (λ (r : Rule). r.parser) three.first_is;
+        alone = rw three.list (calls_alone three.first three.second three.third first_id second_id third_id);
         own = λ auto. elim auto [ inl h ↦ cc | inr h ↦ cc ];
         named = λ h. cc;
       },
@@ -154,16 +162,17 @@ calls_arg c is =
 
 cache_arg : (c : Command) → app_of c ≡ site_app → (a : Arg) × IsNumberArg c 1 a (codes "cache") 4096
 cache_arg c is =
-    let two = two_items rule_of (args_of c) _ _ (two_rules c is) in
-    let first_id : two.first.id.now ≡ codes "calls" = ap (λ (r : Rule). r.id) two.first_is in
-    let second_id : two.second.id.now ≡ codes "cache" = ap (λ (r : Rule). r.id) two.second_is in (
-      two.second,
+    let three = three_items rule_of (args_of c) _ _ _ (three_rules c is) in
+    let first_id : three.first.id.now ≡ codes "calls" = ap (λ (r : Rule). r.id) three.first_is in
+    let second_id : three.second.id.now ≡ codes "cache" = ap (λ (r : Rule). r.id) three.second_is in
+    let third_id : three.third.id.now ≡ codes "trace" = ap (λ (r : Rule). r.id) three.third_is in (
+      three.second,
       record {
-        within = rw two.list (omega arith);
-        is = ap (λ (xs : List Arg). slice_index_or xs 1 two.second) two.list;
+        within = rw three.list (omega arith);
+        is = ap (λ (xs : List Arg). slice_index_or xs 1 three.second) three.list;
         id_is = second_id;
-        parser = ap (λ (r : Rule). r.parser) two.second_is;
-        alone = rw two.list (cache_alone two.first two.second first_id second_id);
+        parser = ap (λ (r : Rule). r.parser) three.second_is;
+        alone = rw three.list (cache_alone three.first three.second three.third first_id second_id third_id);
         own = λ auto. elim auto [ inl h ↦ cc | inr h ↦ cc ];
         named = λ h. cc;
       },

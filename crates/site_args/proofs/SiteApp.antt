@@ -6,7 +6,7 @@ use Rattle.clap.specs.Simple.{on_top}
 use Rattle.clap.specs.declared.builder.command.Command.{Command}
 use Rattle.clap.proofs.OnLiterals.{clap_on_literals}
 use Rattle.clap.proofs.SimpleLemmas.{HasPlainFields, plain_fields, simple_groups}
-use Rattle.site_args.specs.CommandLine.{site_app, number_rule}
+use Rattle.site_args.specs.CommandLine.{site_app, number_rule, flag_rule}
 
 pub simple : is_simple site_app ≡ true
 unfolding clap_on_literals site_app
@@ -20,15 +20,16 @@ simple_and_free = refl
 abbrev pub without_name : App → App
 without_name a = on_top (λ s. record s { no_binary_name = true }) a
 
-pub app_is : (a : App) (r s : Rule) → a ≡ without_name (new_app (codes "site")) → r ≡ number_rule (codes "calls") 100000
-    → s ≡ number_rule (codes "cache") 4096 → with_rule (with_rule a r) s ≡ site_app
+pub app_is : (a : App) (r s t : Rule) → a ≡ without_name (new_app (codes "site")) → r ≡ number_rule (codes "calls") 100000
+    → s ≡ number_rule (codes "cache") 4096 → t ≡ flag_rule (codes "trace") → with_rule (with_rule (with_rule a r) s) t ≡ site_app
 unfolding site_app
-app_is a r s p q t = ap₂ with_rule (ap₂ with_rule p q) t
+app_is a r s t p q u v = ap₂ with_rule (ap₂ with_rule (ap₂ with_rule p q) u) v
 
--- the two options
-pub two_rules : (c : Command) → app_of c ≡ site_app → map rule_of (args_of c) ≡ number_rule (codes "calls") 100000 ∷ number_rule (codes "cache") 4096 ∷ []
+-- the three options
+pub three_rules : (c : Command) → app_of c ≡ site_app
+    → map rule_of (args_of c) ≡ number_rule (codes "calls") 100000 ∷ number_rule (codes "cache") 4096 ∷ flag_rule (codes "trace") ∷ []
 unfolding site_app
-two_rules c is = ap (λ (a : App). a.top.rules) is
+three_rules c is = ap (λ (a : App). a.top.rules) is
 
 -- there are no groups, and no option is in one
 pub plain : (c : Command) → app_of c ≡ site_app → HasPlainFields c

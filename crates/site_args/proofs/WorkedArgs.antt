@@ -1,9 +1,9 @@
 -- Worked command lines, computed.
-use Rattle.std.proofs.Common.{◌≡◌, List, [], ◌∷◌, codes, refl}
+use Rattle.std.proofs.Common.{◌≡◌, List, [], ◌∷◌, codes, refl, true, false}
 use Rattle.clap.proofs.OnLiterals.{clap_on_literals}
 use Rattle.clap.specs.Words.{Text}
 use Rattle.clap.specs.declared.error.kind.ErrorKind.TheVariants as kind
-use Rattle.site_args.specs.CommandLine.{calls_of, cache_of, reasons, site_app}
+use Rattle.site_args.specs.CommandLine.{calls_of, cache_of, trace_of, reasons, site_app}
 
 pub no_words : reasons [] ≡ []
 unfolding clap_on_literals site_app
@@ -75,3 +75,19 @@ stray_word = refl
 pub help : reasons (codes "--help" ∷ []) ≡ kind.DisplayHelp ∷ []
 unfolding clap_on_literals site_app
 help = refl
+
+pub no_trace : trace_of [] ≡ false
+unfolding clap_on_literals site_app
+no_trace = refl
+
+pub traced : reasons (codes "--trace" ∷ []) ≡ []
+unfolding clap_on_literals site_app
+traced = refl
+
+pub trace : trace_of (codes "--trace" ∷ []) ≡ true
+unfolding clap_on_literals site_app
+trace = refl
+
+pub traced_twice : reasons (codes "--trace" ∷ codes "--trace" ∷ []) ≡ kind.ArgumentConflict ∷ []
+unfolding clap_on_literals site_app
+traced_twice = refl

@@ -1,9 +1,9 @@
 -- The program's command line, in clap's own terms.
-use Rattle.std.specs.Prelude.{ℕ, pos, List, Option, None, Some, true, codes}
+use Rattle.std.specs.Prelude.{ℕ, pos, List, Bool, Option, None, Some, true, false, codes, bytes_eq}
 use Rattle.std.specs.Str.Parse.{digits_value, without_leading_plus}
-use Rattle.clap.specs.Words.{App, Kinds, Rule, Text, new_app, new_rule, with_rule, one_of, matches_of, fault_of}
+use Rattle.clap.specs.Words.{App, Kinds, Rule, Text, new_app, new_rule, with_rule, one_of, first_of, matches_of, fault_of}
 use Rattle.clap.specs.Simple.{on_top}
-use Rattle.clap.specs.declared.builder.action.ArgAction.TheVariants.{Set}
+use Rattle.clap.specs.declared.builder.action.ArgAction.TheVariants.{Set, SetTrue}
 use Rattle.clap.specs.declared.builder.value_parser.ValueParser.TheVariants as parser
 
 -- `--NAME N`, with a number from 1 to the most
@@ -15,11 +15,15 @@ number_rule name most = record (new_rule name) {
   parser = Some (parser.Signed (pos 1) (pos most));
 }
 
--- `site [--calls N] [--cache N]`, of the command-line arguments; clap adds `--help`
+-- `--NAME`, which is given or not
+abbrev pub flag_rule : Text → Rule
+flag_rule name = record (new_rule name) { long = Some name; action = Some SetTrue }
+
+-- `site [--calls N] [--cache N] [--trace]`, of the command-line arguments; clap adds `--help`
 unfoldable pub site_app : App
 site_app =
-    with_rule (with_rule (on_top (λ s. record s { no_binary_name = true }) (new_app (codes "site")))
-    (number_rule (codes "calls") 100000)) (number_rule (codes "cache") 4096)
+    with_rule (with_rule (with_rule (on_top (λ s. record s { no_binary_name = true }) (new_app (codes "site")))
+    (number_rule (codes "calls") 100000)) (number_rule (codes "cache") 4096)) (flag_rule (codes "trace"))
 
 -- why clap refuses the arguments, by the first of its steps that does, and nothing if it accepts them
 abbrev pub reasons : List Text → Kinds
@@ -37,3 +41,12 @@ calls_of words = number_or 10000 (one_of (codes "calls") (matches_of site_app wo
 -- how many texts are kept: 64 unless the arguments say another number
 abbrev pub cache_of : List Text → ℕ
 cache_of words = number_or 64 (one_of (codes "cache") (matches_of site_app words))
+
+-- a flag is given if clap has the text `true` for it
+abbrev pub is_given : Option Text → Bool
+is_given None = false
+is_given (Some text) = bytes_eq text (codes "true")
+
+-- whether invocations are told: only if the arguments say so
+abbrev pub trace_of : List Text → Bool
+trace_of words = is_given (first_of (codes "trace") (matches_of site_app words))

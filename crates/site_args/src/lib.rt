@@ -1,5 +1,5 @@
-//! The command-line arguments: how many calls a page has, and how many texts are kept.
-//! `clap` reads them.
+//! The command-line arguments: how many calls a page has, how many texts are kept, and whether
+//! invocations are told. `clap` reads them.
 #![tactic(auto)]
 
 mod answer;

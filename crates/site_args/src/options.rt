@@ -1,7 +1,7 @@
 //! The options, as `clap` knows them.
 ghost use Rattle.std.specs.Prelude.{◌≡◌, IfOk, codes, false};
 ghost use Rattle.clap.specs.Words.{app_of, rule_of};
-ghost use Rattle.site_args.specs.CommandLine.{number_rule, site_app};
+ghost use Rattle.site_args.specs.CommandLine.{number_rule, flag_rule, site_app};
 
 use clap::{Arg, ArgAction, Command, value_parser};
 use std::alloc::{AllocError, Global};
@@ -32,6 +32,17 @@ fn cache_option<'a>(alloc: Global) -> Arg<'a>
         .value_parser(value_parser!(u32).range(1..=4_096))
 }
 
+/// Makes the flag `--trace`.
+fn trace_flag<'a>(alloc: Global) -> Arg<'a>
+    ensures rule { rule_of result ≡ flag_rule (codes "trace") }
+    ensures local { result.global ≡ false }
+{
+    Arg::new(alloc, "trace")
+        .long("trace")
+        .help("Writes a line of JSON on standard error for each callback that is called")
+        .action(ArgAction::SetTrue)
+}
+
 /// Makes the whole command line, for arguments that begin after the program's name.
 pub(crate) fn site_command<'a>(alloc: Global) -> Result<Command<'a>, AllocError>
     ensures { IfOk result (λ command. app_of command ≡ site_app) }
@@ -42,5 +53,6 @@ pub(crate) fn site_command<'a>(alloc: Global) -> Result<Command<'a>, AllocError>
         )
         .no_binary_name(true)
         .arg(calls_option(alloc))?
-        .arg(cache_option(alloc))
+        .arg(cache_option(alloc))?
+        .arg(trace_flag(alloc))
 }

@@ -1,6 +1,6 @@
 //! Worked command lines that are theorems: each clause below is computed from clap's definitions.
-ghost use Rattle.std.specs.Prelude.{◌≡◌, ◌∷◌, [], codes};
-ghost use Rattle.site_args.specs.CommandLine.{calls_of, cache_of, reasons};
+ghost use Rattle.std.specs.Prelude.{◌≡◌, ◌∷◌, [], codes, true, false};
+ghost use Rattle.site_args.specs.CommandLine.{calls_of, cache_of, trace_of, reasons};
 
 use clap::error::ErrorKind;
 
@@ -9,6 +9,7 @@ pub fn worked_args()
     ensures no_words { reasons [] ≡ [] }
     ensures default_calls { calls_of [] ≡ 10000 }
     ensures default_cache { cache_of [] ≡ 64 }
+    ensures no_trace { trace_of [] ≡ false }
 
     ensures both { reasons
         (codes "--calls" ∷ codes "100000" ∷ codes "--cache" ∷ codes "1" ∷ []) ≡ [] }
@@ -16,6 +17,8 @@ pub fn worked_args()
         (codes "--calls" ∷ codes "100000" ∷ codes "--cache" ∷ codes "1" ∷ []) ≡ 100000 }
     ensures both_cache { cache_of
         (codes "--calls" ∷ codes "100000" ∷ codes "--cache" ∷ codes "1" ∷ []) ≡ 1 }
+    ensures traced { reasons (codes "--trace" ∷ []) ≡ [] }
+    ensures trace { trace_of (codes "--trace" ∷ []) ≡ true }
     ensures one_word { cache_of (codes "--cache=4096" ∷ []) ≡ 4096 }
 
     // What clap refuses, and why.
@@ -31,6 +34,8 @@ pub fn worked_args()
         ≡ ErrorKind.ValueValidation ∷ [] }
     ensures twice { reasons
         (codes "--calls" ∷ codes "5" ∷ codes "--calls" ∷ codes "5" ∷ [])
+        ≡ ErrorKind.ArgumentConflict ∷ [] }
+    ensures traced_twice { reasons (codes "--trace" ∷ codes "--trace" ∷ [])
         ≡ ErrorKind.ArgumentConflict ∷ [] }
     ensures no_value { reasons (codes "--calls" ∷ []) ≡ ErrorKind.InvalidValue ∷ [] }
     ensures no_option { reasons (codes "--pages" ∷ []) ≡ ErrorKind.UnknownArgument ∷ [] }

@@ -1,7 +1,7 @@
 -- What is kept of the rows is still theirs after a command.
-use Rattle.std.proofs.Common.{◌≡◌, ◌∙◌, ℕ, List, [], ◌∷◌, ◌++◌, Option, None, Result, Ok, Err, true, false, cond, sym, ap, subst}
+use Rattle.std.proofs.Common.{◌≡◌, ◌∙◌, ℕ, List, [], ◌∷◌, ◌++◌, Option, None, Result, Ok, Err, true, false, cond, inl, inr, sym, ap, subst}
 use Rattle.std.specs.FinMap.{insert}
-use Rattle.std.specs.Prelude.{Bool, IfOk, OnOk, OnErr}
+use Rattle.std.specs.Prelude.{Bool, IfOk, OnErr, ◌⊎◌}
 use Rattle.std.proofs.lemmas.List.Elements.{All-nil, All-push, All-weaker}
 use Rattle.callback_store.specs.Shape.{Shape}
 use Rattle.hook_machine.specs.World.{Text}
@@ -17,7 +17,7 @@ use Rattle.site_edits.specs.Edits.{put, edit, delete, set_option, set_active}
 use Rattle.site_edits.specs.Templates.{set_template}
 use Rattle.site_edits.proofs.After.{After, put-after, edit-after, delete-after, option-after, active-after, template-after}
 use Rattle.site_program.specs.Requests.{Texts, found_by}
-use Rattle.site_program.specs.Kept.{AreFound, KeepsUp, decides_what_is_found}
+use Rattle.site_program.specs.Kept.{AreFound, KeepsUp, IsKeptFrom, decides_what_is_found}
 use Rattle.site_program.proofs.OtherOptions.{finds_the_same}
 
 -- what holds of the rows before a command, and of those that it makes, holds of the rows that it leaves
@@ -32,21 +32,23 @@ module _ (rows : Rows) (options templates : Option Texts) (active : Option (List
   none : (r : Rows) → AreFound r []
   none r = All-nil (λ t. t.1 ≡ found_by r t.0)
 
-  -- what one more path finds is kept, or nothing more if memory ran out
-  pub found-up : {R E : Type 0} (result : Result R E) (new : List (Text × Found)) (path : Text) (found : Found) → found ≡ found_by rows path
-      → OnOk result (new ≡ kept ++ (path, found) ∷ []) → OnErr result (new ≡ kept) → KeepsUp rows options templates active new
-  found-up (Ok x) new path found is ok err = record {
+  -- what was kept is what is found, and so is one more find
+  pub found-up : (new : List (Text × Found)) (path : Text) (found : Found) → found ≡ found_by rows path
+      → IsKeptFrom kept (path, found) new → KeepsUp rows options templates active new
+  found-up new path found is from = record {
     options = up.options;
     templates = up.templates;
     active = up.active;
-    found = subst (AreFound rows) (sym ok) (All-push (λ t. t.1 ≡ found_by rows t.0) kept (path, found) up.found is);
+    found = more from.0 (room from.0 from.1) from.2;
   }
-  found-up (Err e) new path found is ok err = record {
-    options = up.options;
-    templates = up.templates;
-    active = up.active;
-    found = subst (AreFound rows) (sym err) up.found;
-  }
+    where
+      room : (r : List (Text × Found)) → (r ≡ kept) ⊎ (r ≡ []) → AreFound rows r
+      room r (inl same) = subst (AreFound rows) (sym same) up.found
+      room r (inr empty) = subst (AreFound rows) (sym empty) (none rows)
+
+      more : (r : List (Text × Found)) → AreFound rows r → (new ≡ r) ⊎ (new ≡ r ++ (path, found) ∷ []) → AreFound rows new
+      more r all (inl same) = subst (AreFound rows) (sym same) all
+      more r all (inr one) = subst (AreFound rows) (sym one) (All-push (λ t. t.1 ≡ found_by rows t.0) r (path, found) all is)
 
   -- ---- if posts change, what paths found is forgotten
 

@@ -1,5 +1,6 @@
 -- What a site keeps of its rows from one request to the next: definitions for private clauses.
-use Rattle.std.specs.Prelude.{◌≡◌, ℕ, ◌+◌, Bool, ◌||◌, List, length, codes, bytes_eq, Option, IfSome, All}
+use Rattle.std.specs.Prelude.{◌≡◌, ◌≢◌, ℕ, ◌+◌, ◌≤◌, ◌⊎◌, Bool, ◌||◌, List, [], ◌∷◌, ◌++◌, length, codes, bytes_eq, Option, IfSome, All}
+use Rattle.std.specs.List.{sum_by}
 use Rattle.hook_machine.specs.World.{Text}
 use Rattle.post_tables.specs.Rows.{Rows}
 use Rattle.site_records.specs.declared.found.Found.{Found}
@@ -22,6 +23,19 @@ decides_what_is_found name = bytes_eq name (codes "posts_per_page") || bytes_eq 
 -- how many bytes the title and the content of a post have
 abbrev pub size_of : Post → ℕ
 size_of p = length p.title + length p.content
+
+-- finds that are kept: there are posts, whose titles and contents have at most 1 MiB
+abbrev pub IsKeepable : List Post → Type 0
+IsKeepable posts = (sum_by size_of posts ≤ 1048576) × (posts ≢ [])
+
+-- at most 64 paths are kept, each with what can be kept
+pub record IsKept (finds : List (Text × Found)) : Type 0 where
+  pub few : length finds ≤ 64
+  pub small : All (λ t. IsKeepable t.1.posts) finds
+
+-- what is kept after one more find: all that was kept, or nothing of it, and that find or not
+abbrev pub IsKeptFrom : List (Text × Found) → Text × Found → List (Text × Found) → Type 0
+IsKeptFrom old find new = (room : List (Text × Found)) × ((room ≡ old) ⊎ (room ≡ [])) × ((new ≡ room) ⊎ (new ≡ room ++ find ∷ []))
 
 -- what is kept is what a request would find
 pub record KeepsUp (rows : Rows) (kept_options kept_templates : Option Texts)

@@ -9,9 +9,9 @@ ghost use Rattle.site_edits.specs.Imports.{import};
 ghost use Rattle.site_edits.specs.Carried.{CarriesOut};
 ghost use Rattle.site_program.specs.Kept.{decides_what_is_found};
 
+use crate::kept_finds::KeptFinds;
 use crate::stored::Stored;
 use callback_store::{Plugins, Stated};
-use hook_changes::Listed;
 use serde_json::Value;
 use site_edits::{StoreFault, delete, edit, import, put, set_active, set_option, set_template};
 use site_records::{PostKind, PostStatus};
@@ -31,7 +31,7 @@ impl Stored {
     ) -> Result<SiteReply, StoreFault>
         ensures { CarriesOut self.old (put self.old kind status title.now content.now date.now) result self.new }
     {
-        self.found = Listed::empty(alloc);
+        self.found = KeptFinds::none(alloc);
         put(&mut self.tables, kind, status, title, content, date)
     }
 
@@ -48,7 +48,7 @@ impl Stored {
         ensures { CarriesOut self.old (edit self.old id (edit_by status title.entry content.entry date.entry))
             result self.new }
     {
-        self.found = Listed::empty(alloc);
+        self.found = KeptFinds::none(alloc);
         edit(&mut self.tables, id, status, title, content, date)
     }
 
@@ -56,7 +56,7 @@ impl Stored {
     pub(crate) fn delete(&mut self, alloc: Global, id: u32) -> Result<SiteReply, StoreFault>
         ensures { CarriesOut self.old (delete self.old id) result self.new }
     {
-        self.found = Listed::empty(alloc);
+        self.found = KeptFinds::none(alloc);
         delete(&mut self.tables, id)
     }
 
@@ -73,7 +73,7 @@ impl Stored {
         if !decides_what_is_found(name) {
             return set_option(&mut self.tables, name, value);
         }
-        self.found = Listed::empty(alloc);
+        self.found = KeptFinds::none(alloc);
         set_option(&mut self.tables, name, value)
     }
 
@@ -124,7 +124,7 @@ impl Stored {
         *options = None;
         *templates = None;
         *active = None;
-        *found = Listed::empty(alloc);
+        *found = KeptFinds::none(alloc);
         import(alloc, plugins, tables, site)
     }
 }

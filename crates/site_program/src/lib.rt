@@ -6,6 +6,7 @@
 
 mod changes;
 mod history;
+mod kept_finds;
 mod laws;
 mod page;
 mod serve;
@@ -16,6 +17,7 @@ mod site;
 mod state;
 mod stored;
 mod templates;
+mod watched;
 
 pub use ends::{EndFault, Reading, Sink, Source, Writing};
 pub use history::{
@@ -26,6 +28,7 @@ pub use laws::{
     inactive_plugins_have_no_say, inactive_plugins_have_no_say_ever,
     inactive_plugins_have_no_say_in_replies, open_pages_stay, site_pages_keep_to_their_bounds,
 };
+pub use page_log::{PageEnd, PageLog, PageName, Told, Unwatched, Watch};
 pub use site::Site;
 pub use site_edits::StoreFault;
 pub use site_replies::{Refusal, ServeFault, SiteReply};

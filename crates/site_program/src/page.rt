@@ -19,6 +19,7 @@ use callback_store::{Plugins, Stated};
 use content_cache::PieceCache;
 use hook_changes::Text;
 use hook_machine::{Run, RunFault};
+use page_log::{PageName, Watch};
 use site_edits::StoreFault;
 use site_replies::{Refusal, SiteReply};
 use std::alloc::{AllocError, Global};
@@ -33,32 +34,41 @@ impl<'p, S: Stated> Setup<'p, S> {
     ghost use Rattle.site_program.specs.Site.{engine_of, calls_of, opened_as, seen_by};
     ghost use Rattle.site_program.specs.Step.{got, begun, turned};
     ghost use Rattle.site_program.specs.Carried.{CarriesOn};
+    ghost use Rattle.template_parts.specs.Open.{GoesOn};
 
     /// Replies to a request with the page of a path, over the site as it now is.
     #[tactic(auto, unfolding(crate::specs::Step::got))]
-    pub(crate) fn get(
+    pub(crate) fn get<V: Watch>(
         &self,
         stored: &mut Stored,
         path: &str,
         cache: &mut PieceCache,
+        watch: &mut V,
     ) -> Result<SiteReply, StoreFault>
-        ensures { CarriesOut stored.old (got (engine_of S.says S.number self.now) (calls_of self.now) stored.old
+        ensures carried { CarriesOut stored.old (got (engine_of S.says S.number self.now) (calls_of self.now) stored.old
             path.now) result stored.new }
+        ensures cache { cache.new ≡ cache.old }
     {
         if path.len() > MAX_PATH {
             return Ok(SiteReply::Refused(Refusal::TooLarge));
         }
         let page = self.page_at(stored, path)?;
-        self.finish(page, cache)
+        self.finish(page, path, cache, watch)
     }
 
     /// Opens the page of a path, over the site as it now is, and runs nothing of it.
     #[tactic(auto, unfolding(crate::specs::Step::begun))]
-    pub(crate) fn begin(&self, state: &mut SiteState, path: &str) -> Result<SiteReply, StoreFault>
-        ensures { CarriesOn (Some (begin path.now)) (seen_by S.says S.number self.now state.old)
+    pub(crate) fn begin<V: Watch>(
+        &self,
+        state: &mut SiteState,
+        path: &str,
+        watch: &mut V,
+    ) -> Result<SiteReply, StoreFault>
+        ensures carried { CarriesOn (Some (begin path.now)) (seen_by S.says S.number self.now state.old)
             (begun (engine_of S.says S.number self.now) (calls_of self.now)
             (seen_by S.says S.number self.now state.old) path.now)
             result (seen_by S.says S.number self.now state.new) }
+        ensures cache { state.new.cache ≡ state.old.cache }
     {
         if path.len() > MAX_PATH {
             return Ok(SiteReply::Refused(Refusal::TooLarge));
@@ -68,27 +78,30 @@ impl<'p, S: Stated> Setup<'p, S> {
         };
         let page = self.page_at(&mut state.stored, path)?;
         state.pages.put(place, page);
+        watch.opened(place as u32 + 1, path);
         Ok(SiteReply::OkId(place as u32 + 1))
     }
 
     /// Gives the page of a number up to `count` turns. A page that is printed or refused is closed, and so is one at
     /// which memory runs out.
     #[tactic(auto, unfolding(crate::specs::Step::turned))]
-    pub(crate) fn turns(
+    pub(crate) fn turns<V: Watch>(
         &self,
         state: &mut SiteState,
         number: u32,
         count: u32,
+        watch: &mut V,
     ) -> Result<SiteReply, StoreFault>
-        ensures { CarriesOn (Some (turns number count)) (seen_by S.says S.number self.now state.old)
+        ensures carried { CarriesOn (Some (turns number count)) (seen_by S.says S.number self.now state.old)
             (turned (seen_by S.says S.number self.now state.old) number count)
             result (seen_by S.says S.number self.now state.new) }
+        ensures cache { state.new.cache ≡ state.old.cache }
     {
         let place = number.saturating_sub(1) as usize;
         let Some(page) = state.pages.take(place) else {
             return Ok(SiteReply::Refused(Refusal::NoSuchPage));
         };
-        match page.turns(self.plugins, count, &mut state.cache) {
+        match self.give_turns(page, number, count, &mut state.cache, watch) {
             Ok(Turned::Open(page)) => {
                 state.pages.put(place, page);
                 Ok(SiteReply::Ok)
@@ -131,21 +144,63 @@ impl<'p, S: Stated> Setup<'p, S> {
         Ok(OpenPage::begin(self.alloc, found, settings, run))
     }
 
-    /// Prints a page to its end, and replies with it.
-    fn finish(&self, page: OpenPage, cache: &mut PieceCache) -> Result<SiteReply, StoreFault>
+    /// Prints a page to its end, and replies with it. A page that is watched is printed turn by turn.
+    fn finish<V: Watch>(
+        &self,
+        page: OpenPage,
+        path: &str,
+        cache: &mut PieceCache,
+        watch: &mut V,
+    ) -> Result<SiteReply, StoreFault>
         ensures ok { IfOk result (λ reply. reply_data reply
             ≡ (opened_as (engine_of S.says S.number self.now) page).answer) }
         ensures memory { IfErr result (λ fault. fault ≡ StoreFault.OutOfMemory) }
+        ensures cache { cache.new ≡ cache.old }
+    {
+        if watch.is_on() {
+            return self.finish_by_turns(page, PageName::Path(path), cache, watch);
+        }
+        self.finish_at_once(page, cache)
+    }
+
+    /// Prints a page to its end without stopping, and replies with it.
+    pub(crate) fn finish_at_once(
+        &self,
+        page: OpenPage,
+        cache: &mut PieceCache,
+    ) -> Result<SiteReply, StoreFault>
+        ensures ok { IfOk result (λ reply. reply_data reply
+            ≡ (opened_as (engine_of S.says S.number self.now) page).answer) }
+        ensures memory { IfErr result (λ fault. fault ≡ StoreFault.OutOfMemory) }
+        ensures cache { cache.new ≡ cache.old }
     {
         match page.finish(self.plugins, cache) {
             Ok((status, body)) => Ok(SiteReply::Page { status, body }),
             Err(fault) => refused_by(fault),
         }
     }
+
+    /// Makes up to `count` turns of the page of a number. If it is watched, they are made one by one.
+    fn give_turns<V: Watch>(
+        &self,
+        page: OpenPage,
+        number: u32,
+        count: u32,
+        cache: &mut PieceCache,
+        watch: &mut V,
+    ) -> Result<Turned, RunFault>
+        ensures turns { GoesOn (engine_of S.says S.number self.now) count page result }
+        ensures cache { cache.new ≡ cache.old }
+    {
+        if watch.is_on() {
+            return self.turns_watched(page, PageName::Open(number), count, cache, watch);
+        }
+        page.turns(self.plugins, count, cache)
+    }
 }
 
 /// Replies with the refusal of a page, unless memory ran out.
-fn refused_by(fault: RunFault) -> Result<SiteReply, StoreFault>
+pub(crate) fn refused_by(fault: RunFault) -> Result<SiteReply, StoreFault>
     ensures ok { IfOk result (λ reply. (reply_data reply ≡ refusal_of fault) × (fault ≢ RunFault.OutOfMemory)) }
     ensures memory { IfErr result (λ why. why ≡ StoreFault.OutOfMemory) }
 {

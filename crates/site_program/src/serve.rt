@@ -7,6 +7,7 @@ use crate::state::SiteState;
 use callback_store::Stated;
 use ends::{Sink, Source};
 use memchr::memchr;
+use page_log::{Unwatched, Watch};
 use site_replies::ServeFault;
 
 // The most lines that are served.
@@ -20,7 +21,7 @@ const CHUNK: usize = 65_536;
 
 impl<'p, S: Stated> Site<'p, S> {
     ghost use Rattle.std.specs.Prelude.{ℕ, List, Some, false, IfSome};
-    ghost use Rattle.site_program.specs.Site.{setup_of, rows_of, state_of};
+    ghost use Rattle.site_program.specs.Site.{setup_of, rows_of, state_of, cache_of};
     ghost use Rattle.site_program.specs.Step.{steps_of};
     ghost use Rattle.site_program.specs.Lines.{lines_of};
     ghost use Rattle.site_program.specs.Serving.{is_read, is_write, IsReplies, ServesAll, Stops};
@@ -60,6 +61,46 @@ impl<'p, S: Stated> Site<'p, S> {
         // No line changes the limit on steps.
         ensures limit { (rows_of self.new).step_limit ≡ (rows_of self.old).step_limit }
         ensures setup { setup_of self.new ≡ setup_of self.old }
+        ensures cache { cache_of self.new ≡ cache_of self.old }
+    {
+        self.serve_watched(reader, writer, &mut Unwatched)
+    }
+
+    /// Serves as [`Site::serve`] does, and tells somebody of each invocation of its pages.
+    ///
+    /// Who is told changes no reply: the clauses are the same.
+    pub fn serve_watched<R: Source, W: Sink, V: Watch>(
+        &mut self,
+        reader: &mut R,
+        writer: &mut W,
+        watch: &mut V,
+    ) -> Result<(), ServeFault>
+        requires reader { R.has_failed reader.old ≡ false }
+        requires writer { W.has_failed writer.old ≡ false }
+
+        // An input that is read to its end is replied to line by line, and nothing else is written.
+        ensures replied { OnOk result (IfSome (R.remaining reader.old) (λ input.
+            IfSome (W.contents writer.old) (λ before. (out : List ℕ)
+            × IsReplies (steps_of S.says S.number (setup_of self.old))
+            (state_of S.says S.number self.old) (lines_of input) out (state_of S.says S.number self.new)
+            × (W.contents writer.new ≡ Some (before ++ out))))) }
+        ensures ok { OnOk result (ServesAll (steps_of S.says S.number (setup_of self.old))
+            (state_of S.says S.number self.old) (R.remaining reader.old) (R.remaining reader.new)
+            (W.contents writer.old) (W.contents writer.new) (state_of S.says S.number self.new)) }
+
+        // What holds after each fault.
+        ensures stopped { IfErr result (Stops (steps_of S.says S.number (setup_of self.old))
+            (state_of S.says S.number self.old) (R.remaining reader.old) (R.remaining reader.new)
+            (W.contents writer.old) (W.contents writer.new) (state_of S.says S.number self.new)) }
+
+        // Two of them come only if an end failed.
+        ensures read { R.has_failed reader.new ≡ is_read result }
+        ensures write { W.has_failed writer.new ≡ is_write result }
+
+        // No line changes the limit on steps.
+        ensures limit { (rows_of self.new).step_limit ≡ (rows_of self.old).step_limit }
+        ensures setup { setup_of self.new ≡ setup_of self.old }
+        ensures cache { cache_of self.new ≡ cache_of self.old }
     {
         let Site { setup, state } = self;
         let mut chunk = [0u8; CHUNK];
@@ -73,10 +114,10 @@ impl<'p, S: Stated> Site<'p, S> {
             if count == 0 {
                 break;
             }
-            setup.take_chunk(state, &mut held, &mut left, &chunk[..count], writer)?;
+            setup.take_chunk(state, &mut held, &mut left, &chunk[..count], writer, watch)?;
         }
         if !held.is_empty() {
-            setup.reply_to(state, &held, writer)?;
+            setup.reply_to(state, &held, writer, watch)?;
         }
         Ok(())
     }
@@ -94,13 +135,14 @@ impl<'p, S: Stated> Setup<'p, S> {
 
     // Carries out the lines that end in the chunk, the first of which begins with the held bytes, and holds what
     // follows them.
-    fn take_chunk<W: Sink>(
+    fn take_chunk<W: Sink, V: Watch>(
         &self,
         state: &mut SiteState,
         held: &mut Vec<u8>,
         left: &mut u32,
         chunk: &[u8],
         writer: &mut W,
+        watch: &mut V,
     ) -> Result<(), ServeFault>
         requires whole { W.has_failed writer.old ≡ false }
         requires line { IsLine held.old.items }
@@ -116,13 +158,14 @@ impl<'p, S: Stated> Setup<'p, S> {
             (W.contents writer.old) (W.contents writer.new) (seen_by S.says S.number self.now state.new)) }
         ensures failed { W.has_failed writer.new ≡ is_write result }
         ensures limit { state.new.stored.step_limit ≡ state.old.stored.step_limit }
+        ensures cache { state.new.cache ≡ state.old.cache }
     {
         let mut rest = chunk;
         while let Some(end) = memchr(b'\n', rest) {
             if *left == 0 || end > MAX_LINE - held.len() {
                 return Err(ServeFault::TooMuchInput);
             }
-            self.finish_line(state, held, &rest[..end], writer)?;
+            self.finish_line(state, held, &rest[..end], writer, watch)?;
             *left -= 1;
             rest = &rest[end + 1..];
         }
@@ -136,12 +179,13 @@ impl<'p, S: Stated> Setup<'p, S> {
     }
 
     // Carries out the line that ends with this part, and then holds nothing.
-    fn finish_line<W: Sink>(
+    fn finish_line<W: Sink, V: Watch>(
         &self,
         state: &mut SiteState,
         held: &mut Vec<u8>,
         part: &[u8],
         writer: &mut W,
+        watch: &mut V,
     ) -> Result<(), ServeFault>
         requires whole { W.has_failed writer.old ≡ false }
         requires short { length (held.old.items ++ part.now) ≤ 1048576 }
@@ -160,22 +204,24 @@ impl<'p, S: Stated> Setup<'p, S> {
         ensures only { IfErr result (λ e. (e ≡ ServeFault.Write) ⊎ (e ≡ ServeFault.OutOfMemory)) }
         ensures failed { W.has_failed writer.new ≡ is_write result }
         ensures limit { state.new.stored.step_limit ≡ state.old.stored.step_limit }
+        ensures cache { state.new.cache ≡ state.old.cache }
     {
         if held.is_empty() {
-            return self.reply_to(state, part, writer);
+            return self.reply_to(state, part, writer, watch);
         }
         hold(held, part)?;
-        self.reply_to(state, held, writer)?;
+        self.reply_to(state, held, writer, watch)?;
         held.clear();
         Ok(())
     }
 
     // Carries out one line, and writes its reply.
-    fn reply_to<W: Sink>(
+    fn reply_to<W: Sink, V: Watch>(
         &self,
         state: &mut SiteState,
         line: &[u8],
         writer: &mut W,
+        watch: &mut V,
     ) -> Result<(), ServeFault>
         requires { W.has_failed writer.old ≡ false }
         ensures ok { OnOk result ((reply : ReplyData)
@@ -188,8 +234,9 @@ impl<'p, S: Stated> Setup<'p, S> {
         ensures fault { IfErr result (λ e. e ≡ ServeFault.Write) }
         ensures failed { W.has_failed writer.new ≡ is_err result }
         ensures limit { state.new.stored.step_limit ≡ state.old.stored.step_limit }
+        ensures cache { state.new.cache ≡ state.old.cache }
     {
-        let reply = self.command(state, line);
+        let reply = self.command(state, line, watch);
         reply.write_to(writer)
     }
 }

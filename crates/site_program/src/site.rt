@@ -8,6 +8,7 @@ use crate::state::SiteState;
 use crate::stored::Stored;
 use callback_store::{Plugins, Stated};
 use content_cache::PieceCache;
+use page_log::{Unwatched, Watch};
 use post_tables::Tables;
 use site_commands::{Command, read_command, read_line};
 use site_edits::StoreFault;
@@ -30,7 +31,7 @@ impl<'p, S: Stated> Site<'p, S> {
     ghost use Rattle.site_replies.specs.declared.reply.Refusal.{Refusal};
     ghost use Rattle.site_replies.specs.Reply.{refused};
     ghost use Rattle.site_program.specs.Requests.{Opened};
-    ghost use Rattle.site_program.specs.Site.{engine_of, calls_of, setup_of, rows_of, state_of};
+    ghost use Rattle.site_program.specs.Site.{engine_of, calls_of, setup_of, rows_of, state_of, cache_of};
     ghost use Rattle.site_program.specs.State.{empty_site, page_in};
     ghost use Rattle.site_program.specs.Step.{IsReply, steps_of, place_turned};
 
@@ -48,6 +49,7 @@ impl<'p, S: Stated> Site<'p, S> {
         ensures engine { IfOk result (λ site. engine_of S.says S.number (setup_of site)
             ≡ record { says = S.says; plugins = shapes_of S.number plugins.entry.now }) }
         ensures calls { IfOk result (λ site. calls_of (setup_of site) ≡ calls) }
+        ensures cache { IfOk result (λ site. cache_of site ≡ cache) }
     {
         let pages = OpenPages::new(alloc)?;
         let cache = PieceCache::new(alloc, cache as usize)?;
@@ -71,6 +73,7 @@ impl<'p, S: Stated> Site<'p, S> {
         ensures rows { state_of S.says S.number self.new ≡ record (state_of S.says S.number self.old)
             { rows = record (rows_of self.old) { step_limit = limit } } }
         ensures setup { setup_of self.new ≡ setup_of self.old }
+        ensures cache { cache_of self.new ≡ cache_of self.old }
     {
         self.state.stored.limit_steps(limit);
     }
@@ -92,8 +95,9 @@ impl<'p, S: Stated> Site<'p, S> {
             → page_in place (state_of S.says S.number self.new).pages ≡ Some page }
         ensures limit { (rows_of self.new).step_limit ≡ (rows_of self.old).step_limit }
         ensures setup { setup_of self.new ≡ setup_of self.old }
+        ensures cache { cache_of self.new ≡ cache_of self.old }
     {
-        self.setup.command(&mut self.state, line)
+        self.setup.command(&mut self.state, line, &mut Unwatched)
     }
 }
 
@@ -108,13 +112,19 @@ impl<'p, S: Stated> Setup<'p, S> {
 
     /// Carries out one line over a site's state.
     #[tactic(auto, using(crate::proofs::Carrying::left_rows, crate::proofs::Carrying::left_limit))]
-    pub(crate) fn command(&self, state: &mut SiteState, line: &[u8]) -> SiteReply
+    pub(crate) fn command<V: Watch>(
+        &self,
+        state: &mut SiteState,
+        line: &[u8],
+        watch: &mut V,
+    ) -> SiteReply
         ensures replies { IsReply (steps_of S.says S.number self.now) (seen_by S.says S.number self.now state.old)
             line.now (reply_data result) (seen_by S.says S.number self.now state.new) }
         ensures refused { (r : Refusal) → reply_data result ≡ refused r → state.new.stored ≡ state.old.stored }
         ensures limit { state.new.stored.step_limit ≡ state.old.stored.step_limit }
+        ensures cache { state.new.cache ≡ state.old.cache }
     {
-        match self.try_command(state, line) {
+        match self.try_command(state, line, watch) {
             Ok(reply) => reply,
             Err(StoreFault::OutOfMemory) => SiteReply::Refused(Refusal::OutOfMemory),
             Err(StoreFault::Store) => SiteReply::Refused(Refusal::Store),
@@ -123,31 +133,39 @@ impl<'p, S: Stated> Setup<'p, S> {
 
     /// Carries out one line, unless an allocation fails or the database refuses.
     #[tactic(auto, unfolding(crate::specs::Step::step))]
-    fn try_command(&self, state: &mut SiteState, line: &[u8]) -> Result<SiteReply, StoreFault>
-        ensures { CarriesOn (line_command line.now) (seen_by S.says S.number self.now state.old)
+    fn try_command<V: Watch>(
+        &self,
+        state: &mut SiteState,
+        line: &[u8],
+        watch: &mut V,
+    ) -> Result<SiteReply, StoreFault>
+        ensures carried { CarriesOn (line_command line.now) (seen_by S.says S.number self.now state.old)
             (steps_of S.says S.number self.now (seen_by S.says S.number self.now state.old) line.now)
             result (seen_by S.says S.number self.now state.new) }
+        ensures cache { state.new.cache ≡ state.old.cache }
     {
         let Some(tree) = read_line(self.alloc, line)? else {
             return Ok(SiteReply::Refused(Refusal::BadCommand));
         };
         match read_command(&tree) {
-            Some(command) => self.carry_out(state, command),
+            Some(command) => self.carry_out(state, command, watch),
             None => Ok(SiteReply::Refused(Refusal::BadCommand)),
         }
     }
 
     /// Carries out a command.
     #[tactic(auto, using(crate::proofs::Carrying::lifted))]
-    fn carry_out(
+    fn carry_out<V: Watch>(
         &self,
         state: &mut SiteState,
         command: Command<'_>,
+        watch: &mut V,
     ) -> Result<SiteReply, StoreFault>
-        ensures { CarriesOn (Some (asked_by command.entry)) (seen_by S.says S.number self.now state.old)
+        ensures carried { CarriesOn (Some (asked_by command.entry)) (seen_by S.says S.number self.now state.old)
             (carried_out (engine_of S.says S.number self.now) (calls_of self.now)
             (seen_by S.says S.number self.now state.old) (Some (asked_by command.entry)))
             result (seen_by S.says S.number self.now state.new) }
+        ensures cache { state.new.cache ≡ state.old.cache }
     {
         let stored = &mut state.stored;
         match command {
@@ -171,9 +189,9 @@ impl<'p, S: Stated> Setup<'p, S> {
             Command::Deactivate { plugin } => stored.set_active(self.plugins, plugin, false),
             Command::Template { name, body } => stored.set_template(self.alloc, name, body),
             Command::Import { site } => stored.import(self.alloc, self.plugins, site),
-            Command::Get { path } => self.get(stored, path, &mut state.cache),
-            Command::Begin { path } => self.begin(state, path),
-            Command::Turns { page, count } => self.turns(state, page, count),
+            Command::Get { path } => self.get(stored, path, &mut state.cache, watch),
+            Command::Begin { path } => self.begin(state, path, watch),
+            Command::Turns { page, count } => self.turns(state, page, count, watch),
         }
     }
 }

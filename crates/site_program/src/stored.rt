@@ -1,28 +1,20 @@
 //! What a site has stored, with what its pages read of it kept from one request to the next.
-ghost use Rattle.std.specs.Prelude.{◌≡◌, ◌≤◌, IfOk, IfErr, IsTrue, find, option_map, bytes_eq};
-ghost use Rattle.std.specs.List.{sum_by};
+ghost use Rattle.std.specs.Prelude.{◌≡◌, IfOk, IfErr};
 ghost use Rattle.permalink_query.specs.Paths.{query_of};
 ghost use Rattle.permalink_query.specs.Found.{found};
 ghost use Rattle.site_edits.specs.Faults.{IsReadFault};
 ghost use Rattle.site_program.specs.Requests.{options_of, templates_of, active_of, found_by};
-ghost use Rattle.site_program.specs.Kept.{size_of};
 
+use crate::kept_finds::KeptFinds;
 use crate::shared::SharedList;
 use crate::templates::Templates;
-use hook_changes::{Listed, Text};
+use hook_changes::Text;
 use permalink_query::{FindFault, Found, find, read};
 use post_tables::Tables;
 use site_edits::StoreFault;
-use site_records::Post;
-use std::alloc::{AllocError, Global};
+use std::alloc::Global;
 use std::marker::Model;
 use template_parts::SharedFound;
-
-/// The maximum number of paths that are kept with what they found.
-const MOST_PATHS: usize = 64;
-
-/// The maximum number of bytes of titles and contents that are kept for a path, so that all paths keep at most 64 MiB.
-const MOST_BYTES: usize = 1_048_576;
 
 /// The tables of a site, and what was read from them since it last changed: the options, the templates, the active
 /// names, and what paths found.
@@ -34,8 +26,7 @@ pub struct Stored {
     pub(crate) options: Option<SharedList<(Text, Text)>>,
     pub(crate) templates: Option<Templates>,
     pub(crate) active: Option<SharedList<Text>>,
-    /// Paths, each with what it finds.
-    pub(crate) found: Listed<(Text, SharedFound)>,
+    pub(crate) found: KeptFinds,
 }
 
 impl Model for Stored {
@@ -61,7 +52,7 @@ impl Stored {
             options: None,
             templates: None,
             active: None,
-            found: Listed::empty(alloc),
+            found: KeptFinds::none(alloc),
         }
     }
 
@@ -133,68 +124,15 @@ impl Stored {
         ensures same { self.new ≡ self.old }
         ensures stopped { IfErr result (IsReadFault self.old.step_limit) }
     {
-        if let Some(found) = found_at(self.found.as_slice(), path) {
+        if let Some(found) = self.found.at(path) {
             return Ok(found.share()?);
         }
         let found = found_by(alloc, &mut self.tables, path, options)?;
         let found = SharedFound::new(alloc, found)?;
         // If memory runs out here, the page is printed all the same, and the path is read again next time.
-        let _ = self.keep_found(alloc, path, &found);
+        let _ = self.found.keep(alloc, path, &found);
         Ok(found)
     }
-
-    /// Keeps what a path found, unless it is large.
-    fn keep_found(
-        &mut self,
-        alloc: Global,
-        path: &str,
-        found: &SharedFound,
-    ) -> Result<(), AllocError>
-        requires { found.now ≡ found_by self.old path.now }
-        ensures { self.new ≡ self.old }
-    {
-        if !is_small(found.posts()) {
-            return Ok(());
-        }
-        self.make_room(alloc);
-        let path = Text::copied(alloc, path)?;
-        self.found.push((path, found.share()?))?;
-        Ok(())
-    }
-
-    /// Forgets what paths found, if the maximum number of paths is kept.
-    fn make_room(&mut self, alloc: Global)
-        ensures { self.new ≡ self.old }
-    {
-        if self.found.as_slice().len() >= MOST_PATHS {
-            self.found = Listed::empty(alloc);
-        }
-    }
-}
-
-/// Returns what is kept for a path, if anything is.
-fn found_at<'f>(kept: &'f [(Text, SharedFound)], path: &str) -> Option<&'f SharedFound>
-    ensures { option_map (λ found. found.now) result
-        ≡ option_map (λ t. t.1) (find (λ t. bytes_eq t.0 path.now) kept.now) }
-{
-    let (_, found) = kept.iter().find(|(other, _)| other.as_str() == path)?;
-    Some(found)
-}
-
-/// Returns whether there are posts, and their titles and contents have few enough bytes to be kept.
-fn is_small(posts: &[Post]) -> bool
-    ensures { IsTrue result → sum_by size_of posts.now ≤ 1048576 }
-{
-    let mut room = MOST_BYTES;
-    for post in posts {
-        let title = post.title.as_str().len();
-        let content = post.content.as_str().len();
-        if title > room || content > room - title {
-            return false;
-        }
-        room -= title + content;
-    }
-    !posts.is_empty()
 }
 
 /// Finds what a path asks for, in a site with these options.

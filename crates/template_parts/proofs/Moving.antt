@@ -29,10 +29,11 @@ use Rattle.template_parts.specs.declared.item.Hand.{Hand}
 use Rattle.template_parts.specs.declared.item.Hand.TheVariants.{Printed, Dropped}
 use Rattle.template_parts.specs.declared.steps.Step.{Step}
 use Rattle.template_parts.specs.Pages.{Work, Placed, IsPage, IsRefusedBy, printed, over, each, placed_pass, shown_pass, action_pass, item_pass, page_items, page_pass}
-use Rattle.template_parts.specs.declared.place.Hook.{Hook}
+use Rattle.hook_changes.specs.Names.{core_name}
+use Rattle.hook_changes.specs.declared.core_hooks.CoreHook.{CoreHook}
 use Rattle.template_parts.specs.declared.place.Stored.{Stored}
 use Rattle.template_parts.specs.declared.place.Place.TheVariants as place
-use Rattle.template_parts.specs.Places.{hook_name, stored_item, item_at, post_at, step_items, items_left}
+use Rattle.template_parts.specs.Places.{stored_item, item_at, post_at, step_items, items_left}
 use Rattle.template_parts.specs.Left.{shown_as, handed_on, begun, item_or_nothing, step_pass, then_items, Begins, BeginsBy, Moves, Stops}
 use Rattle.template_parts.specs.declared.page.PageTurn.{PageTurn}
 use Rattle.template_parts.specs.declared.page.PageTurn.TheVariants as page
@@ -128,7 +129,7 @@ module _ (engine : Engine) (settings : Settings) where
   all_left posts world items is = ap (each (placed_pass engine settings) world) (sym is)
 
   -- the item of a step that is in no template
-  pub hook_step : (posts : List Post) (world : World) (step : Step) (hook : Hook) (name : Text) → step.place ≡ place.Hook hook → name ≡ hook_name hook
+  pub hook_step : (posts : List Post) (world : World) (step : Step) (hook : CoreHook) (name : Text) → step.place ≡ place.Hook hook → name ≡ core_name hook
       → action_pass engine settings world name ≡ step_pass engine settings posts world step
   unfolding item_pass
   hook_step posts world step hook name is same = rw (is, same) refl

@@ -1,5 +1,6 @@
 -- Where the items of a page are.
-use Rattle.std.specs.Prelude.{ℕ, List, flat_map, slice_get, Option, None, Some, option_and_then, option_to_list, codes}
+use Rattle.std.specs.Prelude.{ℕ, List, flat_map, slice_get, Option, None, Some, option_and_then, option_to_list}
+use Rattle.hook_changes.specs.Names.{core_name}
 use Rattle.site_records.specs.declared.post.Post.{Post}
 use Rattle.hook_machine.specs.World.{Text}
 use Rattle.template_trees.specs.declared.tree.Part.{Part}
@@ -12,8 +13,6 @@ use Rattle.template_trees.specs.declared.tree.Node.{Node}
 use Rattle.template_trees.specs.declared.tree.Node.TheVariants as node
 use Rattle.template_trees.specs.declared.tree.Template.{Template}
 use Rattle.template_parts.specs.declared.settings.Settings.{Settings}
-use Rattle.template_parts.specs.declared.place.Hook.{Hook}
-use Rattle.template_parts.specs.declared.place.Hook.TheVariants as hook
 use Rattle.template_parts.specs.declared.place.Side.{Side}
 use Rattle.template_parts.specs.declared.place.Side.TheVariants as side
 use Rattle.template_parts.specs.declared.place.Stored.{Stored}
@@ -22,15 +21,6 @@ use Rattle.template_parts.specs.declared.place.Place.{Place}
 use Rattle.template_parts.specs.declared.place.Place.TheVariants as place
 use Rattle.template_parts.specs.declared.steps.Step.{Step}
 use Rattle.template_parts.specs.Pages.{Placed, over}
-
-abbrev pub hook_name : Hook → Text
-hook_name hook.PluginsLoaded = codes "plugins_loaded"
-hook_name hook.Init = codes "init"
-hook_name hook.WpLoaded = codes "wp_loaded"
-hook_name hook.Wp = codes "wp"
-hook_name hook.TemplateRedirect = codes "template_redirect"
-hook_name hook.GetHeader = codes "get_header"
-hook_name hook.GetFooter = codes "get_footer"
 
 abbrev pub element_item : Element → Option Item
 element_item (element.Item item) = Some item
@@ -62,7 +52,7 @@ module _ (settings : Settings) where
   stored_item (stored.Part part at) = option_and_then (λ template. option_and_then node_item (slice_get template.nodes at)) (template_of settings part)
 
   abbrev pub item_at : Place → Option Item
-  item_at (place.Hook hook) = Some (item.Action (hook_name hook))
+  item_at (place.Hook hook) = Some (item.Action (core_name hook))
   item_at (place.Stored stored) = stored_item stored
 
   -- the items at some places, in order

@@ -1,5 +1,6 @@
 //! Beginning an item of a page, and handing on the result of its job.
 ghost use Rattle.std.specs.Prelude.{◌≡◌, [], ◌∷◌, IfOk, option_map, decimal};
+ghost use Rattle.hook_changes.specs.Names.{core_name};
 ghost use Rattle.hook_machine.specs.Runs.{IsReady};
 ghost use Rattle.template_parts.specs.Pages.{printed, permalink, shown_pass, title_pass, content_pass, action_pass};
 ghost use Rattle.template_parts.specs.Pages.{post_tag_pass, tag_pass, item_pass};
@@ -7,7 +8,7 @@ ghost use Rattle.template_parts.specs.Left.{shown_as, handed_on, Begins, BeginsB
 
 use crate::settings::Settings;
 use callback_store::Stated;
-use hook_changes::{Listed, Text};
+use hook_changes::{CoreHook, Listed, Text};
 use hook_machine::{Job, Pace, Run, RunFault};
 use itoa::Buffer;
 use page_escapes::{escape_ends, escape_html, has_no_end, has_no_mark, into_escaped_html};
@@ -93,13 +94,12 @@ pub(crate) fn start_action<S: Stated>(
     alloc: Global,
     run: &mut Run<'_, S>,
     settings: &Settings,
-    hook: &str,
+    hook: Text,
 ) -> Result<Option<Hand>, RunFault>
     requires { IsReady run.old }
     ensures { Begins S.says S.number run.old result run.new
-        (λ engine world. action_pass engine settings.now world hook.now) }
+        (λ engine world. action_pass engine settings.now world hook) }
 {
-    let hook = Text::copied(alloc, hook)?;
     let args = Listed::empty(alloc);
     run.start(Job::Action { hook, args })?;
     Ok(Some(Hand::Dropped))
@@ -110,16 +110,16 @@ fn start_filter<S: Stated>(
     alloc: Global,
     run: &mut Run<'_, S>,
     settings: &Settings,
-    hook: &str,
+    hook: CoreHook,
     value: Text,
     args: Listed<Text>,
     shown: Shown,
 ) -> Result<Option<Hand>, RunFault>
     requires { IsReady run.old }
     ensures { Begins S.says S.number run.old result run.new
-        (λ engine world. shown_pass engine settings.now (shown_as shown) world hook.now value args) }
+        (λ engine world. shown_pass engine settings.now (shown_as shown) world (core_name hook) value args) }
 {
-    let hook = Text::copied(alloc, hook)?;
+    let hook = Text::core(alloc, hook);
     run.start(Job::Filters { hook, value, args })?;
     Ok(Some(Hand::Printed(shown)))
 }
@@ -142,8 +142,8 @@ fn print_unfiltered<S: Stated>(
     }
 }
 
-/// Starts the filter of a title, which also gets the post's number. If nothing is registered on it, the title is printed
-/// at once.
+/// Starts the filter of a title, which also gets the post's number. If nothing is registered on it, the title is
+/// printed at once.
 fn start_title<S: Stated>(
     alloc: Global,
     run: &mut Run<'_, S>,
@@ -160,7 +160,7 @@ fn start_title<S: Stated>(
     }
     let title = post.title.clone()?;
     let args = number_argument(alloc, post.id)?;
-    start_filter(alloc, run, settings, "the_title", title, args, shown)
+    start_filter(alloc, run, settings, CoreHook::TheTitle, title, args, shown)
 }
 
 /// Starts the filter of a content. If the run needn't stop in it and it leaves the content as it is, the content is
@@ -185,7 +185,7 @@ fn start_content<S: Stated>(
         alloc,
         run,
         settings,
-        "the_content",
+        CoreHook::TheContent,
         content,
         args,
         Shown::EndsEscaped,
@@ -235,8 +235,8 @@ fn begin_tag<S: Stated>(
             None => Ok(None),
         },
         Tag::SiteName => print_escaped(alloc, run, settings.site_name.as_str()),
-        Tag::WpHead => start_action(alloc, run, settings, "wp_head"),
-        Tag::WpFooter => start_action(alloc, run, settings, "wp_footer"),
+        Tag::WpHead => start_action(alloc, run, settings, Text::core(alloc, CoreHook::WpHead)),
+        Tag::WpFooter => start_action(alloc, run, settings, Text::core(alloc, CoreHook::WpFooter)),
     }
 }
 
@@ -257,7 +257,7 @@ pub(crate) fn begin_item<S: Stated>(
     match item {
         Item::Text(text) => print(run, text.as_str()),
         Item::Tag(tag) => begin_tag(alloc, run, settings, post, *tag, pace),
-        Item::Action(hook) => start_action(alloc, run, settings, hook.as_str()),
+        Item::Action(hook) => start_action(alloc, run, settings, hook.clone()?),
     }
 }
 

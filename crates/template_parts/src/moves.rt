@@ -11,6 +11,7 @@ use crate::settings::Settings;
 use crate::steps::Step;
 use callback_store::Stated;
 use content_cache::PieceCache;
+use hook_changes::Text;
 use hook_machine::{Left, Pace, Run, RunFault, Turn};
 use site_records::Post;
 use std::alloc::Global;
@@ -68,7 +69,7 @@ fn begin_step<S: Stated>(
 {
     let post = post_at(posts, step.post);
     match step.place {
-        Place::Hook(hook) => start_action(alloc, run, settings, hook.name()),
+        Place::Hook(hook) => start_action(alloc, run, settings, Text::core(alloc, hook)),
         Place::Stored(place) => match stored_item(settings, place) {
             Some(item) => begin_item(alloc, run, settings, post, item, pace),
             None => Ok(None),
@@ -88,13 +89,15 @@ fn one_move<S: Stated>(
 ) -> Result<Moved, RunFault>
     requires sound { fault_of run.old ≡ None }
     requires idle { ahead.old.hand ≡ None → IsIdle run.old }
-    ensures moves { Moves pace (run_left (engine_of S.says S.number run.old) settings.now posts.now run.old ahead.old) result
+    ensures moves { Moves pace
+        (run_left (engine_of S.says S.number run.old) settings.now posts.now run.old ahead.old) result
         (world_of run.new) (run_left (engine_of S.says S.number run.old) settings.now posts.now run.new ahead.new) }
     ensures idle { OnOk result (ahead.new.hand ≡ None → IsIdle run.new) }
     ensures over { IsIdleIfOver result run.new }
     ensures shorter { Shortens result ahead.old ahead.new }
     ensures sound { OnOk result (fault_of run.new ≡ None) }
     ensures engine { engine_of S.says S.number run.new ≡ engine_of S.says S.number run.old }
+    ensures cache { cache.new ≡ cache.old }
 {
     match ahead.hand {
         Some(hand) => match run.go_on(pace, cache)? {
@@ -127,12 +130,14 @@ pub(crate) fn next_stop<S: Stated>(
 ) -> Result<Stop, RunFault>
     requires sound { fault_of run.old ≡ None }
     requires idle { ahead.old.hand ≡ None → IsIdle run.old }
-    ensures stops { Stops pace (run_left (engine_of S.says S.number run.old) settings.now posts.now run.old ahead.old) result
+    ensures stops { Stops pace
+        (run_left (engine_of S.says S.number run.old) settings.now posts.now run.old ahead.old) result
         (world_of run.new) (run_left (engine_of S.says S.number run.old) settings.now posts.now run.new ahead.new) }
     ensures idle { OnOk result (ahead.new.hand ≡ None → IsIdle run.new) }
     ensures over { IsIdleAtEnd result run.new }
     ensures sound { OnOk result (fault_of run.new ≡ None) }
     ensures engine { engine_of S.says S.number run.new ≡ engine_of S.says S.number run.old }
+    ensures cache { cache.new ≡ cache.old }
 {
     let mut moved = one_move(alloc, run, settings, posts, ahead, cache, pace)?;
     'moves: loop {

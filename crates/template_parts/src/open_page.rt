@@ -71,7 +71,8 @@ impl OpenPage {
         count: u32,
         cache: &mut PieceCache,
     ) -> Result<Turned, RunFault>
-        ensures { GoesOn (engine_over S.says S.number plugins.now) count self result }
+        ensures turns { GoesOn (engine_over S.says S.number plugins.now) count self result }
+        ensures cache { cache.new ≡ cache.old }
     {
         let mut page = Page::resume(self, plugins);
         match page.turns(count, cache) {
@@ -98,6 +99,7 @@ impl OpenPage {
         ensures bytes { IfOk result (λ page. IsPage
             (open_left (engine_over S.says S.number plugins.now) self) page.1.items) }
         ensures err { IfErr result (IsRefusedBy (open_left (engine_over S.says S.number plugins.now) self)) }
+        ensures cache { cache.new ≡ cache.old }
     {
         Page::resume(self, plugins).finish(cache)
     }

@@ -89,7 +89,8 @@ impl<'p, S: Stated> Page<'p, S> {
     }
 
     /// Goes on with the page until one callback was invoked and its echo and changes were carried out, or until the
-    /// page is printed. The first turn also fires the actions of a request.
+    /// page is printed. The first turn also fires the actions of a request. Once the page is printed, it is not
+    /// specified what a further turn returns.
     pub fn turn(&mut self, cache: &mut PieceCache) -> Result<PageTurn, RunFault>
         requires { CanGoOn self.old }
         ensures turns { refusal_of self.old ≡ None →
@@ -102,6 +103,7 @@ impl<'p, S: Stated> Page<'p, S> {
         ensures fault { IfErr result (λ fault. refusal_of self.new ≡ Some fault) }
         ensures again { IfSome (refusal_of self.old) (λ fault. result ≡ Err fault) }
         ensures engine { engine_of S.says S.number (run_in self.new) ≡ engine_of S.says S.number (run_in self.old) }
+        ensures cache { cache.new ≡ cache.old }
     {
         self.advance(Pace::ByTurns, cache)
     }
@@ -119,6 +121,7 @@ impl<'p, S: Stated> Page<'p, S> {
         ensures fault { IfErr result (λ fault. refusal_of self.new ≡ Some fault) }
         ensures again { IfSome (refusal_of self.old) (λ fault. result ≡ Err fault) }
         ensures engine { engine_of S.says S.number (run_in self.new) ≡ engine_of S.says S.number (run_in self.old) }
+        ensures cache { cache.new ≡ cache.old }
     {
         if let Some(fault) = self.fault {
             return Err(fault);
@@ -142,6 +145,7 @@ impl<'p, S: Stated> Page<'p, S> {
         ensures ready { CanGoOn self.new }
         ensures same { IsSamePage self.new self.old }
         ensures sound { OnOk result (refusal_of self.new ≡ None) }
+        ensures cache { cache.new ≡ cache.old }
     {
         let mut made = 0;
         'turns: while made < count {
@@ -212,6 +216,7 @@ impl<'p, S: Stated> Page<'p, S> {
         ensures err { refusal_of self.entry ≡ None → IfErr result (IsRefusedBy (page_left
             (engine_of S.says S.number (run_in self.entry)) self.entry)) }
         ensures again { IfSome (refusal_of self.entry) (λ fault. result ≡ Err fault) }
+        ensures cache { cache.new ≡ cache.old }
     {
         let mut page = self;
         let printed = page.print(cache);
@@ -230,6 +235,7 @@ impl<'p, S: Stated> Page<'p, S> {
         ensures same { IsSamePage self.new self.old }
         ensures sound { refusal_of self.new ≡ None }
         ensures engine { engine_of S.says S.number (run_in self.new) ≡ engine_of S.says S.number (run_in self.old) }
+        ensures cache { cache.new ≡ cache.old }
     {
         let posts = self.found.posts();
         let taken = self.ahead.take();
@@ -248,7 +254,8 @@ impl<'p, S: Stated> Page<'p, S> {
             Stop::Turned => Ok(PageTurn::More),
             Stop::Over => {
                 let text = self.run.take_output()?;
-                Ok(PageTurn::Done(self.found.status(), text.into_string().into_bytes()))
+                let bytes = text.into_string()?.into_bytes();
+                Ok(PageTurn::Done(self.found.status(), bytes))
             }
         }
     }
@@ -262,6 +269,7 @@ impl<'p, S: Stated> Page<'p, S> {
         ensures err { refusal_of self.old ≡ None → IfErr result (IsRefusedBy (page_left
             (engine_of S.says S.number (run_in self.old)) self.old)) }
         ensures again { IfSome (refusal_of self.old) (λ fault. result ≡ Err fault) }
+        ensures cache { cache.new ≡ cache.old }
     {
         if let Some(fault) = self.fault {
             return Err(fault);

@@ -1,23 +1,11 @@
 //! The places of a page's items in its site's templates.
 ghost use Rattle.std.specs.Prelude.{◌≡◌, option_map};
-ghost use Rattle.template_parts.specs.Places.{hook_name, node_item, element_item};
+ghost use Rattle.template_parts.specs.Places.{node_item, element_item};
 ghost use Rattle.template_parts.specs.Places.{elements_in, template_of, stored_item};
 
 use crate::settings::Settings;
-use hook_changes::Listed;
+use hook_changes::{CoreHook, Listed};
 use template_trees::{Element, Item, Node, Part, SharedTemplate};
-
-/// An action that is fired although no template names it.
-#[derive(Clone, Copy, Debug)]
-pub enum Hook {
-    PluginsLoaded,
-    Init,
-    WpLoaded,
-    Wp,
-    TemplateRedirect,
-    GetHeader,
-    GetFooter,
-}
 
 /// One of a loop's two bodies.
 #[derive(Clone, Copy, Debug)]
@@ -42,27 +30,9 @@ pub enum Stored {
 /// The place of an item.
 #[derive(Clone, Copy)]
 pub enum Place {
-    /// In no template.
-    Hook(Hook),
+    /// In no template: an action that is fired all the same.
+    Hook(CoreHook),
     Stored(Stored),
-}
-
-impl Hook {
-    ghost use Rattle.template_parts.specs.Places.{hook_name};
-
-    pub(crate) fn name(self) -> &'static str
-        ensures { result.now ≡ hook_name self }
-    {
-        match self {
-            Hook::PluginsLoaded => "plugins_loaded",
-            Hook::Init => "init",
-            Hook::WpLoaded => "wp_loaded",
-            Hook::Wp => "wp",
-            Hook::TemplateRedirect => "template_redirect",
-            Hook::GetHeader => "get_header",
-            Hook::GetFooter => "get_footer",
-        }
-    }
 }
 
 fn element_item(element: &Element) -> Option<&Item>

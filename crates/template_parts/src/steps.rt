@@ -7,8 +7,9 @@ ghost use Rattle.template_parts.specs.Pages.{elements_items, node_items, page_it
 ghost use Rattle.template_parts.specs.Places.{elements_in, template_of, item_at, element_item};
 ghost use Rattle.template_parts.specs.Places.{items_of, items_left, post_at};
 
-use crate::place::{Hook, Place, Side, Stored, template_of};
+use crate::place::{Place, Side, Stored, template_of};
 use crate::settings::Settings;
+use hook_changes::CoreHook;
 use hook_machine::Left;
 use site_records::Post;
 use std::alloc::{AllocError, Global};
@@ -56,8 +57,8 @@ fn push_part(places: &mut Vec<Place>, settings: &Settings, part: Part) -> Result
         ++ part_items settings.now part) }
 {
     match part {
-        Part::Header => places.push(Place::Hook(Hook::GetHeader))?,
-        Part::Footer => places.push(Place::Hook(Hook::GetFooter))?,
+        Part::Header => places.push(Place::Hook(CoreHook::GetHeader))?,
+        Part::Footer => places.push(Place::Hook(CoreHook::GetFooter))?,
         Part::Content => {}
     }
     push_stored(places, settings, part)
@@ -193,11 +194,11 @@ pub(crate) fn steps_of_page(
 {
     let mut steps = Vec::new(alloc);
     let actions = [
-        Place::Hook(Hook::PluginsLoaded),
-        Place::Hook(Hook::Init),
-        Place::Hook(Hook::WpLoaded),
-        Place::Hook(Hook::Wp),
-        Place::Hook(Hook::TemplateRedirect),
+        Place::Hook(CoreHook::PluginsLoaded),
+        Place::Hook(CoreHook::Init),
+        Place::Hook(CoreHook::WpLoaded),
+        Place::Hook(CoreHook::Wp),
+        Place::Hook(CoreHook::TemplateRedirect),
     ];
     push_over(&mut steps, None, &actions)?;
     push_template(alloc, &mut steps, settings, posts)?;

@@ -1,6 +1,5 @@
 //! Names of templates, and the names that appear in them.
 ghost use Rattle.std.specs.Prelude.{◌≡◌};
-ghost use Rattle.hook_changes.specs.Names as spec;
 ghost use Rattle.template_trees.specs.Trees.{tag_named, part_named, is_part_name, is_template_name};
 
 use crate::tree::{Part, PostTag, Tag};
@@ -60,11 +59,4 @@ pub(crate) fn tag_named(name: &str) -> Option<Tag>
         "wp_footer" => Some(Tag::WpFooter),
         _ => None,
     }
-}
-
-/// Returns whether a text is the name of a hook.
-pub(crate) fn is_hook_name(text: &str) -> bool
-    ensures { result ≡ spec.is_hook_name text.now }
-{
-    (1..=64).contains(&text.len())
 }

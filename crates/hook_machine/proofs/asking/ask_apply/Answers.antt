@@ -1,3 +1,4 @@
+use Rattle.std.proofs.Common.{refl}
 use Rattle.std.proofs.lemmas.Result.{err_from_is_err_and}
 use Rattle.hook_machine.specs.Outcomes.{engine_over}
 use Rattle.hook_changes.specs.declared.reply.Ask.TheVariants.{Apply}
@@ -21,5 +22,5 @@ pub returns-clause-moves : goal.returns-clause-moves
 returns-clause-moves g c =
     apply_moves (engine_over g.S.Stated.says g.S.Stated.number c.args.plugins.now) c.args.state.now c.wait.new.state c.args.invoked.callback
     c.args.invoked.call c.args.hook
-    c.as_str.result.now c.args.value c.args.args c.args.stack.now c.wait.new.stack c.in_ok-wait.ensures.within c.in_ok-wait.ensures.deeper
-    c.as_str.ensures c.in_ok-wait.ensures.waits _ _ _ c.begin_filter.ensures.moves
+    c.args.hook c.args.value c.args.args c.args.stack.now c.wait.new.stack c.in_ok-wait.ensures.within c.in_ok-wait.ensures.deeper
+    refl c.in_ok-wait.ensures.waits _ _ _ c.begin_filter.ensures.moves

@@ -18,7 +18,7 @@ returns-in_err-turned-clause-ends g c =
     c.in_err-turned.ensures.turns _)
 
 pub turns-init : goal.turns-init
-turns-init g c = record { ends = same_end c.in_ok-turned.ensures.turns; over = c.in_ok-turned.ensures.over }
+turns-init g c = record { ends = same_end c.in_ok-turned.ensures.turns; over = c.in_ok-turned.ensures.over; cache = c.next_turn.ensures.cache }
 
 pub returns-in_err-turned-in-More-clause-ends : goal.returns-in_err-turned-in-More-clause-ends
 returns-in_err-turned-in-More-clause-ends g c =
@@ -37,4 +37,5 @@ pub turns-preserved : goal.turns-preserved
 turns-preserved g c = record {
   ends = same_end c.in_ok-turned-in-More.ensures.turns ∙ (rw c.in-More.is at c.turns.invariant.ends);
   over = c.in_ok-turned-in-More.ensures.over;
+  cache = c.next_turn-in-More.ensures.cache ∙ c.turns.invariant.cache;
 }

@@ -13,6 +13,7 @@ invariant-turns g l =
     record {
       ends : outcome_of (trace_of_turn l.turned l.state (rest engine l.state l.stack)) ≡ outcome_of (left_from engine l.fn.state l.fn.job l.fn.stack);
       over : IsOver (Ok l.turned) l.stack;
+      cache : l.cache ≡ l.fn.cache;
     }
 
 -- the number of turns left

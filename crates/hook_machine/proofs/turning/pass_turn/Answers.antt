@@ -43,10 +43,10 @@ entries-preserved g c =
       leads = rw c.keep_spare.ensures (goes_over engine (then_rest engine (pass_left engine c.args.state.now c.args.pass) c.args.stack.now)
           (pass_left engine c.entries.state c.entries.pass) c.entries.state c.in_ok-invoked-in-Some.invoked.callback
           c.in_ok-invoked-in-Some.invoked.call (frame.Pass c.next_invocation.new.pass) c.entries.stack goes c.entries.invariant.leads c.invoke.new.state
-          c.in-Answered.answer (pass_left engine c.invoke.new.state c.hand.new.self)
+          c.in-Answered.answer (pass_left engine c.invoke.new.state c.hand_in_turn.new.self)
           (rw (c.next_invocation.ensures.state, c.in-Answered.is) at c.in_ok-went-in-Some.ensures.invokes)
           (rw c.in-Answered.is at c.in_ok-went-in-Some.ensures.may)
-          (pass_handed engine c.invoke.new.state c.next_invocation.new.pass c.hand.new.self c.in-Answered.answer c.hand.ensures));
+          (pass_handed engine c.invoke.new.state c.next_invocation.new.pass c.hand_in_turn.new.self c.in-Answered.answer c.in_ok-hand_in_turn-in-Answered.ensures));
     }
 
 pub returns-in-Waits-clause-moves : goal.returns-in-Waits-clause-moves

@@ -11,5 +11,8 @@ returns c =
     ∙ ap without_name (ap app_of_fields c.about.ensures ∙ c.new.ensures.app) in
     let first : app_of c.in_ok-arg.field-0 ≡ with_rule (app_of c.no_binary_name.result) (rule_of c.calls_option.result) = c.in_ok-arg.ensures.shape
     c.calls_option.ensures.local in
-    IfOk-weaker c.arg-2.result _ _ (λ command added. added.shape c.cache_option.ensures.local ∙ ap (λ a. with_rule a (rule_of c.cache_option.result)) first
-    ∙ app_is _ _ _ start c.calls_option.ensures.rule c.cache_option.ensures.rule) c.arg-2.ensures
+    let second : app_of c.in_ok-arg-2.field-0 ≡ with_rule (app_of c.in_ok-arg.field-0) (rule_of c.cache_option.result) = c.in_ok-arg-2.ensures.shape
+    c.cache_option.ensures.local in
+    IfOk-weaker c.arg-3.result _ _ (λ command added. added.shape c.trace_flag.ensures.local ∙ ap (λ a. with_rule a (rule_of c.trace_flag.result)) (second
+    ∙ ap (λ a. with_rule a (rule_of c.cache_option.result)) first)
+    ∙ app_is _ _ _ _ start c.calls_option.ensures.rule c.cache_option.ensures.rule c.trace_flag.ensures.rule) c.arg-3.ensures

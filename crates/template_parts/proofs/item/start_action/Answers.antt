@@ -1,3 +1,4 @@
+use Rattle.std.proofs.Common.{refl}
 use Rattle.hook_machine.specs.Runs.{world_of, engine_of, left_of}
 use Rattle.template_parts.specs.declared.item.Hand.TheVariants.{Dropped}
 use Rattle.template_parts.proofs.Moving.{busy, action_begun}
@@ -7,8 +8,8 @@ pub returns : goal.returns
 returns g c =
     let engine = engine_of g.S.Stated.says g.S.Stated.number c.args.run.now in
     let begun =
-    action_begun engine c.args.settings.now (world_of c.args.run.now) (world_of c.start.new.self) c.args.hook.now c.in_ok-hook.hook c.empty-args.result
-    (left_of engine c.start.new.self) c.in_ok-hook.ensures c.empty-args.ensures c.in_ok-start.ensures.started in
+    action_begun engine c.args.settings.now (world_of c.args.run.now) (world_of c.start.new.self) c.args.hook c.args.hook c.empty-args.result
+    (left_of engine c.start.new.self) refl c.empty-args.ensures c.in_ok-start.ensures.started in
     record {
       begun = (begun, c.in_ok-start.ensures.keeps.sound, busy Dropped);
       memory = tt;

@@ -8,7 +8,7 @@ pub returns-in-Hook : goal.returns-in-Hook
 returns-in-Hook g c =
     let engine = engine_of g.S.Stated.says g.S.Stated.number c.args.run.now in
     let same =
-    hook_step engine c.args.settings.now c.args.posts.now (world_of c.args.run.now) c.args.step c.in-Hook.hook c.name.result.now c.in-Hook.is c.name.ensures in
+    hook_step engine c.args.settings.now c.args.posts.now (world_of c.args.run.now) c.args.step c.in-Hook.hook c.core.result c.in-Hook.is c.core.ensures in
     let begins = c.start_action.ensures in
     begins_by (record {
       begun = subst (λ work. IfOk c.start_action.result (IsBegun engine work c.start_action.new.run)) same begins.begun;

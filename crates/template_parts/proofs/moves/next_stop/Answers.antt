@@ -13,6 +13,7 @@ moves-init g c = record {
   idle = c.in_ok-moved.ensures.idle;
   sound = c.in_ok-moved.ensures.sound;
   engine = c.one_move.ensures.engine;
+  cache = c.one_move.ensures.cache;
 }
 
 pub moves-preserved : goal.moves-preserved
@@ -22,6 +23,7 @@ moves-preserved g c = record {
   idle = c.in_ok-moved-in-On.ensures.idle;
   sound = c.in_ok-moved-in-On.ensures.sound;
   engine = c.one_move-in-On.ensures.engine ∙ c.moves.invariant.engine;
+  cache = c.one_move-in-On.ensures.cache ∙ c.moves.invariant.cache;
 }
 
 pub returns-in_err-moved-in-On-clause-stops : goal.returns-in_err-moved-in-On-clause-stops

@@ -15,6 +15,7 @@ invariant-moves g l =
       idle : l.ahead.hand ≡ None → IsIdle l.run;
       sound : fault_of l.run ≡ None;
       engine : engine_of g.S.Stated.says g.S.Stated.number l.run ≡ engine_of g.S.Stated.says g.S.Stated.number l.fn.run;
+      cache : l.cache ≡ l.fn.cache;
     }
 
 abbrev pub decreases-moves : goal.decreases-moves

@@ -6,4 +6,4 @@ pub returns-then-has_core_alone : goal.returns-then-has_core_alone
 returns-then-has_core_alone c =
     let room = c.has_room.ensures c.if-not-has_room.false in
     λ plain engine args. core_leaves engine c.args.self.now c.args.hook.now c.args.value.now args (c.has_core_alone.ensures c.if-has_core_alone.true)
-    (sym c.may_name_hook.ensures ∙ c.if-not-may_name_hook.false) room.0 room.1 (c.is_plain.ensures.whole plain)
+    (sym c.is_hook_name.ensures ∙ c.if-not-is_hook_name.false) room.0 room.1 (c.is_plain.ensures.whole plain)

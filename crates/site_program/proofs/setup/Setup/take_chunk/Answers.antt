@@ -63,6 +63,7 @@ loop-end-preserved g c =
       room = rw c.in_ok-finish_line.ensures.empty (λ h. absurd (omega arith));
       sound = search rules;
       limit = c.in_ok-finish_line.ensures.limit ∙ i.limit;
+      cache = c.in_ok-finish_line.ensures.cache ∙ i.cache;
     }
 
 -- memory ran out at the line, or its reply was not written
@@ -120,6 +121,7 @@ loop-end-init g c = record {
   room = c.requires.room;
   sound = c.requires.whole;
   limit = refl;
+  cache = refl;
 }
 
 -- what is held leaves room within a line

@@ -7,5 +7,5 @@ use Rattle.site_program.proofs.stored.Stored.delete.Goals as goal
 pub invariant_of-self : goal.invariant_of-self
 invariant_of-self c =
     let kept = c.self.inside in
-    rw c.empty.ensures (left (λ rows. KeepsUp rows kept.options kept.templates kept.active []) _ _ _ _ c.delete.ensures.ok c.delete.ensures.err
+    rw c.none.ensures (left (λ rows. KeepsUp rows kept.options kept.templates kept.active []) _ _ _ _ c.delete.ensures.ok c.delete.ensures.err
     (without_found _ _ _ _ _ c.self.invariant) (delete-up _ _ _ _ _ c.self.invariant _))

@@ -15,5 +15,5 @@ invariant_of-self c =
 pub invariant_of-self-2 : goal.invariant_of-self-2
 invariant_of-self-2 c =
     let kept = c.self.inside in
-    rw c.empty.ensures (left (λ rows. KeepsUp rows None kept.templates kept.active []) _ _ _ _ c.set_option-2.ensures.ok c.set_option-2.ensures.err
+    rw c.none.ensures (left (λ rows. KeepsUp rows None kept.templates kept.active []) _ _ _ _ c.set_option-2.ensures.ok c.set_option-2.ensures.err
     (without_options _ _ _ _ _ c.self.invariant) (option-up _ _ _ _ _ c.self.invariant _ _))

@@ -37,4 +37,5 @@ turns-preserved g c =
       sound = c.in_ok-turned.ensures.sound;
       same = (c.advance.ensures.same.0 ∙ c.turns.invariant.same.0, c.advance.ensures.same.1 ∙ c.turns.invariant.same.1);
       engine = c.advance.ensures.engine ∙ c.turns.invariant.engine;
+      cache = c.advance.ensures.cache ∙ c.turns.invariant.cache;
     }

@@ -14,6 +14,7 @@ invariant-turns g l =
       sound : refusal_of l.self ≡ None;
       same : IsSamePage l.self l.fn.self;
       engine : engine_of g.S.Stated.says g.S.Stated.number (run_in l.self) ≡ engine;
+      cache : l.cache ≡ l.fn.cache;
     }
 
 -- the turns left

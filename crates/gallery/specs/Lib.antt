@@ -1,0 +1,2 @@
+pub mod Gallery
+pub mod Numbers
