@@ -1,16 +1,36 @@
-"""The program as a child process that replies to one line at a time, for the scripts of this folder."""
+"""The program as a child process that replies to one line at a time, for the scripts of this folder.
 
+It is a module, and runs nothing by itself. A script beside it uses it so:
+
+    from program import BUILT_PROGRAM, Program
+
+    with Program(BUILT_PROGRAM) as site:
+        site.ask(b'{"cmd":"put","title":"Rye","date":"2024-04-02 06:00:00"}')
+        reply = site.ask(b'{"cmd":"get","path":"/?p=1"}')
+        if reply.is_page():
+            print(reply.words[1], reply.page.decode())      # 200 <h2>Rye</h2>
+"""
+
+import io
 import os
+import re
+import select
 import subprocess
 import sys
 from pathlib import Path
 from typing import NamedTuple
 
 BUILT_PROGRAM = Path(__file__).resolve().parent.parent / "crates" / "site" / "out" / "site"
+# What the first line of a reply can be (docs/BEHAVIOUR.md).
+HEAD = re.compile(r"ok( \d+)?|refused \d+ \w+|page \d{3} \d+")
 
 
 class Ended(Exception):
     """The program ended before it had replied."""
+
+
+class NoReply(Exception):
+    """What came isn't a reply, so what runs isn't the program."""
 
 
 class Reply(NamedTuple):
@@ -34,7 +54,9 @@ def read_reply(stream):
     head = stream.readline()
     if not head.endswith(b"\n"):
         raise Ended
-    words = head.decode().split()
+    words = head.decode(errors="replace").rstrip("\n").split(" ")
+    if not HEAD.fullmatch(" ".join(words)):
+        raise NoReply(head[:60])
     if words[0] != "page":
         return Reply(words, b"")
     length = int(words[2])
@@ -42,6 +64,14 @@ def read_reply(stream):
     if len(page) != length + 1:
         raise Ended
     return Reply(words, page[:length])
+
+
+def read_replies(output):
+    """All replies of an output."""
+    stream, replies = io.BytesIO(output), []
+    while stream.tell() < len(output):
+        replies.append(read_reply(stream))
+    return replies
 
 
 class Program:
@@ -71,6 +101,19 @@ class Program:
             raise Ended from None
         return read_reply(self.replies)
 
+    def check(self, seconds):
+        """Makes sure that what runs replies to a line as the program does, within some seconds.
+
+        The line is an empty object, which the program refuses; nothing is changed by it.
+        """
+        try:
+            self.child.stdin.write(b"{}\n")
+        except BrokenPipeError:
+            raise Ended from None
+        if not select.select([self.child.stdout], [], [], seconds)[0]:
+            raise NoReply(b"")
+        read_reply(self.replies)
+
 
 def lines_of(commands):
     """The lines of a command file's bytes, as the program counts them."""
@@ -83,7 +126,7 @@ def add_program_option(parser):
     parser.add_argument("--program", metavar="PATH", **how)
 
 
-def check_program(path):
-    """Ends the script if there is no program at a path."""
+def check_program(path, instead=""):
+    """Ends the script if there is no program at a path, and says what can be done instead."""
     if not os.access(path, os.X_OK) or os.path.isdir(path):
-        sys.exit(f"{Path(sys.argv[0]).name}: there is no program at {path}; ./site builds it")
+        sys.exit(f"{Path(sys.argv[0]).name}: there is no program at {path}; ./site builds it{instead}")

@@ -1,7 +1,10 @@
 """What the scripts of this folder know of programs: which one they run, and how C is loaded into it."""
 
+import argparse
 import os
+import shutil
 import subprocess
+import sys
 from pathlib import Path
 
 from repository import ROOT
@@ -13,6 +16,58 @@ def missing(program):
     """What to say if there is no program at a path, or None if there is one."""
     is_there = os.path.isfile(program) and os.access(program, os.X_OK)
     return None if is_there else f"there is no program at {program}; ./site or `rt ci` builds it"
+
+
+def parser_of(doc):
+    """The command line of a script that runs over a program, whose help is the script's own documentation."""
+    parser = argparse.ArgumentParser(description=doc, formatter_class=argparse.RawDescriptionHelpFormatter)
+    how = {"nargs": "?", "type": os.path.abspath, "default": str(BUILT_PROGRAM)}
+    parser.add_argument("program", metavar="PROGRAM", help="the built program, `site`", **how)
+    return parser
+
+
+# Answers as `rt try` does, by a built program, and writes what it was called with to a file beside it.
+TRIED = """#!/usr/bin/env python3
+import subprocess, sys
+from pathlib import Path
+
+words = sys.argv[1:]
+with Path(__file__).with_suffix(".log").open("a") as log:
+    print(*words, file=log)
+if words[:2] == ["try", "--"]:
+    sys.exit(subprocess.run([{program!r}, *words[2:]]).returncode)
+folder = Path(words[words.index("--cases") + 1])
+for case in sorted(it for it in folder.iterdir() if it.suffix != ".args"):
+    args = case.with_suffix(".args")
+    given = args.read_text().splitlines() if args.exists() else []
+    ran = subprocess.run([{program!r}, *given], input=case.read_bytes(), capture_output=True)
+    sys.stdout.buffer.write(b"== " + case.name.encode() + b"\\n" + ran.stdout)
+    print(f"case={{case.name}} run=ended status={{ran.returncode}} runners=1 proved=no", file=sys.stderr)
+"""
+
+
+def executable(folder, name, text):
+    """A script in a folder that can be run."""
+    path = Path(folder, name)
+    path.write_text(text, encoding="utf-8")
+    path.chmod(0o755)
+    return path
+
+
+def without_toolchain(folder):
+    """The environment in which the few commands that scripts here use are found, and the command `rt` isn't."""
+    Path(folder, "python3").symlink_to(sys.executable)
+    for name in ("sh", "cat", "cp", "mkdir", "git"):
+        found = shutil.which(name)
+        if found:
+            Path(folder, name).symlink_to(found)
+    return {**os.environ, "PATH": str(folder)}
+
+
+def with_toolchain(folder, program):
+    """The environment in which the command `rt` is a script that runs a built program."""
+    executable(folder, "rt", TRIED.format(program=str(program)))
+    return {**os.environ, "PATH": f"{folder}:{os.environ['PATH']}"}
 
 
 def compiled(source, folder):
