@@ -11,11 +11,7 @@ use std::alloc::{AllocError, Global};
 const ROOM: usize = 512;
 
 /// Writes which page it is: its path, if that is known, and the number of an open page.
-fn put_page(
-    line: &mut Writer,
-    path: Option<&str>,
-    number: Option<u32>,
-) -> Result<(), AllocError> {
+fn put_page(line: &mut Writer, path: Option<&str>, number: Option<u32>) -> Result<(), AllocError> {
     if let Some(path) = path {
         put_named_text(line, "page", path)?;
     }

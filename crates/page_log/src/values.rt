@@ -42,11 +42,7 @@ pub(crate) fn put_number(line: &mut Writer, name: &str, number: i64) -> Result<(
 }
 
 /// Writes a key and a list of texts.
-pub(crate) fn put_texts(
-    line: &mut Writer,
-    name: &str,
-    texts: &[Text],
-) -> Result<(), AllocError> {
+pub(crate) fn put_texts(line: &mut Writer, name: &str, texts: &[Text]) -> Result<(), AllocError> {
     line.key(name)?;
     line.begin_array()?;
     for text in texts {
@@ -121,11 +117,7 @@ fn name_of_change(change: &Change) -> &'static str {
 }
 
 /// Writes a key and its number, if there is one.
-fn put_number_if_any(
-    line: &mut Writer,
-    name: &str,
-    number: Option<i64>,
-) -> Result<(), AllocError> {
+fn put_number_if_any(line: &mut Writer, name: &str, number: Option<i64>) -> Result<(), AllocError> {
     match number {
         Some(number) => put_number(line, name, number),
         None => Ok(()),
