@@ -26,7 +26,8 @@ class Page:
 
     def has_gone_past(self, told):
         """Whether a line is of a later page: it comes before what this one has told, whose end then was left out."""
-        return bool(self.lines) and told.get("count", told.get("invocations")) < self.lines[-1]["count"]
+        made = told["count"] - 1 if "count" in told else told["invocations"]
+        return bool(self.lines) and made < self.lines[-1]["count"]
 
 
 class Pass:
