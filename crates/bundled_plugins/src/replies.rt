@@ -197,6 +197,9 @@ const PLAIN: [ReplyRow; 24] = [
     },
 ];
 
+// A reply that takes more than a look at the number is made apart from this function (never inline), so that it saves
+// no registers for the others.
+
 /// Returns the reply of the bundled callback with that number. Any other number answers empty text.
 #[tactic(auto, unfolding(crate::specs::Replies::says))]
 pub fn bundled_reply(alloc: Global, id: CallbackId, call: &Call) -> Result<Reply, AllocError>
@@ -224,6 +227,7 @@ fn plain_rows() -> &'static [ReplyRow]
 }
 
 /// Replies as the row with that number does, or answers empty text if no row has the number.
+#[inline(never)]
 fn row_reply(
     alloc: Global,
     rows: &[ReplyRow],
@@ -241,6 +245,7 @@ fn row_reply(
 }
 
 /// Number 7 takes itself out and asks what the others make of an empty title, and then adds itself again.
+#[inline(never)]
 fn ask_its_own_hook(alloc: Global, value: &str, answers: &[Answer]) -> Result<Reply, AllocError>
     ensures { IfOk result (λ reply. reply ≡ asks_its_own_hook value.now answers.now) }
 {
@@ -275,6 +280,7 @@ fn title_pass(alloc: Global, value: &str) -> Result<Ask, AllocError>
 }
 
 /// Number 18 puts its content in italics, with the shortcodes in it replaced.
+#[inline(never)]
 fn replace_content(alloc: Global, content: &Text, answers: &[Answer]) -> Result<Reply, AllocError>
     ensures { IfOk result (λ reply. reply ≡ replaces_content content.now answers.now) }
 {
@@ -288,6 +294,7 @@ fn replace_content(alloc: Global, content: &Text, answers: &[Answer]) -> Result<
 }
 
 /// Number 23 lists the attributes of its shortcode.
+#[inline(never)]
 fn list_attributes(alloc: Global, atts: &Atts) -> Result<Reply, AllocError>
     ensures { IfOk result (λ reply. reply ≡ answers_text (attributes_listed atts.now)) }
 {
@@ -322,6 +329,7 @@ fn push_positional(text: &mut Text, values: &[String]) -> Result<(), AllocError>
 }
 
 /// Number 24 answers a link.
+#[inline(never)]
 fn link(alloc: Global, atts: &Atts) -> Result<Reply, AllocError>
     ensures { IfOk result (λ reply. reply ≡ answers_text (link atts.now)) }
 {
@@ -331,6 +339,7 @@ fn link(alloc: Global, atts: &Atts) -> Result<Reply, AllocError>
 }
 
 /// Number 25 asks one question after another, and then lists the answers.
+#[inline(never)]
 fn ask_in_turn(alloc: Global, answers: &[Answer]) -> Result<Reply, AllocError>
     ensures { IfOk result (λ reply. reply ≡ asks_in_turn answers.now) }
 {
@@ -358,6 +367,7 @@ fn ask_in_turn(alloc: Global, answers: &[Answer]) -> Result<Reply, AllocError>
 }
 
 /// Number 26 asks what its own hook makes of one `d` fewer, and on `spin` asks without end.
+#[inline(never)]
 fn go_deeper(alloc: Global, value: &str, answers: &[Answer]) -> Result<Reply, AllocError>
     ensures { IfOk result (λ reply. reply ≡ goes_deeper value.now answers.now) }
 {
@@ -396,6 +406,7 @@ fn in_parentheses(alloc: Global, shorter: &str, answers: &[Answer]) -> Result<Re
 }
 
 /// Number 29 fires the action `ping` and says how often it was fired.
+#[inline(never)]
 fn count_pings(alloc: Global, answers: &[Answer]) -> Result<Reply, AllocError>
     ensures { IfOk result (λ reply. reply ≡ counts_pings answers.now) }
 {

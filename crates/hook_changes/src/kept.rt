@@ -37,6 +37,7 @@ impl Model for Text {
 
 /// Written out, so that all who own a text call this drop, and no proof tells apart how a text is held.
 impl Drop for Text {
+    #[inline]
     fn drop(self) {
         let Text { alloc: _, held: _ } = self;
     }
@@ -81,6 +82,7 @@ impl Text {
     }
 
     /// Borrows the text.
+    #[inline]
     pub fn as_str(&self) -> &str
         ensures { result.now ≡ self.now }
     {
@@ -93,16 +95,44 @@ impl Text {
 
     /// Appends a text. A text that shares its memory gets memory of its own first. On allocation failure nothing is
     /// appended.
+    #[inline(always)]
     pub fn push_str(&mut self, text: &str) -> Result<(), AllocError>
         ensures ok { OnOk result (self.new ≡ self.old ++ text.now) }
         ensures err { OnErr result (self.new ≡ self.old) }
     {
-        if let Held::Own(own) = &mut self.held {
-            return own.push_str(text);
+        match &mut self.held {
+            Held::Own(own) => own.push_str(text),
+            Held::Shared(_) | Held::Core(_) => self.push_to_copy(text),
         }
+    }
+
+    /// Gives the text memory of its own, and appends a text. On allocation failure nothing changes.
+    #[inline(never)]
+    fn push_to_copy(&mut self, text: &str) -> Result<(), AllocError>
+        ensures ok { OnOk result (self.new ≡ self.old ++ text.now) }
+        ensures err { OnErr result (self.new ≡ self.old) }
+    {
         let joined = joined(self.alloc, self.as_str(), text)?;
         self.held = Held::Own(joined);
         Ok(())
+    }
+
+    /// Replaces the text by a copy of another, in the memory that it has of its own. On allocation failure it is the
+    /// text before, or empty.
+    #[inline]
+    pub fn rewrite(&mut self, text: &str) -> Result<(), AllocError>
+        ensures { OnOk result (self.new ≡ text.now) }
+    {
+        match &mut self.held {
+            Held::Own(own) => {
+                own.clear();
+                own.push_str(text)
+            }
+            Held::Shared(_) | Held::Core(_) => {
+                self.held = Held::Own(String::from_str(self.alloc, text)?);
+                Ok(())
+            }
+        }
     }
 
     /// Lets copies of the text share its memory, so that a copy doesn't allocate. On allocation failure the text is
@@ -141,6 +171,7 @@ fn joined(alloc: Global, text: &str, more: &str) -> Result<String, AllocError>
 
 /// A text that shares its memory, or has none, is copied without allocating.
 impl Clone for Text {
+    #[inline]
     fn clone(&self) -> Result<Self, AllocError>
         ensures { IfOk result (λ text. text ≡ self.now) }
     {

@@ -1,7 +1,6 @@
 -- The innermost frame of a stopped run.
-use Rattle.std.proofs.Common.{◌≡◌, true, false, List, [], ◌∷◌, Option, None, Some, refl, subst}
+use Rattle.std.proofs.Common.{◌≡◌, false, List, [], ◌∷◌, Option, None, Some, refl, subst}
 use Rattle.std.specs.Prelude.{is_some, slice_get}
-use Rattle.hook_changes.specs.declared.reply.Call.{Call}
 use Rattle.hook_machine.specs.declared.frame.Invoked.{Invoked}
 use Rattle.hook_machine.specs.declared.frame.Pending.{Pending}
 use Rattle.hook_machine.specs.declared.frame.Frame.{Frame}

@@ -1,6 +1,7 @@
 //! The frames of a stopped run. What a pass and an invocation have is on the heap, so that moving one moves a pointer.
 ghost use Rattle.std.specs.Prelude.{◌≡◌, ◌++◌, ◌∷◌, [], IfOk, OnOk, take};
 ghost use Rattle.std.specs.Prelude.{List, ℕ};
+ghost use Rattle.shortcode_atts.specs.Attributes.{attributes};
 ghost use Rattle.call_plans.specs.Position.{next_entry};
 ghost use Rattle.hook_machine.specs.Calls.{shortcode_call};
 ghost use Rattle.hook_machine.specs.Meaning.{value_after, hook_call, arguments, first_or_empty};
@@ -14,7 +15,6 @@ use crate::state::State;
 use call_plans::Position;
 use hook_changes::{Answer, Call, CallbackId, Listed, Text, Then};
 use hook_registry::{Entry, Priority};
-use shortcode_atts::Atts;
 use std::alloc::{AllocError, Global};
 use std::marker::Model;
 use std::mem;
@@ -118,6 +118,7 @@ impl HookPass {
     }
 
     /// Hands the pass a callback's answer.
+    #[inline]
     pub fn hand(&mut self, alloc: Global, answer: Text)
         ensures { self.new ≡ record self.old { value = value_after self.old.kind self.old.value answer } }
     {
@@ -222,17 +223,18 @@ impl Invoked {
         take_first_argument(alloc, &mut self.parts.call)
     }
 
-    /// Makes this the invocation of a shortcode's handler. Its call reuses the texts of the call before.
+    /// Makes this the invocation of a shortcode's handler, given the text of its attributes. Its call reuses the texts
+    /// of the call before.
     pub fn set_handler_call(
         &mut self,
         alloc: Global,
         handler: CallbackId,
         tag: &str,
-        atts: Atts,
+        atts: &str,
         content: &str,
     ) -> Result<(), AllocError>
         ensures callback { OnOk result (self.new.callback ≡ handler) }
-        ensures call { OnOk result (self.new.call ≡ shortcode_call tag.now atts content.now) }
+        ensures call { OnOk result (self.new.call ≡ shortcode_call tag.now (attributes atts.now) content.now) }
     {
         self.parts.callback = handler;
         fill_handler(alloc, &mut self.parts.call, tag, atts, content)

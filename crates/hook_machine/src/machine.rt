@@ -8,6 +8,7 @@ use hook_changes::{Answer, Call, CallbackId, Listed, Reply, Text, Then};
 use std::alloc::{AllocError, Global};
 
 /// Returns the reply of a callback; a number that no plugin has answers empty text and does nothing else.
+#[inline]
 pub fn reply_of<S: Stated>(
     plugins: &Plugins<S>,
     alloc: Global,

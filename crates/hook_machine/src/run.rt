@@ -161,7 +161,8 @@ impl<'a, S: Stated> Run<'a, S> {
     ghost use Rattle.hook_machine.specs.Trace.{Done};
     ghost use Rattle.hook_machine.specs.Moves.{Leads, Turns, TurnsBy};
     ghost use Rattle.hook_machine.specs.Jobs.{job_left};
-    ghost use Rattle.hook_machine.specs.Runs.{world_of, fault_of, engine_of, left_of, left_in, CanBegin, IsIdle, IsIdleAtEnd};
+    ghost use Rattle.hook_machine.specs.Runs.{world_of, fault_of, engine_of, left_of, left_in};
+    ghost use Rattle.hook_machine.specs.Runs.{CanBegin, IsIdle, IsIdleAtEnd};
     ghost use Rattle.hook_machine.specs.Runs.{Keeps, paused_world, paused_left, IsPausedIdle};
 
     /// Makes a run with nothing registered and nothing printed, of a site with these active plugins and options, that

@@ -170,6 +170,14 @@ impl Registry {
         self.tags.get(tag)
     }
 
+    /// Returns the handler of a tag, as [`Registry::tag`] does. The tag at a place among all, counted from 0, is tried
+    /// first, and the place becomes that of the tag found: the shortcodes of a text often have one name.
+    pub fn tag_near(&self, tag: &str, place: &mut usize) -> Option<CallbackId>
+        ensures { result ≡ value_of self.now.tags tag.now }
+    {
+        self.tags.get_near(tag, place)
+    }
+
     /// Returns the tags, in the order in which they were first added.
     pub fn tag_names(&self) -> Result<Vec<TagName>, AllocError>
         ensures { IfOk result (λ names. names.items ≡ map (λ p. p.0) self.now.tags) }
