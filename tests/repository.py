@@ -1,6 +1,9 @@
 """What the scripts of this folder know of the repository: its crates, what each depends on and what it is made from."""
 
+import contextlib
+import fcntl
 import hashlib
+import os
 from pathlib import Path
 
 ROOT = Path(__file__).resolve().parent.parent
@@ -45,3 +48,14 @@ def sum_of(folder, parts):
     for path in sorted(it for part in parts for it in Path(folder, part).rglob("*") if it.is_file()):
         found.update(f"{path.relative_to(folder)}\0".encode() + path.read_bytes() + b"\0")
     return found.hexdigest()
+
+
+@contextlib.contextmanager
+def locked(folder):
+    """Holds a folder, until the block ends: whoever else asks for it waits, in another thread or in another process."""
+    held = os.open(folder, os.O_RDONLY)
+    try:
+        fcntl.flock(held, fcntl.LOCK_EX)
+        yield
+    finally:
+        os.close(held)

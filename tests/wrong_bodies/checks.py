@@ -5,23 +5,20 @@ import re
 import shutil
 import subprocess
 import tempfile
-import threading
+from typing import NamedTuple
 
+from repository import locked
 from toolchain import ToolchainFault, load
 
 # A function's verdict, as `fn hook_changes::kept::Text::new: not proved`.
 VERDICT = re.compile(r"^fn ([\w:+]+): (.*)$", re.M)
-# The message of an error: a long sentence goes on in indented lines.
-WHY = r"error: (.*(?:\n  .*)*)$"
-# A goal or an answer that failed, as `./proofs/kept/Text/new/Answers.antt:5:13: error: ...`.
-ERROR = re.compile(r"^(?:\./)?proofs/(\S+)/\w+\.antt:\d+:\d+: " + WHY, re.M)
-# A lemma that failed, as `./proofs/Folding.antt:241:16: error: ...`.
-LEMMA = re.compile(r"^(?:\./)?proofs/\w+\.antt:\d+:\d+: " + WHY, re.M)
-# The messages for an answer that names what isn't there, and for what only cites a failed one.
-ONLY_A_NAME = re.compile(r"has no field|is not in scope|has no `|that can be named|not admitted|not checked")
+# An error in what is written of a function's proof, as `./proofs/kept/Text/new/Answers.antt:5:13: error: ...`: a long
+# sentence goes on in indented lines.
+ERROR = re.compile(r"^(?:\./)?(proofs/(\S+)/\w+\.antt):(\d+):\d+: error: (.*(?:\n  .*)*)$", re.M)
 NO_FUNCTION = re.compile(r"has no function `([\w:+]+)`")
 LAST_LINE = re.compile(r"^(logic=|only=)", re.M)
-UNANSWERED = re.compile(r"no proof: expected answers in \S+; `search` did not prove (.*)")
+# The goals that `search` tried and did not prove: what else the verdict says is of the functions that are called.
+UNPROVED = re.compile(r"no proof: expected answers in \S+; `search` did not prove ((?:`[^`]*`(?:, )?)+)")
 
 
 class Rejected(Exception):
@@ -32,39 +29,38 @@ class NoFunction(Rejected):
     """The crate has no function of the name that an edit says it turns."""
 
 
-class Said:
-    """What a check reported: the verdict on each function, and the errors."""
+class Fault(NamedTuple):
+    """An error in a function's proof: the file, the line, counted from 1, and what was said."""
 
-    def __init__(self, crate, text):
-        self.crate = crate
+    file: str
+    line: int
+    said: str
+
+
+class Said:
+    """What a check reported: the verdict on each function, and the errors in what is written of its proof."""
+
+    def __init__(self, text):
         self.verdicts = dict(VERDICT.findall(text))
         self.errors = {}
-        for folder, error in ERROR.findall(text):
-            self.errors.setdefault(folder.replace("/", "::"), []).append(error)
-        self.lemmas = LEMMA.findall(text)
+        for file, folder, line, error in ERROR.findall(text):
+            self.errors.setdefault(folder.replace("/", "::"), []).append(Fault(file, int(line), error))
 
     def verdict(self, edit):
         return self.verdicts.get(f"{edit.crate}::{edit.turns}")
 
     def goals(self, edit):
-        """The goals of the turned function that failed; of a recursion, which has one proof, those of all of it.
+        """The names of the turned function's goals that `search` tried and did not prove.
 
-        A law is proved by lemmas, so of an edit that turns what a law says those count that failed."""
+        A goal that is answered isn't among them: where the answer fails, that tells nothing of the goal."""
+        unproved = UNPROVED.match(self.verdict(edit) or "")
+        return re.findall("`([^`]*)`", unproved[1]) if unproved else []
+
+    def faults(self, edit):
+        """The errors in the turned function's proof; of a recursion, which has one proof, those of all of it."""
         if edit.cycle is not None:
             return [it for folder, of in self.errors.items() if folder.endswith(f"+{edit.cycle}") for it in of]
-        return self.errors.get(edit.turns, []) + ([] if edit.in_bodies else self.lemmas)
-
-    def refusal(self, edit):
-        """By what the edit's own function refuses it, or None if nothing shows that it does."""
-        shown = [it for it in self.goals(edit) if not ONLY_A_NAME.search(it)]
-        if shown:
-            return shown[0].splitlines()[0]
-        verdict = self.verdict(edit) or ""
-        unanswered = UNANSWERED.match(verdict)
-        if unanswered:
-            return f"not proved: {unanswered[1]}"
-        # What a proof file names in vain is said as an error above, and a callee after the word.
-        return verdict if verdict == "not proved" and not self.goals(edit) else None
+        return self.errors.get(edit.turns, [])
 
 
 class Toolchain:
@@ -75,7 +71,6 @@ class Toolchain:
         self.guard = self.rtlib.guarded()
         with open(os.path.join(self.rtlib.KIT, "KIT-ID"), "rb") as file:
             self.identity = file.read()
-        self.building = threading.Lock()
         # How many checks each crate had, and their seconds of a processor.
         self.spent = {}
 
@@ -86,7 +81,7 @@ class Toolchain:
     def build_below(self, crate):
         """Builds the libraries below a crate if they have changed, one at a time: other crates stand on them too."""
         for library in crate.below():
-            with self.building, tempfile.TemporaryFile("w+", errors="replace") as library.out:
+            with locked(library.folder), tempfile.TemporaryFile("w+", errors="replace") as library.out:
                 if library.build_rlib(["--jobs", "1"], anew=False):
                     library.out.seek(0)
                     raise ToolchainFault(f"its library {library.name} isn't proved:\n{library.out.read()}")
@@ -109,7 +104,7 @@ class Toolchain:
         if not LAST_LINE.search(said):
             missing = NO_FUNCTION.search(said)
             raise NoFunction(missing[1]) if missing else Rejected(first_error(said))
-        return Said(crate.name, said)
+        return Said(said)
 
     def run(self, name, words, folder):
         """What the prover says, on either stream; its seconds are counted to the crate's."""

@@ -6,6 +6,12 @@ from pathlib import Path
 NAME = re.compile(r"[A-Za-z0-9_-][A-Za-z0-9_.-]*\.edit")
 FUNCTION = re.compile(r"(\s*)(?:pub(?:\([a-z]+\))? )?(?:const )?fn (\w+)")
 CYCLE = re.compile(r"\s*#\[cycle\((\w+)\)\]")
+# The line that begins a declaration of a proof file, as `pub returns-in-Some : goal.returns-in-Some`.
+DECLARATION = re.compile(r"(?:(?:pub|abbrev|unfoldable) )*([^\s()]+) :")
+
+
+# The file that answers a function's goals.
+ANSWERS = "Answers.antt"
 
 
 class BadEdit(Exception):
@@ -25,9 +31,13 @@ class Edit:
         self.cycle = None
         self.bodies = set()
         self.in_bodies = True
+        # The answers that failed, by proof file the names of their declarations, and what was said of the first.
+        self.aside = {}
+        self.misfit = None
 
     def applied(self, texts, read):
-        """The texts with this edit made in them, or None if an old text isn't exactly once in its file.
+        """The texts with this edit made in them and its answers set aside, or None if an old text isn't exactly once in
+        its file.
 
         texts has the files that were changed already, by their paths; read gives the text of any other."""
         changed = dict(texts)
@@ -36,7 +46,21 @@ class Edit:
             if text.count(old) != 1:
                 return None
             changed[file] = text.replace(old, new)
+        for file, names in self.aside.items():
+            changed[file] = without(changed[file] if file in changed else read(file), names)
         return changed
+
+    def set_aside(self, faults, texts, read):
+        """Sets aside the answers in which errors lie, and says whether any was set aside that wasn't before.
+
+        texts and read give the files in which the errors were found, as at `applied`."""
+        before = {file: set(names) for file, names in self.aside.items()}
+        for fault in faults:
+            if Path(fault.file).name == ANSWERS:
+                text = texts[fault.file] if fault.file in texts else read(fault.file)
+                self.aside.setdefault(fault.file, set()).add(declared_at(text, fault.line))
+                self.misfit = self.misfit or fault.said.splitlines()[0]
+        return self.aside != before
 
 
 def parsed(crate, path):
@@ -61,6 +85,33 @@ def parsed(crate, path):
     if not pairs:
         raise BadEdit("it has no 'old:' and 'new:' pair")
     return Edit(crate, path.stem, turns[0], pairs)
+
+
+def declarations(text):
+    """The declarations of a proof file, as pairs of a name and lines; what is above the first has no name."""
+    found = [(None, [])]
+    for line in text.split("\n"):
+        begins = DECLARATION.match(line)
+        if begins:
+            found.append((begins[1], []))
+        found[-1][1].append(line)
+    return found
+
+
+def declared_at(text, line):
+    """The name of the declaration that a line of a proof file is part of, counted from 1, or None above the first."""
+    for name, lines in declarations(text):
+        if line <= len(lines):
+            return name
+        line -= len(lines)
+    return None
+
+
+def without(text, names):
+    """A proof file without the declarations of these names, or without any if what is above them is to go."""
+    if None in names:
+        return ""
+    return "\n".join(line for name, lines in declarations(text) if name not in names for line in lines)
 
 
 def function_around(text, at):

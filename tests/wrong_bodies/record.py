@@ -7,7 +7,8 @@ import tempfile
 import threading
 from pathlib import Path
 
-from repository import SOURCES, sum_of
+from exports import sum_of_exports
+from repository import SOURCES, locked, sum_of
 from rounds import try_edits
 
 HERE = Path(__file__).resolve().parent
@@ -16,12 +17,8 @@ FILE = HERE / "refused.txt"
 JUDGES = ("checks.py", "edits.py", "rounds.py")
 HEAD = """\
 # The wrong bodies that the prover has refused. Each line has a sum of all that the wrong body's check reads, its name, and
-# the goal that refused it. Written by tests/wrong_bodies/run, and by nobody else.
+# the clause, if it has a name, and the goal that refused it. Written by tests/wrong_bodies/run, and by nobody else.
 """
-
-
-# What else the verdict on a function says: which edits shared its check decides whether what it calls is proved.
-CALLEES = "; it calls "
 
 
 def hashed(*what):
@@ -46,9 +43,9 @@ class Record:
         return {label: (found, said) for found, label, said in words}
 
     def basis(self, crate):
-        """A sum of the toolchain, the judging part of this runner, and the sources of the crate and of all below it."""
-        files = [(it.name, sorted(it.of_kit), sum_of(it.folder, SOURCES)) for it in (*crate.below(), crate)]
-        return hashed(self.tools, files)
+        """A sum of the toolchain, the judging part of this runner, the crate's sources and what is read of those below."""
+        below = [(it.name, sorted(it.of_kit), sum_of_exports(it.folder)) for it in crate.below()]
+        return hashed(self.tools, below, crate.name, sorted(crate.of_kit), sum_of(crate.folder, SOURCES))
 
     @staticmethod
     def sum_of(basis, edit):
@@ -64,13 +61,13 @@ class Record:
         """Records of a crate's edits those that the verdicts refuse, drops those that they don't and those that aren't
         there any more, and writes the file."""
         found = {it.label: self.sum_of(basis, it) for it in edits}
-        with self.lock:
+        with self.lock, locked(self.path.parent):
             # (another run may have written what it saw of another crate)
             self.refusals = self.read()
             for refused, label, said in verdicts:
                 self.refusals.pop(label, None)
                 if refused:
-                    self.refusals[label] = found[label], said.partition(CALLEES)[0]
+                    self.refusals[label] = found[label], said
             for label in [it for it in self.refusals if it.partition("/")[0] == crate.name and it not in found]:
                 del self.refusals[label]
             self.write()

@@ -1,12 +1,15 @@
 """Rounds: which edits share a check, and what each check shows of them."""
 
+import re
 from pathlib import Path
 from typing import NamedTuple
 
 from checks import NoFunction, Rejected
 
-# How often an edit is tried in company before it is tried alone.
+# How often an edit is tried in company before it is tried alone, not counted what only sets answers aside.
 TRIES = 2
+# The clause that a goal's name says, as in `returns-in-Some-clause-value`.
+CLAUSE = re.compile(r"-clause-(\w+)")
 
 
 class Verdict(NamedTuple):
@@ -73,26 +76,39 @@ def try_round(toolchain, made, kept):
         return [pair for it in halves for pair in try_round(toolchain, it, kept)]
 
 
-def judged(edit, said, is_alone):
-    """An edit's verdict, or None if another round has to show it."""
+def refusal(edit, goals):
+    """What is said of an edit that goals refuse: with the names of the clauses that they are of, if there are any,
+    and with what was said of the first answer that was set aside."""
+    clauses = sorted({it for goal in goals for it in CLAUSE.findall(goal)})
+    by = f"{edit.turns}, clause{'s' * (len(clauses) > 1)} {', '.join(clauses)}" if clauses else edit.turns
+    named = ", ".join(f"`{it}`" for it in goals)
+    aside = f"; the answer that was set aside: {edit.misfit[:160]}" if edit.aside else ""
+    return f"refused by {by}: not proved: {named}{aside}"
+
+
+def judged(edit, said):
+    """An edit's verdict by what a check said, or None if that doesn't show one.
+
+    An edit is refused by the goals that the prover tried by itself and did not prove. An answer that fails shows
+    nothing: the goal may hold, and the answer not fit any more what the edit made of the goal."""
     if isinstance(said, Rejected):
         return Verdict(False, edit.label, f"BAD EDIT: the prover can't be asked: {said}")
-    refusal = said.refusal(edit)
-    if refusal:
-        return Verdict(True, edit.label, f"refused by {edit.turns}: {refusal[:160]}")
-    verdict = said.verdict(edit)
+    verdict, goals = said.verdict(edit), said.goals(edit)
     if verdict is None:
         return Verdict(False, edit.label, f"BAD EDIT: the check has no function {edit.turns}")
     if verdict == "proved":
         return Verdict(False, edit.label, f"NOT REFUSED: {edit.turns} is still proved")
-    if is_alone:
-        why = "; ".join(" ".join(it.split())[:200] for it in said.goals(edit)) or verdict
-        return Verdict(False, edit.label, f"NOT SHOWN: {edit.turns} is not proved, but by no goal of its contract: {why}")
-    return None
+    return Verdict(True, edit.label, refusal(edit, goals)) if goals else None
+
+
+def not_shown(edit, said):
+    why = "; ".join(" ".join(it.said.split())[:200] for it in said.faults(edit)) or said.verdict(edit)
+    return Verdict(False, edit.label, f"NOT SHOWN: {edit.turns} is not proved, but by no goal of its contract: {why}")
 
 
 def try_edits(toolchain, crate, edits, kept):
-    """Tries a crate's edits, in as few rounds as show them all."""
+    """Tries a crate's edits, in as few rounds as show them all. The answers of an edit's function that fail are set
+    aside for the next round, where the prover tries their goals by itself."""
     verdicts, tries = [], {it.label: 0 for it in edits}
     left = [it for it in edits if it.in_bodies]
     alone = [it for it in edits if not it.in_bodies]
@@ -100,11 +116,13 @@ def try_edits(toolchain, crate, edits, kept):
         made = round_of(crate, left or alone[:1])
         for edit, said in try_round(toolchain, made, kept):
             (left if edit in left else alone).remove(edit)
-            verdict = judged(edit, said, is_alone=len(made.edits) == 1)
-            tries[edit.label] += 1
+            verdict = judged(edit, said)
+            if verdict is None and not edit.set_aside(said.faults(edit), made.texts, made.read):
+                tries[edit.label] += 1
+                verdict = not_shown(edit, said) if len(made.edits) == 1 else None
             if verdict:
                 verdicts.append(verdict)
-            elif tries[edit.label] < TRIES:
+            elif edit.in_bodies and tries[edit.label] < TRIES:
                 left.append(edit)
             else:
                 alone.append(edit)

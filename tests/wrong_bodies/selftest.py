@@ -29,7 +29,7 @@ pub fn next(n: u16) -> u32
 
 use numbers::next;
 
-ghost use Rattle.std.specs.Prelude.{◌≡◌, ◌+◌};
+ghost use Rattle.std.specs.Prelude.{◌≡◌, ◌+◌, ◌≤◌, IfSome};
 
 /// Whether a number is one of the first nine after 0.
 pub fn is_digit(n: u8) -> bool
@@ -37,6 +37,15 @@ pub fn is_digit(n: u8) -> bool
 {
     let some = n > 0;
     some && n < 10
+}
+
+/// The number before another, if there is one.
+pub fn before(n: u8) -> Option<u8>
+    ensures less { IfSome result (λ less. less + 1 ≡ n) }
+    ensures within { IfSome result (λ less. less ≤ n) }
+{
+    let follows = n > 0;
+    if follows { Some(n - 1) } else { None }
 }
 
 /// The number after another.
@@ -55,7 +64,7 @@ pub fn third_after(n: u8) -> u32
 }
 """,
     "crates/sample/proofs/Lib.antt": "",
-    # This file names a goal by a local's name, as proof files do.
+    # These files name goals by a local's name, as proof files do.
     "crates/sample/proofs/is_digit/Answers.antt": """\
 use Rattle.std.proofs.Common.{rules}
 use Rattle.sample.proofs.is_digit.Goals as goal
@@ -63,14 +72,27 @@ use Rattle.sample.proofs.is_digit.Goals as goal
 pub returns-then-some : goal.returns-then-some
 returns-then-some c = search rules
 """,
+    "crates/sample/proofs/before/Answers.antt": """\
+use Rattle.std.proofs.Common.{arith, ◌≡◌, ◌+◌, ◌-◌}
+use Rattle.sample.proofs.before.Goals as goal
+
+pub returns-then-follows-clause-less : goal.returns-then-follows-clause-less
+returns-then-follows-clause-less c =
+    let same : c.args.n - 1 + 1 ≡ c.args.n = omega arith in
+    same
+""",
 }
 
-# The name of each edit, whether it must be refused, the function that it turns, and what becomes what.
+# The name of each edit, what must be said of it, the function that it turns, and what becomes what.
 EDITS = [
-    ("renames_a_local", False, "is_digit", {"    let some =": "    let any =", "    some && n": "    any && n"}),
-    ("is_let_through", False, "is_digit", {"    some && n < 10": "    some && n < 11"}),
-    ("counts_two", True, "after", {"    u16::from(n) + 1": "    u16::from(n) + 2"}),
-    ("means_the_same", False, "third_after", {"    1 + last": "    last + 1"}),
+    # A goal of another name, which holds: its answer names one that isn't there.
+    ("renames_a_local", "NOT REFUSED", "is_digit", {"    let some =": "    let any =", "    some && n": "    any && n"}),
+    ("is_let_through", "NOT REFUSED", "is_digit", {"    some && n < 10": "    some && n < 11"}),
+    # A goal that has become trivial: its answer is of what the goal was.
+    ("gives_up", "NOT REFUSED", "before", {"follows { Some(n - 1) }": "follows { None }"}),
+    ("is_no_less", "refused by before, clause less: not proved: ", "before", {"{ Some(n - 1) }": "{ Some(n) }"}),
+    ("counts_two", "refused by after: not proved: `returns`", "after", {"    u16::from(n) + 1": "    u16::from(n) + 2"}),
+    ("means_the_same", "NOT REFUSED", "third_after", {"    1 + last": "    last + 1"}),
 ]
 
 
@@ -103,6 +125,8 @@ def read(crate, stems):
 def tried(toolchain, crate, edits, record):
     """The verdicts on those edits that the record lacks."""
     untried = record.lacks(crate, edits)
+    if not untried:
+        return []
     toolchain.build_below(crate)
     with tempfile.TemporaryDirectory(prefix="wrong-bodies-") as kept:
         return try_and_record(toolchain, crate, edits, untried, kept, record)
@@ -111,13 +135,14 @@ def tried(toolchain, crate, edits, record):
 def verdicts_are_right(toolchain, crate, record):
     """Whether each edit gets the verdict that it must get, and the record has those that are refused."""
     edits = read(crate, [it[0] for it in EDITS])
-    wanted = {f"sample/{stem}": refused for stem, refused, _, _ in EDITS}
-    for refused, label, said in tried(toolchain, crate, edits, record):
-        yield Verdict(wanted.pop(label) == refused, f"self-test: {label}", said)
+    wanted = {f"sample/{stem}": said for stem, said, _, _ in EDITS}
+    for _, label, said in tried(toolchain, crate, edits, record):
+        yield Verdict(said.startswith(wanted.pop(label)), f"self-test: {label}", said)
     for label in wanted:
         yield Verdict(False, f"self-test: {label}", "no verdict")
     lacking = {it.label for it in record.lacks(crate, edits)}
-    yield Verdict(lacking == {f"sample/{it[0]}" for it in EDITS if not it[1]}, "self-test: record", "has what was refused")
+    unrefused = {f"sample/{stem}" for stem, said, _, _ in EDITS if not said.startswith("refused")}
+    yield Verdict(lacking == unrefused, "self-test: record", "has what was refused")
 
 
 def changed(path, old, new):
@@ -129,24 +154,26 @@ def changed(path, old, new):
 
 def changes_are_noticed(toolchain, crate, path):
     """Whether a refusal that the record at a path has isn't tried again, and is once something that it rests on has
-    changed: a body of the crate, the library below, the edit itself or the toolchain."""
+    changed: a body of the crate, a contract of the library below, the edit itself or the toolchain. A body below is
+    nothing that it rests on."""
     folder, below = Path(crate.folder), Path(crate.below()[0].folder)
     kit = [toolchain.identity]
-    changes = {
-        "and isn't tried again": lambda: None,
-        "after a change of another body": lambda: changed(folder / "src/lib.rt", "1 + last", "last + 1"),
-        "after a change of a library below": lambda: changed(below / "src/lib.rt", "1 + u32", "0 + 1 + u32"),
-        "after a change of the edit": lambda: changed(folder / "wrong-bodies/counts_two.edit", "(n) + 2", "(n) + 3"),
-        "after a change of the toolchain": lambda: kit.append(b"another kit"),
-    }
-    for at, (what, change) in enumerate(changes.items()):
+    changes = [
+        (False, "and isn't tried again", lambda: None),
+        (True, "after a change of another body", lambda: changed(folder / "src/lib.rt", "1 + last", "last + 1")),
+        (False, "after a change of a body below", lambda: changed(below / "src/lib.rt", "1 + u32", "0 + 1 + u32")),
+        (True, "after a change of a contract below", lambda: changed(below / "src/lib.rt", "≡ n + 1", "≡ 1 + n")),
+        (True, "after a change of the edit", lambda: changed(folder / "wrong-bodies/counts_two.edit", "(n) + 2", "(n) + 3")),
+        (True, "after a change of the toolchain", lambda: kit.append(b"another kit")),
+    ]
+    for again, what, change in changes:
         change()
         record = Record(path, kit[-1])
         edits = read(crate, ["counts_two"])
         verdicts = tried(toolchain, crate, edits, record)
-        well = len(verdicts) == (at > 0) and all(it.refused for it in verdicts)
+        well = len(verdicts) == again and all(it.refused for it in verdicts)
         well = well and not Record(path, kit[-1]).lacks(crate, edits)
-        yield Verdict(well, "self-test: a refusal is recorded", f"{what}{', tried again' if at else ''}")
+        yield Verdict(well, "self-test: a refusal is recorded", f"{what}{', tried again' if again else ''}")
 
 
 def self_test(toolchain):
