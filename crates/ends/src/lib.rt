@@ -5,6 +5,7 @@
 //! and writers of `std`.
 #![tactic(auto)]
 
+mod journal;
 mod over_std;
 mod pieces;
 
@@ -12,6 +13,7 @@ ghost use Rattle.std.specs.Prelude.{◌≡◌, ℕ, ◌<◌, ◌||◌, List, Boo
 ghost use Rattle.std.specs.Io.{ReadsAtMost, WritesAtMost};
 ghost use Rattle.std.specs.Io.KnownBytes.{ReadConsumes, WriteAppends};
 
+pub use journal::{Journal, Message};
 pub use over_std::{Reading, Writing};
 pub use pieces::{write_all, write_pieces};
 use thiserror::Error;

@@ -1,4 +1,8 @@
 pub mod LineLists
+pub mod Histories
+pub mod Journals
+pub mod LastLines
+pub mod Settling
 pub mod Streams
 pub mod Endings
 pub mod Pages

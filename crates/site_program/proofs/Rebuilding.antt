@@ -2,8 +2,8 @@
 use Rattle.std.proofs.Common.{◌≡◌, inl, inr, ℕ, ◌≤◌, ◌∙◌, List, [], ◌∷◌, ◌++◌, Option, Some, true, false, refl, sym, subst, ap, length}
 use Rattle.std.specs.Prelude.{◌&&◌}
 use Rattle.std.proofs.lemmas.Bool.{cond_both, both_ways, and_parts}
-use Rattle.std.proofs.lemmas.List.{length-map, map-append}
-use Rattle.std.proofs.lemmas.List.Elements.{All-head, All-tail, filter-append}
+use Rattle.std.proofs.lemmas.List.{length-map}
+use Rattle.std.proofs.lemmas.List.Elements.{All-head, All-tail}
 use Rattle.std.proofs.lemmas.List.Sums.{length-filter, count_by-le-length}
 use Rattle.hook_machine.specs.Meaning.{Engine}
 use Rattle.site_commands.specs.Asked as asked
@@ -129,9 +129,6 @@ module _ (engine : Engine) (calls : ℕ) (limit : Option ℕ) where
         ∙ replies-rebuilt new replied served
 
 -- ---- lines and further lines
-
-pub history-append : (before after : List Replied) → history (before ++ after) ≡ history before ++ history after
-history-append before after = ap lines_in (filter-append is_kept before after) ∙ map-append (λ r. r.line) (kept before) (kept after)
 
 pub length-history : (replied : List Replied) → length (history replied) ≤ length replied
 length-history replied = simp (length-map, length-filter) (count_by-le-length is_kept replied)

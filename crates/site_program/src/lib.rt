@@ -8,6 +8,7 @@ mod changes;
 mod history;
 mod kept_finds;
 mod laws;
+mod line_reply;
 mod page;
 mod serve;
 mod settings;
@@ -19,7 +20,7 @@ mod stored;
 mod templates;
 mod watched;
 
-pub use ends::{EndFault, Reading, Sink, Source, Writing};
+pub use ends::{EndFault, Journal, Message, Reading, Sink, Source, Writing};
 pub use history::{
     a_copy_agrees, history_goes_on_over_a_copy, history_rebuilds_the_site,
     kept_lines_are_enough_ever, replies_are_written, sites_of_one_history_agree,

@@ -3,6 +3,7 @@ ghost use Rattle.std.specs.Prelude.{◌≡◌, ◌≤◌, IfOk};
 ghost use Rattle.site_commands.specs.Asked.{asked_by};
 ghost use Rattle.site_replies.specs.Reply.{reply_data};
 
+use crate::line_reply::{LineReply, is_done, is_edit};
 use crate::setup::Setup;
 use crate::state::SiteState;
 use crate::stored::Stored;
@@ -97,7 +98,7 @@ impl<'p, S: Stated> Site<'p, S> {
         ensures setup { setup_of self.new ≡ setup_of self.old }
         ensures cache { cache_of self.new ≡ cache_of self.old }
     {
-        self.setup.command(&mut self.state, line, &mut Unwatched)
+        self.setup.command(&mut self.state, line, &mut Unwatched).reply
     }
 }
 
@@ -107,27 +108,29 @@ impl<'p, S: Stated> Setup<'p, S> {
     ghost use Rattle.site_replies.specs.Reply.{refused};
     ghost use Rattle.site_program.specs.Site.{engine_of, calls_of, seen_by};
     ghost use Rattle.site_program.specs.Step.{IsReply, steps_of, carried_out};
-    ghost use Rattle.site_program.specs.Carried.{CarriesOn};
+    ghost use Rattle.site_program.specs.Carried.{CarriesOn, reply_in};
+    ghost use Rattle.site_program.specs.History.{is_kept};
     ghost use Rattle.site_commands.specs.Worked.{line_command};
 
-    /// Carries out one line over a site's state.
+    /// Carries out one line over a site's state, and says beside its reply whether the history has it.
     #[tactic(auto, using(crate::proofs::Carrying::left_rows, crate::proofs::Carrying::left_limit))]
     pub(crate) fn command<V: Watch>(
         &self,
         state: &mut SiteState,
         line: &[u8],
         watch: &mut V,
-    ) -> SiteReply
+    ) -> LineReply
         ensures replies { IsReply (steps_of S.says S.number self.now) (seen_by S.says S.number self.now state.old)
-            line.now (reply_data result) (seen_by S.says S.number self.now state.new) }
-        ensures refused { (r : Refusal) → reply_data result ≡ refused r → state.new.stored ≡ state.old.stored }
+            line.now (reply_data result.reply) (seen_by S.says S.number self.now state.new) }
+        ensures kept { result.is_kept ≡ is_kept (record { line = line.now; reply = reply_data result.reply }) }
+        ensures refused { (r : Refusal) → reply_data result.reply ≡ refused r → state.new.stored ≡ state.old.stored }
         ensures limit { state.new.stored.step_limit ≡ state.old.stored.step_limit }
         ensures cache { state.new.cache ≡ state.old.cache }
     {
         match self.try_command(state, line, watch) {
             Ok(reply) => reply,
-            Err(StoreFault::OutOfMemory) => SiteReply::Refused(Refusal::OutOfMemory),
-            Err(StoreFault::Store) => SiteReply::Refused(Refusal::Store),
+            Err(StoreFault::OutOfMemory) => LineReply::refused(Refusal::OutOfMemory),
+            Err(StoreFault::Store) => LineReply::refused(Refusal::Store),
         }
     }
 
@@ -138,18 +141,27 @@ impl<'p, S: Stated> Setup<'p, S> {
         state: &mut SiteState,
         line: &[u8],
         watch: &mut V,
-    ) -> Result<SiteReply, StoreFault>
+    ) -> Result<LineReply, StoreFault>
         ensures carried { CarriesOn (line_command line.now) (seen_by S.says S.number self.now state.old)
             (steps_of S.says S.number self.now (seen_by S.says S.number self.now state.old) line.now)
-            result (seen_by S.says S.number self.now state.new) }
+            (reply_in result) (seen_by S.says S.number self.now state.new) }
+        ensures kept { IfOk result (λ r. r.is_kept
+            ≡ is_kept (record { line = line.now; reply = reply_data r.reply })) }
         ensures cache { state.new.cache ≡ state.old.cache }
     {
         let Some(tree) = read_line(self.alloc, line)? else {
-            return Ok(SiteReply::Refused(Refusal::BadCommand));
+            return Ok(LineReply::refused(Refusal::BadCommand));
         };
-        match read_command(&tree) {
-            Some(command) => self.carry_out(state, command, watch),
-            None => Ok(SiteReply::Refused(Refusal::BadCommand)),
+        let Some(command) = read_command(&tree) else {
+            return Ok(LineReply::refused(Refusal::BadCommand));
+        };
+        let edits = is_edit(command);
+        match self.carry_out(state, command, watch) {
+            Ok(reply) => Ok(LineReply {
+                is_kept: edits && is_done(&reply),
+                reply,
+            }),
+            Err(fault) => Err(fault),
         }
     }
 

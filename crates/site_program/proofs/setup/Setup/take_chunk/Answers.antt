@@ -1,151 +1,31 @@
-use Rattle.std.proofs.Common.{rules, arith, ◌≡◌, ◌⊎◌, ◌-◌, ◌<◌, ◌≤◌, [], ◌∷◌, ◌++◌, refl, inl, inr, sym, ap, ◌∙◌, Err, length, length-append, take}
-use Rattle.std.proofs.lemmas.Grind.{common_steps}
-use Rattle.std.proofs.KnownBytes.{Appends-nil}
-use Rattle.site_program.specs.Lines.{IsLine, max_line}
-use Rattle.site_program.specs.Stream.{IsTooLong}
-use Rattle.site_program.proofs.Streams.{Takes-nil, Takes-held, Takes-line, on_every_ok, sound_without_memory, IsLine-nil, IsLine-before, IsLine-whole}
-use Rattle.site_program.proofs.Streams.{IsTooLong-before, IsTooLong-whole, whole_line, fault_at, FaultsAt-finish, some_of, no_newline_found}
-use Rattle.std.proofs.lemmas.Result.{err_from_is_err_and, IfOk-weaker, IfErr-weaker}
+use Rattle.std.proofs.lemmas.Result.{IfErr-weaker}
+use Rattle.site_program.specs.Step.{steps_of}
+use Rattle.site_program.proofs.Settling.{stopped_of, chunk_fault, chunk_records, chunk_stopped, opened_by}
+use Rattle.site_program.proofs.Journals.{Stopped-at}
 use Rattle.site_program.proofs.setup.Setup.take_chunk.Goals as goal
-use Rattle.site_program.proofs.setup.Setup.take_chunk.Goals.{then-left-eq0-via-then-left-eq0, then-left-eq0-via-else-left-eq0+then-end-len}
-use Rattle.site_program.proofs.setup.Setup.take_chunk.Goals.{then-left-eq0-2-via-then-left-eq0-2, then-left-eq0-2-via-else-left-eq0-2+then-rest-len}
 
--- a line too many, or one too long
-pub returns-then-left-eq0-clause-err : goal.returns-then-left-eq0-clause-err
-returns-then-left-eq0-clause-err g c =
-    let i = c.loop-end.invariant in
-    let held = c.loop-end.held.items in
-    let rest = c.loop-end.rest.now in
-    let found = c.in-Some.ensures in
-    let some : 0 < length (held ++ rest) = let high = found.0.high in simp length-append (omega arith) in
-    let past : (c.loop-end.left ≡ 0) ⊎ IsTooLong (held ++ rest) =
-    elim c.then-left-eq0.branch [
-      | then-left-eq0-via-then-left-eq0 w ↦ inl (search rules)
-      | then-left-eq0-via-else-left-eq0+then-end-len w ↦ let same = c.loop-end.held.ok.0 in inr
-          (IsTooLong-before held rest c.in-Some.end i.line found (omega (arith, same)))
-    ] in
-    fault_at _ _ _ _ _ _ _ _ _ _ _ _ _ _ i.taken i.whole (refl, Appends-nil _, some, past)
-
-pub returns-then-left-eq0-2-clause-err : goal.returns-then-left-eq0-2-clause-err
-returns-then-left-eq0-2-clause-err g c =
-    let i = c.loop-end.invariant in
-    let held = c.loop-end.held.items in
-    let rest = c.loop-end.rest.now in
-    let more : 0 < length rest = some_of (length rest) (sym c.is_empty.ensures ∙ c.if-is_empty.false) in
-    let some : 0 < length (held ++ rest) = simp length-append (omega arith) in
-    let none = no_newline_found rest c.memchr.result c.memchr.ensures c.in_default.not-Some in
-    let past : (c.loop-end.left ≡ 0) ⊎ IsTooLong (held ++ rest) =
-    elim c.then-left-eq0-2.branch [
-      | then-left-eq0-2-via-then-left-eq0-2 w ↦ inl (search rules)
-      | then-left-eq0-2-via-else-left-eq0-2+then-rest-len w ↦ let same = c.loop-end.held.ok.0 in inr
-          (IsTooLong-whole held rest i.line none (omega (arith, same)))
-    ] in
-    fault_at _ _ _ _ _ _ _ _ _ _ _ _ _ _ i.taken i.whole (refl, Appends-nil _, some, past)
-
--- the line is carried out, and its newline goes
-pub loop-end-preserved : goal.loop-end-preserved
-loop-end-preserved g c =
-    let i = c.loop-end.invariant in
-    let held = c.loop-end.held.items in
-    let rest = c.loop-end.rest.now in
-    let end = c.in-Some.end in
-    let found = c.in-Some.ensures in
-    let ok = c.in_ok-finish_line.ensures.ok in
-    let same = c.loop-end.held.ok.0 in
-    let fits : end ≤ max_line - length held = omega (arith, same) in
-    let room : 0 < c.loop-end.left = omega arith in
-    let line : IsLine (held ++ take end rest) = IsLine-before held rest (take end rest) end refl i.line found fits in
-    record {
-      stretch = i.stretch ++ (take end rest ++ 10 ∷ []);
-      whole = whole_line i.stretch rest _ (take end rest) _ end refl (grind (arith, common_steps)) found i.whole;
-      taken = rw c.in_ok-finish_line.ensures.empty (Takes-line _ _ _ _ _ _ _ _ _ _ _ _ ok.0 i.taken line room ok.1 ok.2);
-      line = rw c.in_ok-finish_line.ensures.empty IsLine-nil;
-      room = rw c.in_ok-finish_line.ensures.empty (λ h. absurd (omega arith));
-      sound = search rules;
-      limit = c.in_ok-finish_line.ensures.limit ∙ i.limit;
-      cache = c.in_ok-finish_line.ensures.cache ∙ i.cache;
-    }
-
--- memory ran out at the line, or its reply was not written
-pub returns-in_err-finish_line-clause-err : goal.returns-in_err-finish_line-clause-err
-returns-in_err-finish_line-clause-err g c =
-    let i = c.loop-end.invariant in
-    let held = c.loop-end.held.items in
-    let rest = c.loop-end.rest.now in
-    let end = c.in-Some.end in
-    let found = c.in-Some.ensures in
-    let same = c.loop-end.held.ok.0 in
-    let fits : end ≤ max_line - length held = omega (arith, same) in
-    let line : IsLine (held ++ take end rest) = IsLine-before held rest (take end rest) end refl i.line found fits in
-    let err = c.in_err-finish_line.ensures in
-    let p = err_from_is_err_and c.from_residual.result c.from_residual.ensures.1 in
-    let faults = FaultsAt-finish _ _ _ _ held rest _ _ _ _ _ refl found line (omega arith) err.only (λ e. err.write (ap Err e)) (λ e. err.memory (ap Err e)) in
-    rw (p.1, p.2) (fault_at _ _ _ _ _ _ _ _ _ _ _ _ _ _ i.taken i.whole faults)
-
--- what follows the last newline is held, or memory for it ran out
-pub returns-clause-ok : goal.returns-clause-ok
-returns-clause-ok g c =
-    let i = c.loop-end.invariant in
-    IfOk-weaker c.hold.result _ _ (λ nothing e. rw e (Takes-held _ _ _ _ _ _ _ _ _ _ _ i.taken i.whole)) c.hold.ensures.ok
-
-pub returns-clause-line : goal.returns-clause-line
-returns-clause-line g c =
-    let i = c.loop-end.invariant in
-    let same = c.loop-end.held.ok.0 in
-    let none = no_newline_found c.loop-end.rest.now c.memchr.result c.memchr.ensures c.in_default.not-Some in
-    let whole = IsLine-whole c.loop-end.held.items c.loop-end.rest.now i.line none (omega (arith, same)) in
-    IfOk-weaker c.hold.result _ _ (λ nothing e. rw e whole) c.hold.ensures.ok
-
-pub returns-clause-room : goal.returns-clause-room
-returns-clause-room g c = on_every_ok c.hold.result (λ some. omega arith)
+-- no line was carried out, so nothing waits
+pub returns-then-left-before-clause-stopped : goal.returns-then-left-before-clause-stopped
+returns-then-left-before-clause-stopped g c =
+    let e = c.take_lines-taken.ensures in
+    stopped_of c.take_lines-taken.result e.stopped
+        (IfErr-weaker c.take_lines-taken.result _ _ (λ fault w other. Stopped-at _ _ _ _ _ _ _ _ (w other).2) e.waits)
 
 pub returns-clause-err : goal.returns-clause-err
 returns-clause-err g c =
-    let i = c.loop-end.invariant in
-    let held = c.loop-end.held.items in
-    let rest = c.loop-end.rest.now in
-    let more : 0 < length rest = some_of (length rest) (sym c.is_empty.ensures ∙ c.if-is_empty.false) in
-    let some : 0 < length (held ++ rest) = simp length-append (omega arith) in
-    IfErr-weaker c.hold.result _ _ (λ fault is. rw is (fault_at _ _ _ _ _ _ _ _ _ _ _ _ _ _ i.taken i.whole (refl, Appends-nil _, some))) c.hold.ensures.err
+    let e = c.take_lines-taken.ensures in
+    let s = c.settled.ensures in
+    chunk_fault g.W.Journal _ _ _ _ _ _ _ c.args.writer.now c.take_lines-taken.new.writer c.settled.new.writer _ _ s.result e.ok e.err e.waits s.contents c.if-left-before.false
 
-pub returns-clause-failed : goal.returns-clause-failed
-returns-clause-failed g c = sound_without_memory c.hold.result _ c.loop-end.invariant.sound c.hold.ensures.err
+pub returns-clause-records : goal.returns-clause-records
+returns-clause-records g c =
+    let e = c.take_lines-taken.ensures in
+    let s = c.settled.ensures in
+    chunk_records g.W.Journal _ _ _ _ _ c.args.writer.now c.take_lines-taken.new.writer c.settled.new.writer _ _ s.result e.records s.out s.contents s.noted
+        (λ up. opened_by g.W.Journal (steps_of g.S.Stated.says g.S.Stated.number c.args.self.now) c.settled.new.writer c.settled.result (s.settled up))
 
--- nothing was taken yet
-pub loop-end-init : goal.loop-end-init
-loop-end-init g c = record {
-  stretch = c.args.held.now.items;
-  whole = refl;
-  taken = Takes-nil _ _ _ _ _;
-  line = c.requires.line;
-  room = c.requires.room;
-  sound = c.requires.whole;
-  limit = refl;
-  cache = refl;
-}
-
--- what is held leaves room within a line
-pub overflow_sub-len : goal.overflow_sub-len
-overflow_sub-len g c =
-    let short = c.loop-end.invariant.line.short in
-    let same = c.loop-end.held.ok.0 in
-    omega (arith, short, same)
-
-pub overflow_sub-len-else-left-eq0-2 : goal.overflow_sub-len-else-left-eq0-2
-overflow_sub-len-else-left-eq0-2 g c =
-    let short = c.loop-end.invariant.line.short in
-    let same = c.loop-end.held.ok.0 in
-    omega (arith, short, same)
-
-pub finish_line-requires-clause-short : goal.finish_line-requires-clause-short
-finish_line-requires-clause-short g c =
-    let held = c.loop-end.held.items in
-    let rest = c.loop-end.rest.now in
-    let end = c.in-Some.end in
-    let same = c.loop-end.held.ok.0 in
-    let fits : end ≤ max_line - length held = omega (arith, same) in
-    let line : IsLine (held ++ take end rest) = IsLine-before held rest (take end rest) end refl c.loop-end.invariant.line c.in-Some.ensures fits in
-    line.short
-
-pub loop-end-smaller : goal.loop-end-smaller
-loop-end-smaller g c = grind (arith, common_steps)
+pub returns-clause-stopped : goal.returns-clause-stopped
+returns-clause-stopped g c =
+    let e = c.take_lines-taken.ensures in
+    let s = c.settled.ensures in
+    chunk_stopped g.W.Journal _ _ _ _ _ _ _ c.args.writer.now c.take_lines-taken.new.writer c.settled.new.writer _ _ e.records e.stopped e.waits s.same s.out s.contents
