@@ -4,6 +4,7 @@ A page makes passes, a pass runs callbacks, and a callback may ask for further p
 invocation, in order; this puts them back into that shape.
 """
 
+import html
 import json
 from typing import NamedTuple
 
@@ -15,6 +16,20 @@ SHORTCODE_FILTER = "do_shortcode_tag"
 DEEPER = ("apply_filters", "do_action", "do_shortcode")
 # How many characters of a text are shown, unless all are wanted.
 SHOWN = 60
+
+# How trees look in a browser; `main` is what holds them where they stand below another page.
+STYLE = """
+body, main { color: #1b1b1b; background: #fff; font: 15px/1.5 system-ui, sans-serif; }
+main { border-top: 3px solid #ccc; display: block; padding: .6em 1em; text-align: left; }
+details, p { margin: 0 0 0 1.5em; }
+body > details, main > details { border-top: 1px solid #ccc; margin: 0; padding: .6em 0; }
+main > details { border: 0; }
+body > details > summary, main > details > summary { font-weight: 600; }
+summary { cursor: pointer; }
+code { font: 14px/1.5 ui-monospace, monospace; overflow-wrap: anywhere; white-space: pre-wrap; }
+@media (max-width: 30em) { details, p { margin-left: .8em; } code { font-size: 13px; } }
+@media (prefers-color-scheme: dark) { body, main { background: #161616; color: #ddd; } }
+"""
 
 
 class Page:
@@ -305,3 +320,15 @@ def printed(node, depth=0):
     yield f"{'  ' * depth}{node.text}"
     for below in node.below:
         yield from printed(below, depth + 1)
+
+
+def as_html(node, depth=0):
+    """A tree as nested elements that a browser opens and closes by itself. Pages and passes are open at first."""
+    text = f"<code>{html.escape(node.text)}</code>"
+    if not node.below:
+        yield f"<p>{text}</p>\n"
+        return
+    yield f"<details{' open' if depth < 3 else ''}><summary>{text}</summary>\n"
+    for below in node.below:
+        yield from as_html(below, depth + 1)
+    yield "</details>\n"

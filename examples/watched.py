@@ -1,0 +1,74 @@
+"""The program with `--trace`, for scripts that read its log beside its replies.
+
+It is a module, and runs nothing by itself.
+"""
+
+import json
+import queue
+import subprocess
+import threading
+
+from explain_log import Page, told_by
+from program import Program
+
+# How long to wait for a line of the log. It is written before the reply, so it is there, unless memory ran out for it.
+SECONDS = 2
+# A path that finds nothing and that no browser asks for, and how the line of its page's end begins.
+MARK = "/the log is read up to here"
+MARKED = f'{{"page":"{MARK}",'.encode()
+
+
+class Watched(Program):
+    """A program whose log is read as it comes."""
+
+    def __init__(self, path, options=()):
+        how = {"stdin": subprocess.PIPE, "stdout": subprocess.PIPE, "stderr": subprocess.PIPE}
+        how |= {"bufsize": 0, "start_new_session": True}
+        self.child = subprocess.Popen([path, "--trace", *options], **how)
+        self.replies = open(self.child.stdout.fileno(), "rb", closefd=False)
+        self.log = queue.SimpleQueue()
+        threading.Thread(target=self.read_log, daemon=True).start()
+
+    def read_log(self):
+        for line in open(self.child.stderr.fileno(), "rb", closefd=False):
+            self.log.put(line)
+
+    def told(self, is_wanted):
+        """The next line of the log that is wanted, or None if there is none."""
+        try:
+            while True:
+                told = told_by(self.log.get(timeout=SECONDS))
+                if told is not None and is_wanted(told):
+                    return told
+        except queue.Empty:
+            return None
+
+    def command(self, **keys):
+        return self.ask(json.dumps(keys).encode())
+
+    def pass_over(self):
+        """Passes over what the log has told so far, without a look at it: that may be very long."""
+        self.command(cmd="get", path=MARK)
+        try:
+            while not self.log.get(timeout=SECONDS).startswith(MARKED):
+                pass
+        except queue.Empty:
+            pass
+
+    def get(self, path):
+        """The reply to a request for a path, and the page as the log told of it if it wasn't refused.
+
+        Nothing may have been told since the last call of `pass_over` or of this."""
+        reply = self.command(cmd="get", path=path)
+        page = Page(path, None)
+        if not reply.is_page():
+            self.pass_over()
+        while reply.is_page() and page.end is None:
+            told = self.told(lambda told: "open" not in told)
+            if told is None:
+                break
+            if "invocations" in told:
+                page.end = told
+            else:
+                page.lines.append(told)
+        return reply, page
