@@ -7,6 +7,7 @@ kinds of body could be seen from above, and stay: of a `const fn`, which may be 
 proof above may cite a library's definitions and its lemmas, but neither the answers nor the invariants of its
 functions."""
 
+import functools
 import hashlib
 import re
 from pathlib import Path
@@ -113,12 +114,18 @@ class Outline:
         return "".join(kept) + self.text[at:]
 
 
+@functools.cache
+def outline_of(text):
+    """A source's outline. Each crate above asks for it, so it's kept."""
+    return str(Outline(text))
+
+
 def sum_of_exports(folder):
     """A sum of what a library in a folder gives to the crates that stand on it."""
     found = hashlib.sha256()
     for path in sorted(it for part in SOURCES for it in Path(folder, part).rglob("*") if it.is_file()):
         if path.name not in OF_FUNCTIONS:
             text = path.read_text(encoding="utf-8")
-            given = str(Outline(text)) if path.suffix == ".rt" else text
+            given = outline_of(text) if path.suffix == ".rt" else text
             found.update(f"{path.relative_to(folder)}\0{given}\0".encode())
     return found.hexdigest()
