@@ -28,6 +28,8 @@ TOKEN = re.compile(
     """,
     re.S | re.X,
 )
+# A text in quotes, or white space.
+SPACE = re.compile(r'("(?:\\.|[^"\\])*")|\s+')
 # The words that begin a clause between a function's signature and its body.
 CLAUSES = {"ghost", "requires", "ensures"}
 CLOSED_BY = {"{": "}", "(": ")", "[": "]"}
@@ -120,12 +122,27 @@ def outline_of(text):
     return str(Outline(text))
 
 
+def without_layout(text, suffix):
+    """A source or proof without what `rt fmt` may change: white space outside texts, the last comma of arguments, and in
+    specs and proofs the last semicolon of a record."""
+    last = r",(?=[)])" if suffix == ".rt" else r",(?=[)])|;(?=})"
+    return re.sub(last, "", SPACE.sub(lambda found: found[1] or "", text))
+
+
+def sum_of_sources(folder):
+    """A sum of a crate's sources, specs and proofs, their layout aside."""
+    found = hashlib.sha256()
+    for path in sorted(it for part in SOURCES for it in Path(folder, part).rglob("*") if it.is_file()):
+        found.update(f"{path.relative_to(folder)}\0{without_layout(path.read_text(encoding='utf-8'), path.suffix)}\0".encode())
+    return found.hexdigest()
+
+
 def sum_of_exports(folder):
-    """A sum of what a library in a folder gives to the crates that stand on it."""
+    """A sum of what a library in a folder gives to the crates that stand on it, layout aside."""
     found = hashlib.sha256()
     for path in sorted(it for part in SOURCES for it in Path(folder, part).rglob("*") if it.is_file()):
         if path.name not in OF_FUNCTIONS:
             text = path.read_text(encoding="utf-8")
             given = outline_of(text) if path.suffix == ".rt" else text
-            found.update(f"{path.relative_to(folder)}\0{given}\0".encode())
+            found.update(f"{path.relative_to(folder)}\0{without_layout(given, path.suffix)}\0".encode())
     return found.hexdigest()

@@ -7,8 +7,8 @@ import tempfile
 import threading
 from pathlib import Path
 
-from exports import sum_of_exports
-from repository import SOURCES, locked, sum_of
+from exports import sum_of_exports, sum_of_sources
+from repository import locked
 from rounds import try_edits
 
 HERE = Path(__file__).resolve().parent
@@ -45,7 +45,7 @@ class Record:
     def basis(self, crate):
         """A sum of the toolchain, the judging part of this runner, the crate's sources and what is read of those below."""
         below = [(it.name, sorted(it.of_kit), sum_of_exports(it.folder)) for it in crate.below()]
-        return hashed(self.tools, below, crate.name, sorted(crate.of_kit), sum_of(crate.folder, SOURCES))
+        return hashed(self.tools, below, crate.name, sorted(crate.of_kit), sum_of_sources(crate.folder))
 
     @staticmethod
     def sum_of(basis, edit):

@@ -85,7 +85,7 @@ IsFront-after (Some w) (Some a) (Some b) xs ys f p = (f.0, sym (append_assoc a x
 
 -- what was written before is in front of it
 IsFront-written : (w v : Option (List ℕ)) (more bytes : List ℕ) → Appends w v more → IsFront v (append_known w bytes) → AppendsFront w v bytes
-IsFront-written None v more bytes grows f = record { taken = bytes; rest = []; whole = append-nil bytes; appends = tt; }
+IsFront-written None v more bytes grows f = record { taken = bytes; rest = []; whole = append-nil bytes; appends = tt }
 IsFront-written (Some w) None more bytes grows f = absurd grows
 IsFront-written (Some w) (Some v) more bytes grows f = record {
   taken = more;
@@ -123,7 +123,7 @@ pub FailsAt-waiting : (steps : State → List ℕ → State × ReplyData) (site 
 FailsAt-waiting steps site after line a b c reply replied taken same = record {
   reply = reply;
   replied = replied;
-  part = record { taken = bytes_of reply; rest = []; whole = append-nil (bytes_of reply); appends = rw same taken; };
+  part = record { taken = bytes_of reply; rest = []; whole = append-nil (bytes_of reply); appends = rw same taken };
 }
 
 module _ {J : Type 0} (g : Ghosts J) where
@@ -151,7 +151,7 @@ module _ {J : Type 0} (g : Ghosts J) where
       → (g.is_open b → OnOk result (g.is_open c)) → Enters g [] a c result
   Enters-taken a b c result at out noted later =
       subst (λ j. Enters g [] j c result) at
-          (record { meant = g.noted b; grows = Grows-nil (g.noted b); noted = on_all result noted; stays = later; out = out; })
+      (record { meant = g.noted b; grows = Grows-nil (g.noted b); noted = on_all result noted; stays = later; out = out })
 
   -- nothing is noted between
   pub LetsOut-trans : (meant : Option (List (List ℕ))) (a b c : J) → LetsOut g meant a b → Grows meant (g.noted b) [] → (g.is_open a → g.is_open b)
@@ -247,7 +247,7 @@ module _ {J : Type 0} (g : Ghosts J) where
           back = replied;
           whole = refl;
           edits = subst (λ n. Grows (g.noted old) n []) (settled.committed held was.0) (Grows-nil (g.noted old));
-          written = record { taken = []; rest = []; whole = refl; appends = rw was.1 (Appends-nil (g.written old)); };
+          written = record { taken = []; rest = []; whole = refl; appends = rw was.1 (Appends-nil (g.written old)) };
         }
         | inr some ↦ record {
           front = some.0;
@@ -272,7 +272,7 @@ module _ {J : Type 0} (g : Ghosts J) where
       noted = Grows-nil (g.noted j);
       front = λ f. f;
       stays = λ up. up;
-      out = Outgoing-quiet j j [] (record { same = refl; held = λ held h. h; });
+      out = Outgoing-quiet j j [] (record { same = refl; held = λ held h. h });
     }
 
     one_line : (line rest : List ℕ) (reply : ReplyData) → ended line ++ rest ≡ flat_map ended (lines_in (record { line = line; reply = reply } ∷ [])) ++ rest
@@ -289,7 +289,7 @@ module _ {J : Type 0} (g : Ghosts J) where
         let known = subst (λ t. OnOk t (Grows h.enters.meant (g.noted new) [])) ok h.enters.noted in
         let taken : Appends (g.contents old) (g.contents new) (written_for (r ∷ [])) =
         subst (Appends (g.contents old) (g.contents new)) (sym (written_one line h.reply))
-            (subst (λ t. OnOk t (Appends (g.contents old) (g.contents new) (bytes_of h.reply))) ok h.taken) in
+        (subst (λ t. OnOk t (Appends (g.contents old) (g.contents new) (bytes_of h.reply))) ok h.taken) in
         record {
           replied = r ∷ [];
           served = (after, h.replied, refl);
@@ -384,7 +384,7 @@ module _ {J : Type 0} (g : Ghosts J) where
         let r : Replied = record { line = line; reply = h.reply } in
         let part : AppendsFront (g.contents old) (g.contents new) (written_for (r ∷ [])) =
         subst (AppendsFront (g.contents old) (g.contents new)) (sym (written_one line h.reply))
-            (subst (λ t. OnErr t (AppendsFront (g.contents old) (g.contents new) (bytes_of h.reply))) err h.part) in
+        (subst (λ t. OnErr t (AppendsFront (g.contents old) (g.contents new) (bytes_of h.reply))) err h.part) in
         Outgoing-noted h.enters.meant old new (r ∷ []) h.enters.out h.enters.grows (λ f. IsFront-part _ _ _ _ (h.enters.out.front f) part)
 
     -- the reply to a line that ends was not entered whole
@@ -394,8 +394,8 @@ module _ {J : Type 0} (g : Ghosts J) where
       replied = record { line = line; reply = h.reply } ∷ [];
       served = (after, h.replied, refl);
       first = λ later. (
-          lines_of (rest ++ later),
-          ap lines_of (append_assoc (ended line) rest later ∙ append_assoc line (10 ∷ []) (rest ++ later)) ∙ lines_of-line line (rest ++ later) line_is.one,
+        lines_of (rest ++ later),
+        ap lines_of (append_assoc (ended line) rest later ∙ append_assoc line (10 ∷ []) (rest ++ later)) ∙ lines_of-line line (rest ++ later) line_is.one,
       );
       out = Outgoing-failed site after line old new result e err h;
     }
@@ -430,7 +430,7 @@ module _ {J : Type 0} (g : Ghosts J) where
       reply = h.reply;
       replied = h.replied;
       taken = tt;
-      part = record { taken = bytes_of h.reply; rest = []; whole = append-nil (bytes_of h.reply); appends = rw contents h.taken; };
+      part = record { taken = bytes_of h.reply; rest = []; whole = append-nil (bytes_of h.reply); appends = rw contents h.taken };
       enters = Enters-settled _ a b c x (Err e) h.enters out noted (λ up. tt);
     }
 
@@ -458,7 +458,7 @@ module _ {J : Type 0} (g : Ghosts J) where
     Records-let_out site after stretch rest a b c p out contents noted stays =
         let then = Records-settled after rest b c out contents noted stays in
         subst (λ s. Records g steps site s a c after rest) (append-nil stretch)
-            (Records-trans site after after stretch rest [] rest a b c p (subst (λ s. Records g steps after s b c after rest) (sym (append-nil rest)) then))
+        (Records-trans site after after stretch rest [] rest a b c p (subst (λ s. Records g steps after s b c after rest) (sym (append-nil rest)) then))
 
     -- what waited was let out, or some of it
     pub Stopped-let_out : (site after : State) (stretch rest : List ℕ) (a b c : J) → Records g steps site stretch a b after rest
@@ -481,7 +481,7 @@ module _ {J : Type 0} (g : Ghosts J) where
         let cut : ended (held ++ part) ++ back ≡ held ++ (part ++ (10 ∷ back)) =
         append_assoc (held ++ part) (10 ∷ []) back ∙ append_assoc held part (10 ∷ back) in
         subst (λ s. Stopped g steps one s a c three) whole
-            (Stopped-after one two three stretch held (part ++ (10 ∷ back)) a b c p (subst (λ s. Stopped g steps two s b c three) cut last))
+        (Stopped-after one two three stretch held (part ++ (10 ∷ back)) a b c p (subst (λ s. Stopped g steps two s b c three) cut last))
 
     -- a fault came, and the replies before it may still wait
     pub waits_at : (one two three : State) (limit left : ℕ) (stretch held more all : List ℕ) (a b c : J)
@@ -508,7 +508,7 @@ module _ {J : Type 0} (g : Ghosts J) where
     Outgoing-one site after line old new (Ok x) h =
         let r : Replied = record { line = line; reply = h.reply } in
         Outgoing-noted h.enters.meant old new (r ∷ []) h.enters.out h.enters.grows
-            (λ f. IsFront-taken _ _ _ _ (h.enters.out.front f) (subst (Appends (g.contents old) (g.contents new)) (sym (written_one line h.reply)) h.taken))
+        (λ f. IsFront-taken _ _ _ _ (h.enters.out.front f) (subst (Appends (g.contents old) (g.contents new)) (sym (written_one line h.reply)) h.taken))
 
     -- the lines of an input that ends in a line with no newline
     lines_of-all : (site after : State) (stretch held : List ℕ) (a b : J) (p : Records g steps site stretch a b after held) → IsLine held → 0 < length held

@@ -22,8 +22,8 @@ record Last {X : Type 0} (xs : List X) : Type 0 where
   pub whole : before ++ last ∷ [] ≡ xs
 
 last_of : {X : Type 0} (x : X) (xs : List X) → Last (x ∷ xs)
-last_of x [] = record { before = []; last = x; whole = refl; }
-last_of x (y ∷ xs) = let l = last_of y xs in record { before = x ∷ l.before; last = l.last; whole = ap (λ ys. x ∷ ys) l.whole; }
+last_of x [] = record { before = []; last = x; whole = refl }
+last_of x (y ∷ xs) = let l = last_of y xs in record { before = x ∷ l.before; last = l.last; whole = ap (λ ys. x ∷ ys) l.whole }
 
 has_last : {X : Type 0} (xs : List X) → 0 < length xs → Last xs
 has_last [] some = absurd (omega arith)
@@ -93,7 +93,7 @@ module _ (steps : State → List ℕ → State × ReplyData) where
           record {
             reply = r.1;
             replied = r.4;
-            part = record { taken = bytes_of r.1; rest = []; whole = append-nil (bytes_of r.1); appends = p.2; };
+            part = record { taken = bytes_of r.1; rest = []; whole = append-nil (bytes_of r.1); appends = p.2 };
           },
           omega arith,
         );

@@ -375,11 +375,7 @@ impl<'p, S: Stated> Setup<'p, S> {
 }
 
 // Hands a line to the journal, if it is an edit that was done, and then its reply.
-fn enter<W: Journal>(
-    writer: &mut W,
-    line: &[u8],
-    replied: &LineReply,
-) -> Result<(), EndFault>
+fn enter<W: Journal>(writer: &mut W, line: &[u8], replied: &LineReply) -> Result<(), EndFault>
     requires { W.has_failed writer.old ≡ false }
     ensures ok { OnOk result
         (Appends (W.contents writer.old) (W.contents writer.new) (bytes_of (reply_data replied.now.reply))) }
@@ -395,10 +391,7 @@ fn enter<W: Journal>(
 }
 
 // Lets out what waits, whatever came of the lines before, unless the journal has failed.
-fn settled<W: Journal>(
-    writer: &mut W,
-    taken: Result<(), ServeFault>,
-) -> Result<(), ServeFault>
+fn settled<W: Journal>(writer: &mut W, taken: Result<(), ServeFault>) -> Result<(), ServeFault>
     requires { W.has_failed writer.old ≡ is_write taken }
     ensures settled { W.is_open writer.old → OnOk result (IsSettled W.Journal writer.new) }
     ensures contents { W.contents writer.new ≡ W.contents writer.old }

@@ -98,7 +98,9 @@ impl<'p, S: Stated> Site<'p, S> {
         ensures setup { setup_of self.new ≡ setup_of self.old }
         ensures cache { cache_of self.new ≡ cache_of self.old }
     {
-        self.setup.command(&mut self.state, line, &mut Unwatched).reply
+        self.setup
+            .command(&mut self.state, line, &mut Unwatched)
+            .reply
     }
 }
 

@@ -9,7 +9,7 @@ pub returns-then-left-before-clause-stopped : goal.returns-then-left-before-clau
 returns-then-left-before-clause-stopped g c =
     let e = c.take_lines-taken.ensures in
     stopped_of c.take_lines-taken.result e.stopped
-        (IfErr-weaker c.take_lines-taken.result _ _ (λ fault w other. Stopped-at _ _ _ _ _ _ _ _ (w other).2) e.waits)
+    (IfErr-weaker c.take_lines-taken.result _ _ (λ fault w other. Stopped-at _ _ _ _ _ _ _ _ (w other).2) e.waits)
 
 pub returns-clause-err : goal.returns-clause-err
 returns-clause-err g c =
@@ -22,7 +22,7 @@ returns-clause-records g c =
     let e = c.take_lines-taken.ensures in
     let s = c.settled.ensures in
     chunk_records g.W.Journal _ _ _ _ _ c.args.writer.now c.take_lines-taken.new.writer c.settled.new.writer _ _ s.result e.records s.out s.contents s.noted
-        (λ up. opened_by g.W.Journal (steps_of g.S.Stated.says g.S.Stated.number c.args.self.now) c.settled.new.writer c.settled.result (s.settled up))
+    (λ up. opened_by g.W.Journal (steps_of g.S.Stated.says g.S.Stated.number c.args.self.now) c.settled.new.writer c.settled.result (s.settled up))
 
 pub returns-clause-stopped : goal.returns-clause-stopped
 returns-clause-stopped g c =
