@@ -21,6 +21,12 @@ HEAD = """\
 """
 
 
+def logic_of(identity):
+    """What the toolchain says of its logic, as in `rattle-kit-13b logic dac8208d650f15bf`: two kits of one logic know one
+    notion of a proof, so what can't be proved in one can't be in the other. An identity of another form is taken whole."""
+    return identity.strip().rpartition(b" logic ")[2]
+
+
 def hashed(*what):
     return hashlib.sha256(repr(what).encode()).hexdigest()[:32]
 
@@ -29,11 +35,11 @@ class Record:
     """The recorded refusals: of each edit, by its label, the sum that it had and what refused it. Verdicts of other
     kinds aren't recorded. A sum depends neither on the machine nor on where the repository is."""
 
-    def __init__(self, path, kit):
-        """kit is the toolchain's identity."""
+    def __init__(self, path, identity):
+        """The identity is the toolchain's."""
         self.path = path
         self.lock = threading.Lock()
-        self.tools = kit, [Path(HERE, it).read_bytes() for it in JUDGES]
+        self.tools = logic_of(identity), [Path(HERE, it).read_bytes() for it in JUDGES]
         self.refusals = self.read()
 
     def read(self):
@@ -43,7 +49,7 @@ class Record:
         return {label: (found, said) for found, label, said in words}
 
     def basis(self, crate):
-        """A sum of the toolchain, the judging part of this runner, the crate's sources and what is read of those below."""
+        """A sum of the toolchain's logic, the judging part of this runner, the crate's sources and what is read of those below."""
         below = [(it.name, sorted(it.of_kit), sum_of_exports(it.folder)) for it in crate.below()]
         return hashed(self.tools, below, crate.name, sorted(crate.of_kit), sum_of_sources(crate.folder))
 

@@ -154,8 +154,8 @@ def changed(path, old, new):
 
 def changes_are_noticed(toolchain, crate, path):
     """Whether a refusal that the record at a path has isn't tried again, and is once something that it rests on has
-    changed: a body of the crate, a contract of the library below, the edit itself or the toolchain. A body below is
-    nothing that it rests on."""
+    changed: a body of the crate, a contract of the library below, the edit itself or the toolchain's logic. Neither a
+    body below nor the rest of the kit is anything that it rests on."""
     folder, below = Path(crate.folder), Path(crate.below()[0].folder)
     kit = [toolchain.identity]
     changes = [
@@ -164,7 +164,8 @@ def changes_are_noticed(toolchain, crate, path):
         (False, "after a change of a body below", lambda: changed(below / "src/lib.rt", "1 + u32", "0 + 1 + u32")),
         (True, "after a change of a contract below", lambda: changed(below / "src/lib.rt", "≡ n + 1", "≡ 1 + n")),
         (True, "after a change of the edit", lambda: changed(folder / "wrong-bodies/counts_two.edit", "(n) + 2", "(n) + 3")),
-        (True, "after a change of the toolchain", lambda: kit.append(b"another kit")),
+        (False, "after a change of the kit alone", lambda: kit.append(b"another-kit" + kit[-1][kit[-1].index(b" logic ") :])),
+        (True, "after a change of the logic", lambda: kit.append(b"another-kit logic 0")),
     ]
     for again, what, change in changes:
         change()
