@@ -75,25 +75,43 @@ def read_replies(output):
 
 
 class Program:
-    """A running program. It ends with the `with` block that it is made for."""
+    """A running program, with some options. It ends with the `with` block that it is made for.
 
-    def __init__(self, path):
+    `lines` is how many lines it was sent; after 1,000,000 it ends.
+    """
+
+    # What becomes of its standard error: it is that of the script.
+    errors = None
+
+    def __init__(self, path, *options):
         # In a session of its own, so that Ctrl-C reaches the script alone, and the script ends the program.
-        how = {"stdin": subprocess.PIPE, "stdout": subprocess.PIPE, "bufsize": 0, "start_new_session": True}
-        self.child = subprocess.Popen([path], **how)
+        how = {"stdin": subprocess.PIPE, "stdout": subprocess.PIPE, "stderr": self.errors}
+        how |= {"bufsize": 0, "start_new_session": True}
+        self.child = subprocess.Popen([path, *options], **how)
         self.replies = open(self.child.stdout.fileno(), "rb", closefd=False)
+        self.lines = 0
 
     def __enter__(self):
         return self
 
     def __exit__(self, *_):
-        # The site is in memory alone, so there is nothing that the program would still have to do.
+        # The site is in memory, or in a file in which each edit is that was replied to: nothing is left to do.
         self.child.kill()
         self.child.wait()
+
+    def end(self, seconds):
+        """Has the program end by itself, as it does once there are no more lines, or kills it after some seconds."""
+        self.child.stdin.close()
+        try:
+            self.child.wait(seconds)
+        except subprocess.TimeoutExpired:
+            self.child.kill()
+            self.child.wait()
 
     def ask(self, line):
         """The reply to a line, which has no newline."""
         rest = line + b"\n"
+        self.lines += 1
         try:
             while rest:
                 rest = rest[self.child.stdin.write(rest) :]
@@ -106,6 +124,7 @@ class Program:
 
         The line is an empty object, which the program refuses; nothing is changed by it.
         """
+        self.lines += 1
         try:
             self.child.stdin.write(b"{}\n")
         except BrokenPipeError:

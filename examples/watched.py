@@ -21,11 +21,10 @@ MARKED = f'{{"page":"{MARK}",'.encode()
 class Watched(Program):
     """A program whose log is read as it comes."""
 
-    def __init__(self, path, options=()):
-        how = {"stdin": subprocess.PIPE, "stdout": subprocess.PIPE, "stderr": subprocess.PIPE}
-        how |= {"bufsize": 0, "start_new_session": True}
-        self.child = subprocess.Popen([path, "--trace", *options], **how)
-        self.replies = open(self.child.stdout.fileno(), "rb", closefd=False)
+    errors = subprocess.PIPE
+
+    def __init__(self, path, *options):
+        super().__init__(path, "--trace", *options)
         self.log = queue.SimpleQueue()
         threading.Thread(target=self.read_log, daemon=True).start()
 

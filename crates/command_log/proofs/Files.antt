@@ -104,6 +104,12 @@ module _ {D : Type 0} {g : Ghosts D} (c : Held (FileStore D g)) (image : Image) 
       let clean : HasCleanDisk (file_state c) = omega (arith, survives.clean, after) in
       reads_lines c image (found clean) (opened clean) (opened clean).0.is_open (lines_of over_files log) (lines up)
 
+  pub opened_over : {E : Type 0} (P : Trees → Type 0) → (HasCleanDisk (file_state c) → IsOpened c) → (r : Result (Held (FileStore D g)) E)
+      → IfOk r (λ log. HasCleanDisk (state over_files log) → IsOpen over_files c → IsOpen over_files log) → IfOk r (λ log. Survives (file_state c) (state over_files log) P)
+      → IfOk r (λ log. HasCleanDisk (state over_files log) → IsOpen over_files log)
+  opened_over P opened (Err e) stays survives = tt
+  opened_over P opened (Ok log) stays survives = λ after. let clean : HasCleanDisk (file_state c) = omega (arith, survives.clean, after) in stays after (opened clean).0.is_open
+
 -- an open fails by an error that says nothing of the schema
 never_other : (e : Error) → IsTrue (is_open_error e) → fault_of e ≢ NotALog
 never_other (SqliteFailure (code.ConstraintViolation rule)) named h = absurd (true≢false (sym named))

@@ -1,4 +1,4 @@
--- A new line gets the number after the last, so its row comes behind all others.
+-- A new line gets the number after the last, so its row comes after all others.
 use Rattle.std.proofs.Common.{◌≡◌, ℤ, pos, ◌+ℤ◌, List, [], ◌∷◌, ◌++◌, fold, map, Less, refl, sym, ap, subst, ◌∙◌}
 use Rattle.std.proofs.lemmas.Bool.Decides.{nat_tests}
 use Rattle.std.proofs.Common.{arith}
@@ -35,16 +35,16 @@ all_before n r (y ∷ rows) up =
     let later = all_before (id_in (rowid r) +ℤ pos 1) y rows (up.0.1, up.1.1) in
     (value_cmp_total.trans (rowid r) (rowid y) _ up.0.0.0 later.0, later)
 
-put_behind : (new : Row) (rows : List Row) → AllByRecursion (λ x. value_cmp (rowid x) (rowid new) ≡ Less) rows → put_row new rows ≡ rows ++ new ∷ []
-put_behind new [] below = refl
-put_behind new (r ∷ rows) below = rw below.0 (ap (λ l. r ∷ l) (put_behind new rows below.1))
+put_after : (new : Row) (rows : List Row) → AllByRecursion (λ x. value_cmp (rowid x) (rowid new) ≡ Less) rows → put_row new rows ≡ rows ++ new ∷ []
+put_after new [] below = refl
+put_after new (r ∷ rows) below = rw below.0 (ap (λ l. r ∷ l) (put_after new rows below.1))
 
 abbrev numbered : List Row → Row → Row
 numbered rows rest = Int (next_rowid rows) ∷ rest
 
 pub put_last : (rows : List Row) (rest : Row) → IsRising rows → put_row (Int (next_rowid rows) ∷ rest) rows ≡ rows ++ (Int (next_rowid rows) ∷ rest) ∷ []
 put_last [] rest up = refl
-put_last (r ∷ rows) rest up = put_behind (Int (next_rowid (r ∷ rows)) ∷ rest) (r ∷ rows) (all_before (pos 1) r rows up)
+put_last (r ∷ rows) rest up = put_after (Int (next_rowid (r ∷ rows)) ∷ rest) (r ∷ rows) (all_before (pos 1) r rows up)
 
 pub still_rises : (rows : List Row) (rest : Row) → IsRising rows → IsRising (put_row (Int (next_rowid rows) ∷ rest) rows)
 still_rises rows rest up = IsShaped-put_row (Int (next_rowid rows) ∷ rest) rows refl up

@@ -1,10 +1,13 @@
 -- What a query within a transaction leaves: nothing is committed.
-use Rattle.std.proofs.Common.{◌≡◌, inl, inr, ℕ, List, true, cond, Option, None, Some, ap, ◌∙◌}
+use Rattle.std.proofs.Common.{◌≡◌, inl, inr, ℕ, List, true, cond, Option, None, Some, append-nil, ap, sym, subst, ◌∙◌}
 use Rattle.sqlite.specs.Order.{Row}
 use Rattle.sqlite.specs.declared.error.Error.{Error}
 use Rattle.sqlite_schema.specs.declared.command.Returning.{Returning}
 use Rattle.sqlite_resolve.specs.declared.compiled.Compiled.{Compiled}
-use Rattle.sqlite.specs.State.{State, IsNotRun, KeepsCommit, FailsToQuery, FailsToShow, Shown, ShowsRows}
+use Rattle.sqlite.specs.Listing.{understood}
+use Rattle.sqlite.specs.Schema.{Schema}
+use Rattle.sqlite.proofs.Callers.{IsPlain}
+use Rattle.sqlite.specs.State.{State, IsNotRun, IsUnchanged, KeepsCommit, FailsToQuery, FailsToShow, Shown, ShowsRows}
 use Rattle.command_log.proofs.Putting.{same_commit, back_commit}
 
 module _ (old new : State) (inside : old.in_transaction ≡ true) where
@@ -41,3 +44,12 @@ module _ (old new : State) (inside : old.in_transaction ≡ true) where
   pub answered_open : (sql : List ℕ) (params : Row) (rows : List Row) → Shown sql params old new rows → old.is_open ≡ true
   unfolding Shown
   answered_open sql params rows h = was_open sql h.0 _ rows h.0.returning h.2
+
+-- a query that returns rows changes nothing
+pub unchanged : (schema : Schema) (sql : List ℕ) (params : Row) → IsPlain (understood schema sql) → (old new : State) → old.now.schema ≡ schema → (rows : List Row) → Shown sql params old new rows
+    → IsUnchanged old new
+unfolding Shown
+unchanged schema sql params plain old new has rows h =
+    let known = sym h.1.is ∙ ap (λ s. understood s sql) has in
+    let bare = subst IsPlain (sym known) plain in
+    (rw (bare.0, bare.1, append-nil params) at h.2).3

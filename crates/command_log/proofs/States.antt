@@ -20,7 +20,9 @@ use Rattle.sqlite_trees.specs.View.{doubt}
 use Rattle.sqlite_trees.proofs.Doubt.{no_doubt}
 use Rattle.sqlite.specs.Store.{Ghosts}
 use Rattle.sqlite.specs.Effect.{Database, IsDatabase}
-use Rattle.sqlite.specs.State.{State, HasCleanDisk, KeepsCommit, IsRolledBack, Shows, KeepsCounts}
+use Rattle.sqlite.specs.State.{State, HasCleanDisk, IsUnchanged, KeepsCommit, IsRolledBack, Shows, KeepsCounts, Survives}
+use Rattle.sqlite.proofs.StateLemmas.{survives_then}
+use Rattle.sqlite.proofs.Callers.{survives_begin}
 use Rattle.sqlite.specs.Steps.{FailsToCommit}
 use Rattle.sqlite.specs.Held.{Held, state}
 use Rattle.sqlite.specs.declared.error.Error.{Error}
@@ -147,6 +149,7 @@ module _ {S : Type 0} (g : Ghosts S) where
     pub log : IsLog g end
     pub ok : IsOpen g end → OnOk r (lines_of g end ≡ lines_of g old ++ more)
     pub err : IsOpen g end → OnErr r (lines_of g end ≡ lines_of g old)
+    pub shut : IsOpen g end → IsOpen g old
 
   module _ (law : ShutsIfDirty) (old last end : Held S) (more : List (List ℕ)) (log : IsLog g old) (falls : doubt (g.view last.store).is_clean ≤ doubt (g.view end.store).is_clean)
       (kept : HasCleanDisk (state g last) → KeepsCommit (state g (begun old)) (state g last)) (puts : HasCleanDisk (state g last) → Puts g (begun old) last more)
@@ -157,11 +160,12 @@ module _ {S : Type 0} (g : Ghosts S) where
         → (HasCleanDisk (state g end) → IfErr r (FailsToCommit (state g last) (state g end))) → IsEnded old end more r
     ends (Ok u) ok err =
         let it = committed law old last end more log falls puts ended (λ clean. (ok clean).1) in
-        record { log = it.log; ok = it.lines; err = λ up. tt }
+        let shut = λ (up : IsOpen g end). let clean : HasCleanDisk (state g last) = omega (arith, falls, clean_of law end up) in (puts clean).was_open in
+        record { log = it.log; ok = it.lines; err = λ up. tt; shut = shut }
     ends (Err e) ok err =
         let early = λ (clean : HasCleanDisk (state g end)). let it : HasCleanDisk (state g last) = omega (arith, falls, clean) in it in
         let it = rolled_back law old last end log falls kept ended (λ clean. not_committed last end e (puts (early clean)).inside (err clean)) in
-        record { log = kept_log old end log it; ok = λ up. tt; err = kept_lines old end it }
+        record { log = kept_log old end log it; ok = λ up. tt; err = kept_lines old end it; shut = it.was_open }
 
 pub on_err : {A E P : Type 0} (r : Result A E) → P → OnErr r P
 on_err (Ok a) p = tt
@@ -280,3 +284,48 @@ module _ {S : Type 0} (g : Ghosts S) where
         let early = λ (clean : HasCleanDisk (state g end)). let it : HasCleanDisk (state g last) = omega (arith, falls, clean) in it in
         let it = rolled_back g law old last end log falls kept ended (λ clean. not_committed g last end e (filled (early clean)).inside (err clean)) in
         record { log = kept_log g old end log it; ok = λ up. tt; err = kept_lines g old end it }
+
+-- ---- how a read ends: the transaction has changed nothing, and is committed
+
+module _ {S : Type 0} (g : Ghosts S) (law : ShutsIfDirty g) (old last end : Held S) (log : IsLog g old) (falls : doubt (g.view last.store).is_clean ≤ doubt (g.view end.store).is_clean)
+    (same : HasCleanDisk (state g last) → IsUnchanged (state g (begun g old)) (state g last)) where
+  early : HasCleanDisk (state g end) → HasCleanDisk (state g last)
+  early clean = omega (arith, falls, clean)
+
+  pub read_ends : end.in_transaction ≡ false → (r : Result (Unit {0}) Error)
+      → (HasCleanDisk (state g end) → OnOk r (IsTrue (state g last).in_transaction × Shows (state g last) (state g end) (state g last).now (state g last).now false
+      × KeepsCounts (state g last) (state g end) × ((state g end).marks ≡ [])))
+      → (HasCleanDisk (state g end) → IfErr r (FailsToCommit (state g last) (state g end))) → IsKept g old end
+  read_ends ended (Ok u) ok err =
+      let it = λ (up : IsOpen g end). (ok (clean_of g law end up)).1 in
+      let was = λ (up : IsOpen g end). (same (early (clean_of g law end up))).0 in
+      record {
+        was_open = λ up. (was up).was_open;
+        now = λ up. (it up).now_is ∙ (was up).now_is;
+        committed = λ up. (it up).committed_is ∙ (was up).now_is ∙ sym (log.idle.settled (was up).was_open);
+        autocommit = ended;
+      }
+  read_ends ended (Err e) ok err =
+      rolled_back g law old last end log falls (λ clean. kept_commit (same clean)) ended (λ clean. not_committed g last end e (same (early clean)).0.mode (err clean))
+    where
+      kept_commit : IsUnchanged (state g (begun g old)) (state g last) → KeepsCommit (state g (begun g old)) (state g last)
+      kept_commit h = record { was_open = λ up. h.0.was_open; committed = λ up. h.0.committed_is }
+
+  -- what a crash leaves after it was left before
+  pub read_survives : ((s : S) → IsTrue (g.view s).is_open → g.recovers s (g.view s).committed) → Survives (state g (begun g old)) (state g last) (λ _. ⊥)
+      → Survives (state g last) (state g end) (λ db. db ≡ (state g last).now.trees) → Survives (state g old) (state g end) (λ _. ⊥)
+  read_survives stays one two =
+      let whole = survives_then (state g old) (state g last) (state g end) (λ _. ⊥) (λ db. db ≡ (state g last).now.trees) (λ db. db ≡ (state g last).now.trees)
+      (λ _ db none. absurd none) (λ _ db is. is) (survives_begin g old (state g last) (λ _. ⊥) one) two in
+      record {
+        clean = whole.clean;
+        shield = whole.shield;
+        counts = whole.counts;
+        limit = whole.limit;
+        closes = whole.closes;
+        crash = λ clean db may. elim (whole.crash clean db may) [
+          | inl was ↦ inl was
+          | inr is ↦ inl (let it = (same (early clean)).0 in
+              subst (state g old).may_leave (sym (is ∙ ap (λ (d : Database). d.trees) (it.now_is ∙ sym (log.idle.settled it.was_open)))) (stays old.store it.was_open))
+        ];
+      }

@@ -1,4 +1,4 @@
--- What a call of the log answers to each error of the database.
+-- What a call of the log returns for each error of the database.
 use Rattle.std.specs.Prelude.{◌≡◌, ◌⊎◌, ⊤, ℕ, ◌+◌, ◌^◌, ◌<◌, ◌+ℤ◌, pos, false, List, length, All, Contains, IsSome, IsUtf8}
 use Rattle.sqlite.specs.Order.{Row}
 use Rattle.sqlite_rules.specs.Edit.{next_rowid}
@@ -57,11 +57,11 @@ Unreadable lines _ = ⊥
 abbrev pub IsTooLong : List ℕ → Type 0
 IsTooLong line = 10 ^ 9 < 54 + length line
 
--- the number of the line after so many others is past the largest
+-- the number of the line after this many others is past the largest
 abbrev pub IsUsedUp : List Row → ℕ → Type 0
 IsUsedUp rows more = fits_i64 (next_rowid rows +ℤ pos more) ≡ false
 
--- what a call that puts these lines behind rows may meet
+-- what a call that appends these lines to rows may meet
 abbrev pub Unstorable : List Row → List (List ℕ) → LogFault → Type 0
 Unstorable rows lines fault.TooBig = (line : List ℕ) × Contains lines line × IsTooLong line
 Unstorable rows lines fault.NumbersUsedUp = (more : ℕ) × (more < length lines) × IsUsedUp rows more

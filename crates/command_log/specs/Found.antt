@@ -38,7 +38,7 @@ abbrev pub FindsOnlyAlone : Image → List (List ℕ) → Type 0
 FindsOnlyAlone image lines = FindsOnly image lines × FindsOnly (record image { log = [] }) lines
 
 module _ {D : Type 0} {g : Ghosts D} where
-  -- an open is refused as no log if it found a database whose schema is neither the log's nor empty, and else not
+  -- an open is refused as no log only if it found a database whose schema is neither the log's nor empty
   abbrev pub RefusesOther : Image → Result (Held (FileStore D g)) LogFault → Type 0
   RefusesOther image result =
       IsErrOf result NotALog → (c : Held (FileStore D g)) × IsOther (file_state c).now.schema × (HasCleanDisk (file_state c) → FindsIn image (file_state c))
@@ -47,7 +47,7 @@ module _ {D : Type 0} {g : Ghosts D} where
   abbrev pub IsFoundAgain : Held (FileStore D g) → Type 0
   IsFoundAgain log = IsOpen over_files log → (image : Image) → (store.state log.store).may_leave image → FindsOnly image (lines_of over_files log)
 
-  -- The files that a close handed back hold the lines, and the database file alone does: as they are, and after a crash.
+  -- The files that a close returned hold the lines, and the database file alone does: as they are, and after a crash.
   pub record IsKeptAlone (log : Held (FileStore D g)) (files : Files D) : Type 0 where
     pub was_open : IsOpen over_files log
     pub seen : FindsOnlyAlone (image_of g files) (lines_of over_files log)

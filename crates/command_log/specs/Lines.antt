@@ -103,7 +103,7 @@ module _ {S : Type 0} (g : Ghosts S) where
     pub idle : IsIdle h
     pub holds : IsOpen h → HoldsLog (state g h).now
 
-  -- a transaction has put these lines behind the others
+  -- a transaction has appended these lines
   pub record Puts (old new : Held S) (more : List (List ℕ)) : Type 0 where
     pub was_open : IsOpen old
     pub is_open : IsOpen new
@@ -113,7 +113,7 @@ module _ {S : Type 0} (g : Ghosts S) where
     pub lines : lines_in (state g new).now.trees ≡ lines_in (state g old).now.trees ++ more
     pub number : next_rowid (rows_of new) ≡ next_rowid (rows_of old) +ℤ pos (length more)
 
-  -- or has put none so far
+  -- or no line so far
   abbrev pub PutsAny : Held S → Held S → List (List ℕ) → Type 0
   PutsAny old new more = ((more ≡ []) × (new ≡ old)) ⊎ Puts old new more
 

@@ -26,7 +26,7 @@ ghost use Rattle.sqlite_value.specs.declared.value.Value.TheVariants.{Int};
 ghost use Rattle.sqlite_value.specs.Order.{column};
 ghost use Rattle.sqlite.specs.Query.{as_count, limited};
 ghost use Rattle.sqlite.specs.Held.{state};
-ghost use Rattle.sqlite.specs.State.{HasCleanDisk, KeepsCommit, Survives};
+ghost use Rattle.sqlite.specs.State.{HasCleanDisk, IsUnchanged, KeepsCommit, Survives};
 ghost use Rattle.command_log.specs.Faults.{fault_of, IsCaused, Nothing, Unreadable, Unstorable, AreText};
 ghost use Rattle.command_log.specs.Lines.{
   IsLineRow,
@@ -58,7 +58,7 @@ const FIRST: &str = "SELECT number, line FROM command ORDER BY number LIMIT ?1";
 
 const LATER: &str = "SELECT number, line FROM command WHERE number > ?1 ORDER BY number LIMIT ?2";
 
-/// A LIMIT that is none.
+/// The LIMIT that sets no limit.
 pub(crate) const NO_LIMIT: i64 = -1;
 
 /// Lines that were read, and the place after them: the number of the last one, if there is any.
@@ -67,7 +67,7 @@ pub(crate) struct ReadLines {
     pub(crate) next: Option<i64>,
 }
 
-/// Puts one more line behind the others.
+/// Appends one line.
 fn put_line<S: Alter>(tx: &mut Transaction<'_, S>, line: &str) -> Result<usize, Error>
     requires inside { HasCleanDisk (state S.Store tx.old.conn.now)
         → tx.old.conn.now.in_transaction ≡ true }
@@ -87,7 +87,7 @@ fn put_line<S: Alter>(tx: &mut Transaction<'_, S>, line: &str) -> Result<usize, 
     tx.execute(INSERT, params![line])
 }
 
-/// Puts the lines behind the others, in order, up to the first that fails.
+/// Appends the lines, in order, up to the first that fails.
 fn put_lines<S: Alter>(tx: &mut Transaction<'_, S>, lines: &[String]) -> Result<(), Error>
     requires inside { HasCleanDisk (state S.Store tx.old.conn.now)
         → tx.old.conn.now.in_transaction ≡ true }
@@ -111,7 +111,7 @@ fn put_lines<S: Alter>(tx: &mut Transaction<'_, S>, lines: &[String]) -> Result<
     Ok(())
 }
 
-/// Puts all of the lines behind the others, or none. There is at least one.
+/// Appends all of the lines, or none. There is at least one.
 pub(crate) fn put_all<S: Alter>(conn: &mut Connection<S>, more: &[String]) -> Result<(), Error>
     requires log { IsLog S.Store conn.old }
     requires some { 0 < length more.now }
@@ -121,6 +121,7 @@ pub(crate) fn put_all<S: Alter>(conn: &mut Connection<S>, more: &[String]) -> Re
     ensures err { IsOpen S.Store conn.new → OnErr result
         (lines_of S.Store conn.new ≡ lines_of S.Store conn.old) }
     ensures stays { HasCleanDisk (state S.Store conn.new) → OnOk result (IsOpen S.Store conn.new) }
+    ensures shut { IsOpen S.Store conn.new → IsOpen S.Store conn.old }
     ensures survives { Survives (state S.Store conn.old) (state S.Store conn.new)
         (IsAppended S.Store conn.old (map string_bytes more.now)) }
     ensures cause { HasCleanDisk (state S.Store conn.new) → IsOpen S.Store conn.old
@@ -152,7 +153,7 @@ fn clear<S: Alter>(tx: &mut Transaction<'_, S>) -> Result<usize, Error>
     tx.execute(CLEAR, &[])
 }
 
-/// Puts these lines in the place of all others, or changes nothing.
+/// Replaces all lines with these, or changes nothing.
 pub(crate) fn replace_all<S: Alter>(conn: &mut Connection<S>, lines: &[String]) -> Result<(), Error>
     requires { IsLog S.Store conn.old }
     ensures log { IsLog S.Store conn.new }
@@ -184,6 +185,8 @@ fn first_rows<S: Alter>(tx: &mut Transaction<'_, S>, limit: i64) -> Result<Vec<R
         (λ _. ⊥) }
     ensures commit { HasCleanDisk (state S.Store tx.new.conn.now)
         → KeepsCommit (state S.Store tx.old.conn.now) (state S.Store tx.new.conn.now) }
+    ensures same { HasCleanDisk (state S.Store tx.new.conn.now)
+        → OnOk result (IsUnchanged (state S.Store tx.old.conn.now) (state S.Store tx.new.conn.now)) }
     ensures rows { HasCleanDisk (state S.Store tx.new.conn.now)
         → IfOk result (λ rows. GivesRows S.Store tx.old.conn.now None limit rows.items) }
     ensures cause { HasCleanDisk (state S.Store tx.new.conn.now) → IsOpen S.Store tx.old.conn.now
@@ -208,6 +211,8 @@ fn later_rows<S: Alter>(
         (λ _. ⊥) }
     ensures commit { HasCleanDisk (state S.Store tx.new.conn.now)
         → KeepsCommit (state S.Store tx.old.conn.now) (state S.Store tx.new.conn.now) }
+    ensures same { HasCleanDisk (state S.Store tx.new.conn.now)
+        → OnOk result (IsUnchanged (state S.Store tx.old.conn.now) (state S.Store tx.new.conn.now)) }
     ensures rows { HasCleanDisk (state S.Store tx.new.conn.now)
         → IfOk result (λ rows. GivesRows S.Store tx.old.conn.now (Some number) limit rows.items) }
     ensures cause { HasCleanDisk (state S.Store tx.new.conn.now) → IsOpen S.Store tx.old.conn.now
@@ -232,6 +237,8 @@ fn rows_after<S: Alter>(
         (λ _. ⊥) }
     ensures commit { HasCleanDisk (state S.Store tx.new.conn.now)
         → KeepsCommit (state S.Store tx.old.conn.now) (state S.Store tx.new.conn.now) }
+    ensures same { HasCleanDisk (state S.Store tx.new.conn.now)
+        → OnOk result (IsUnchanged (state S.Store tx.old.conn.now) (state S.Store tx.new.conn.now)) }
     ensures rows { HasCleanDisk (state S.Store tx.new.conn.now)
         → IfOk result (λ rows. GivesRows S.Store tx.old.conn.now place limit rows.items) }
     ensures cause { HasCleanDisk (state S.Store tx.new.conn.now) → IsOpen S.Store tx.old.conn.now
@@ -242,6 +249,31 @@ fn rows_after<S: Alter>(
         None => first_rows(tx, limit),
         Some(number) => later_rows(tx, number, limit),
     }
+}
+
+/// Reads the rows of the lines after a place. The transaction commits nothing: a commit returns an error if a fault has
+/// shut the connection, and a rollback does not.
+fn read_rows<S: Alter>(
+    conn: &mut Connection<S>,
+    place: Option<i64>,
+    limit: i64,
+) -> Result<Vec<Row>, Error>
+    requires { IsLog S.Store conn.old }
+    ensures log { IsLog S.Store conn.new }
+    ensures committed { IsOpen S.Store conn.new
+        → (state S.Store conn.new).committed ≡ (state S.Store conn.old).committed }
+    ensures stays { HasCleanDisk (state S.Store conn.new) → OnOk result (IsOpen S.Store conn.new) }
+    ensures rows { HasCleanDisk (state S.Store conn.new)
+        → IfOk result (λ rows. GivesRows S.Store conn.old place limit rows.items) }
+    ensures survives { Survives (state S.Store conn.old) (state S.Store conn.new) (λ _. ⊥) }
+    ensures cause { HasCleanDisk (state S.Store conn.new) → IsOpen S.Store conn.old
+        → IfErr result (λ e. IsCaused (state S.Store conn.old) (state S.Store conn.new)
+        Nothing (fault_of e)) }
+{
+    let mut tx = conn.transaction();
+    let rows = rows_after(&mut tx, place, limit)?;
+    tx.commit()?;
+    Ok(rows)
 }
 
 fn number_of(row: &Row) -> Result<i64, Error>
@@ -259,7 +291,7 @@ fn text_of(row: &Row) -> Result<String, Error>
     row.get(1)
 }
 
-/// Reads the rows as lines. The place after no row is the one that is given.
+/// Reads the rows as lines. If there is no row, the place after them is the argument.
 fn lines_from(alloc: Global, rows: &[Row], place: Option<i64>) -> Result<ReadLines, Error>
     ensures lines { IfOk result (λ read. map string_bytes read.lines.items ≡ map text_in rows.now) }
     ensures next { IfOk result (λ read. read.next ≡ place_after place rows.now) }
@@ -275,7 +307,7 @@ fn lines_from(alloc: Global, rows: &[Row], place: Option<i64>) -> Result<ReadLin
     Ok(ReadLines { lines, next })
 }
 
-/// Reads the first lines after a place. A negative limit is none.
+/// Reads the first lines after a place. A negative limit is no limit.
 pub(crate) fn read_after<S: Alter>(
     alloc: Global,
     conn: &mut Connection<S>,
@@ -284,7 +316,9 @@ pub(crate) fn read_after<S: Alter>(
 ) -> Result<ReadLines, Error>
     requires { IsLog S.Store conn.old }
     ensures log { IsLog S.Store conn.new }
-    ensures same { IsOpen S.Store conn.new → lines_of S.Store conn.new ≡ lines_of S.Store conn.old }
+    ensures committed { IsOpen S.Store conn.new
+        → (state S.Store conn.new).committed ≡ (state S.Store conn.old).committed }
+    ensures stays { HasCleanDisk (state S.Store conn.new) → OnOk result (IsOpen S.Store conn.new) }
     ensures lines { HasCleanDisk (state S.Store conn.new) → IfOk result (λ read.
         map string_bytes read.lines.items ≡ limited (as_count (Int limit)) (lines_left S.Store conn.old place)) }
     ensures left { HasCleanDisk (state S.Store conn.new) → IfOk result (λ read. (n : ℕ) → limit ≡ pos n
@@ -295,7 +329,6 @@ pub(crate) fn read_after<S: Alter>(
         (Unreadable (lines_left S.Store conn.old place)) (fault_of e)) }
 {
     let _schema = conn.schema();
-    let mut tx = conn.transaction();
-    let rows = rows_after(&mut tx, place, limit)?;
+    let rows = read_rows(conn, place, limit)?;
     lines_from(alloc, &rows, place)
 }

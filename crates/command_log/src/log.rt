@@ -109,6 +109,9 @@ impl<S: Start> CommandLog<FileStore<FileFrom<S>>> {
         ensures read { IfOk result (λ log. IsOpen over_files log
             → ReadsLines (image_at S.Start) (lines_of over_files log)) }
         ensures other { RefusesOther (image_at S.Start) result }
+
+        // It is open, as long as the disk returns what was written.
+        ensures opened { IfOk result (λ log. HasCleanDisk (state over_files log) → IsOpen over_files log) }
     {
         let conn = match Connection::open_from(rt, path, false, start) {
             Ok(conn) => conn,
@@ -135,6 +138,10 @@ impl<S: Alter + Drop> CommandLog<S> {
         // A database with another schema is refused as that, and no other is. A log is never refused.
         ensures other { IsErrOf result LogFault.NotALog ↔ IsOther (state S.Store conn).now.schema }
         ensures taken { (state S.Store conn).now.schema ≡ log_schema → IsOk result }
+
+        // The log of an open connection is open.
+        ensures stays { IfOk result (λ log. HasCleanDisk (state S.Store log) → IsOpen S.Store conn
+            → IsOpen S.Store log) }
     {
         match held_by(conn.schema()) {
             Holds::Log => Ok(CommandLog { conn, alloc }),
@@ -148,7 +155,7 @@ impl<S: Alter + Drop> CommandLog<S> {
 }
 
 impl<D: Disk + Drop> CommandLog<FileStore<D>> {
-    /// Copies the last commit into the database file, and hands both files back. From then on the database file alone
+    /// Copies the last commit into the database file, and returns both files. From then on the database file alone
     /// has the lines, as it is and after a crash. A file beside it, SQLite's log, stays. An error comes with the store.
     pub fn close(self) -> Result<Files<D>, (LogFault, FileStore<D>)>
         ensures alone { IfOk result (λ files. AreClean D.Disk files.log files.db → IsKeptAlone self files) }
@@ -165,7 +172,7 @@ impl<D: Disk + Drop> CommandLog<FileStore<D>> {
     }
 
     /// A law: whatever a crash leaves of the files of an open log, an open of them as a log finds its lines. The call
-    /// does no IO: it gives up the store, and carries this fact.
+    /// does no IO: it returns the store, and carries this fact.
     pub fn found_after_a_crash(self) -> FileStore<D>
         ensures { IsClean (view result) → IsFoundAgain self }
     {
@@ -183,16 +190,17 @@ impl<S: Alter> CommandLog<S> {
         ensures err { IsOpen S.Store self.new → OnErr result
             (lines_of S.Store self.new ≡ lines_of S.Store self.old) }
 
-        // Only a fault of the disk shuts the log, and none that a call of `Ok` met.
+        // Only a fault of the disk shuts the log, and then the call returns an error. A log that is shut stays shut.
         ensures stays { HasCleanDisk (state S.Store self.new) → OnOk result
             (IsOpen S.Store self.old → IsOpen S.Store self.new) }
+        ensures shut { IsOpen S.Store self.new → IsOpen S.Store self.old }
 
-        // An open log fails for memory, by a fault of the disk, or if a line cannot be stored behind the others.
+        // An open log fails if memory runs out, by a fault of the disk, or if a line cannot be stored after the others.
         ensures cause { HasCleanDisk (state S.Store self.new) → IsOpen S.Store self.old
             → IfErr result (IsCaused (state S.Store self.old) (state S.Store self.new)
             (Unstorable (rows_of S.Store self.old) (map string_bytes lines.now))) }
 
-        // A crash leaves what it could leave before, or the lines with the new ones behind them.
+        // A crash leaves what it could leave before, or the lines with the new ones appended.
         ensures survives { Survives (state S.Store self.old) (state S.Store self.new)
             (IsAppended S.Store self.old (map string_bytes lines.now)) }
     {
@@ -203,7 +211,7 @@ impl<S: Alter> CommandLog<S> {
         Ok(())
     }
 
-    /// Puts these lines in the place of all others, or changes nothing.
+    /// Replaces all lines with these, or changes nothing.
     pub fn replace(&mut self, lines: &[String]) -> Result<(), LogFault>
         ensures ok { IsOpen S.Store self.new → OnOk result
             (lines_of S.Store self.new ≡ map string_bytes lines.now) }
@@ -229,6 +237,10 @@ impl<S: Alter> CommandLog<S> {
         ensures ok { HasCleanDisk (state S.Store self.new) → IfOk result (λ read.
             map string_bytes read.items ≡ lines_of S.Store self.old) }
         ensures same { IsOpen S.Store self.new → lines_of S.Store self.new ≡ lines_of S.Store self.old }
+        ensures committed { IsOpen S.Store self.new
+            → (state S.Store self.new).committed ≡ (state S.Store self.old).committed }
+        ensures stays { HasCleanDisk (state S.Store self.new)
+            → OnOk result (IsOpen S.Store self.new) }
         ensures survives { Survives (state S.Store self.old) (state S.Store self.new) (λ _. ⊥) }
         ensures cause { HasCleanDisk (state S.Store self.new) → IsOpen S.Store self.old
             → IfErr result (IsCaused (state S.Store self.old) (state S.Store self.new)
@@ -238,8 +250,9 @@ impl<S: Alter> CommandLog<S> {
         Ok(lines)
     }
 
-    /// Reads the first lines after the place, `limit` of them at most, and says the place after them. Fewer lines than
-    /// the limit are the last ones. A place is a number of a line, so what was replaced meanwhile is not noticed.
+    /// Reads the first lines after the place, `limit` of them at most, and returns them with the place after them. If
+    /// they are fewer than the limit, they are the last ones. A place is the number of a line, so a `replace` since is
+    /// not noticed.
     pub fn read_batch(&mut self, place: Place, limit: u32) -> Result<Batch, LogFault>
         ensures ok { HasCleanDisk (state S.Store self.new) → IfOk result (λ batch.
             map string_bytes batch.lines.items ≡ take limit (lines_left S.Store self.old place)) }
@@ -248,6 +261,10 @@ impl<S: Alter> CommandLog<S> {
         ensures left { HasCleanDisk (state S.Store self.new) → IfOk result (λ batch.
             lines_left S.Store self.old batch.next ≡ drop limit (lines_left S.Store self.old place)) }
         ensures same { IsOpen S.Store self.new → lines_of S.Store self.new ≡ lines_of S.Store self.old }
+        ensures committed { IsOpen S.Store self.new
+            → (state S.Store self.new).committed ≡ (state S.Store self.old).committed }
+        ensures stays { HasCleanDisk (state S.Store self.new)
+            → OnOk result (IsOpen S.Store self.new) }
         ensures survives { Survives (state S.Store self.old) (state S.Store self.new) (λ _. ⊥) }
         ensures cause { HasCleanDisk (state S.Store self.new) → IsOpen S.Store self.old
             → IfErr result (IsCaused (state S.Store self.old) (state S.Store self.new)

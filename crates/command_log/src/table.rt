@@ -75,7 +75,7 @@ fn are_unstamped(stamps: &Stamps) -> bool
     stamps.formats.is_empty()
 }
 
-/// Tells whether the table has the name, the tree and the key of a log's, and the columns.
+/// Returns whether the table has the name, the tree and the key of a log's, and the columns.
 fn is_named(table: &Table) -> bool
     ensures name { IsTrue result → table.now.name ≡ command_table.name }
     ensures tree { IsTrue result → table.now.tree ≡ 0 }
@@ -99,7 +99,7 @@ fn is_named(table: &Table) -> bool
     are_columns(table.columns.as_slice())
 }
 
-/// Tells whether the table has no rule beside those of its columns.
+/// Returns whether the table has no rule beside those of its columns.
 fn is_bare(table: &Table) -> bool
     ensures uniques { IsTrue result → table.now.uniques ≡ [] }
     ensures orders { IsTrue result → table.now.orders ≡ [] }
@@ -138,7 +138,7 @@ fn is_command(table: &Table) -> bool
     are_unstamped(&table.stamps)
 }
 
-/// Tells whether the schema is empty, or that of a log, or another.
+/// Returns whether the schema is empty, that of a log, or another.
 pub(crate) fn held_by(schema: &Schema) -> Holds
     ensures log { result ≡ Holds.Log ↔ schema.now ≡ log_schema }
     ensures nothing { result ≡ Holds.Nothing ↔ schema.now ≡ no_schema }
@@ -181,6 +181,7 @@ pub(crate) fn make<S: Alter>(conn: &mut Connection<S>) -> Result<(), Error>
     requires bare { IsOpen S.Store conn.old → (state S.Store conn.old).now.schema ≡ no_schema }
     ensures log { OnOk result (IsLog S.Store conn.new) }
     ensures empty { IsOpen S.Store conn.new → OnOk result (lines_of S.Store conn.new ≡ []) }
+    ensures stays { HasCleanDisk (state S.Store conn.new) → OnOk result (IsOpen S.Store conn.new) }
     ensures survives { Survives (state S.Store conn.old) (state S.Store conn.new)
         (KeepsLines []) }
 {

@@ -1,6 +1,6 @@
 -- What SQL's comparisons say of texts and numbers.
 use Rattle.std.proofs.Common.{◌≡◌, inl, inr, ℕ, pos, suc, List, [], ◌∷◌, map, length, Bool, true, false, ◌&&◌, ◌||◌, ◌==◌, Some, Ordering, Less}
-use Rattle.std.proofs.Common.{Equal, Greater, refl, sym, ap, ◌∙◌, arith, true≢false}
+use Rattle.std.proofs.Common.{Equal, Greater, refl, sym, ap, ◌∙◌, arith, true≢false, nat_lt}
 use Rattle.std.specs.Ordering.{is_eq, nat_cmp, int_cmp}
 use Rattle.std.specs.Cmp.Lexicographic.{slice_cmp}
 use Rattle.std.specs.FinMap.{slice_cmp-IsAntisymmetric, nat_cmp-IsAntisymmetric}
@@ -15,7 +15,7 @@ use Rattle.sqlite_value.proofs.OrderLemmas.{value_cmp-Text, value_cmp-Int, value
 use Rattle.sqlite_sql.specs.Ops.{binary, is_null, from_truth, is_true, test}
 use Rattle.sqlite_sql.specs.declared.ops.BinaryOp.TheVariants.{Compare}
 use Rattle.sqlite_sql.specs.declared.ops.CompareOp.{CompareOp}
-use Rattle.sqlite_sql.specs.declared.ops.CompareOp.TheVariants.{Eq}
+use Rattle.sqlite_sql.specs.declared.ops.CompareOp.TheVariants.{Eq, Gt}
 use Rattle.sqlite_schema.specs.Rules.{equal}
 
 pub equal_is : (o : Ordering) → is_eq o ≡ true → o ≡ Equal
@@ -66,6 +66,14 @@ pub number_compares : (m n : ℕ) → (is_true (binary (Compare Eq Binary) (Int 
 unfolding binary
 number_compares m n = and_true _ ∙ truth_of (is_eq (value_cmp (Int (pos m)) (Int (pos n)))) ∙ ap is_eq (value_cmp-Int (pos m) (pos n) ∙ pos_cmp m n)
     ∙ same_number m n
+
+pub number_above : (m n : ℕ) → (is_true (binary (Compare Gt Binary) (Int (pos m)) (Int (pos n))) && true) ≡ nat_lt n m
+unfolding binary
+number_above m n = and_true _ ∙ truth_of (test Gt (value_cmp (Int (pos m)) (Int (pos n)))) ∙ ap (test Gt) (value_cmp-Int (pos m) (pos n) ∙ pos_cmp m n)
+    ∙ above m n
+  where
+    above : (m n : ℕ) → test Gt (nat_cmp m n) ≡ nat_lt n m
+    above m n = grind (arith, nat_tests)
 
 -- ---- lists
 

@@ -22,5 +22,6 @@ pub mod Updating
 pub mod Finding
 pub mod PartLemmas
 pub mod PartIds
+pub mod After
 pub mod Beyond
 pub mod NewIds

@@ -1,5 +1,5 @@
 -- What a site stores, and what each call makes of it.
-use Rattle.std.specs.Prelude.{◌≡◌, ◌⊎◌, Result, Ok, Err, ℕ, Bool, true, false, not, ◌&&◌, ◌==◌, List, [], ◌∷◌, map, filter, find, max, nat_lt}
+use Rattle.std.specs.Prelude.{◌≡◌, ◌⊎◌, Result, Ok, Err, ℕ, Bool, true, false, not, ◌&&◌, ◌==◌, List, [], ◌∷◌, map, filter, take, find, max, nat_lt}
 use Rattle.std.specs.Prelude.{if◌then◌else◌, Option, Some, None, IsSome, unwrap_or, refl}
 use Rattle.std.specs.List.{list_any}
 use Rattle.std.specs.Option.{option_copied}
@@ -69,6 +69,10 @@ has_post id = list_any (λ q. q.id == id)
 -- the post with the ID, published or not (get_post)
 abbrev pub post_with : ℕ → List Post → Option Post
 post_with id = find (λ q. q.id == id)
+
+-- the posts with an ID above this one, published or not, and `limit` of them at most
+abbrev pub posts_after : ℕ → ℕ → List Post → List Post
+posts_after id limit posts = take limit (filter (λ q. nat_lt id q.id) posts)
 
 -- one post more. IDs are never used again, so the largest is kept apart from the posts (SQLite, AUTOINCREMENT)
 abbrev pub with_new : Post → Rows → Rows

@@ -23,6 +23,7 @@ ghost use Rattle.post_tables.specs.Rows.{
   without_post,
   has_post,
   post_with,
+  posts_after,
   edited_posts,
   edit_by,
 };
@@ -228,6 +229,25 @@ pub(crate) fn post_rows(conn: &mut Connection<MemStore>, id: u32) -> Result<Vec<
     conn.query_all(
         "SELECT id, kind, status, title, content, date FROM post WHERE id = ?1",
         params![id],
+    )
+}
+
+/// Returns the posts and pages with an ID above this one, `limit` of them at most.
+pub(crate) fn later_rows(
+    conn: &mut Connection<MemStore>,
+    id: u32,
+    limit: u32,
+) -> Result<Vec<Row>, Error>
+    requires { IsSite conn.old }
+    ensures reads { Reads conn.old conn.new }
+    ensures rows { IfOk result (λ rows. map post_from rows.items
+        ≡ posts_after id limit (rows_of conn.old).posts) }
+    ensures readable { IfOk result (λ rows. All IsPostRow rows.items) }
+    ensures stopped { IfErr result (IsStopped (rows_of conn.old).step_limit) }
+{
+    conn.query_all(
+        "SELECT id, kind, status, title, content, date FROM post WHERE id > ?1 ORDER BY id LIMIT ?2",
+        params![id, limit],
     )
 }
 

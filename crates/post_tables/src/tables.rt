@@ -26,6 +26,7 @@ ghost use Rattle.post_tables.specs.Rows.{
   without_post,
   has_post,
   post_with,
+  posts_after,
   edit_by,
   edited_posts,
   set_text,
@@ -48,8 +49,10 @@ use crate::named::{
     active_rows, delete_active, delete_template, option_rows, put_active, put_option, put_template,
     template_rows,
 };
-use crate::posts::{NewPost, delete_post, edit_post, has_post, insert_post, largest_id, post_rows};
-use crate::read::{read_found, read_names, read_pairs};
+use crate::posts::{
+    NewPost, delete_post, edit_post, has_post, insert_post, largest_id, later_rows, post_rows,
+};
+use crate::read::{read_found, read_names, read_pairs, read_posts};
 use crate::schema::create;
 use hook_changes::{Listed, Text};
 use site_records::{MAX_ID, Post, PostDate, PostKind, PostStatus, SiteRecords};
@@ -225,6 +228,25 @@ impl Tables {
     {
         let rows = post_rows(&mut self.conn, id)?;
         Ok(read_found(&rows)?)
+    }
+
+    /// Returns the posts and pages with an ID above `id`, published or not, by ascending ID: at most `limit` of them.
+    pub fn posts_after(&mut self, id: u32, limit: u32) -> Result<Listed<Post>, TablesFault>
+        ensures ok { IfOk result (λ posts. posts ≡ posts_after id limit self.old.posts) }
+        ensures same { self.new ≡ self.old }
+        ensures fault { IfErr result (IsReadFault self.old.step_limit) }
+    {
+        let rows = later_rows(&mut self.conn, id, limit)?;
+        Ok(Listed::new(read_posts(self.alloc, &rows)?))
+    }
+
+    /// Returns the largest ID that was ever given or imported, also if its post is gone; 0 before the first.
+    pub fn largest(&mut self) -> Result<u32, TablesFault>
+        ensures ok { IfOk result (λ id. id ≡ self.old.largest) }
+        ensures same { self.new ≡ self.old }
+        ensures fault { IfErr result (IsReadFault self.old.step_limit) }
+    {
+        Ok(largest_id(&mut self.conn)?)
     }
 
     /// Returns the published entries of a kind, dated `from` one moment `to` another, both included: newest first, and

@@ -1,12 +1,13 @@
 -- The value that the arguments give an option that reads a number.
 use Rattle.std.proofs.Common.{◌≡◌, ◌⊎◌, ◌∙◌, ◌<◌, ℕ, pos, true, List, [], ◌∷◌, map, length, zero, suc, Option, Some, None, codes, refl, sym, ap, subst}
-use Rattle.std.proofs.Common.{inl, inr, arith, ◌≤◌, ◌^◌, Result, Ok}
+use Rattle.std.proofs.Common.{inl, inr, arith, lit<, ◌≤◌, ◌^◌, Result, Ok}
 use Rattle.std.specs.Prelude.{option_map, option_and_then, slice_get, unwrap_or}
 use Rattle.std.specs.List.{All, slice_index_or}
 use Rattle.std.specs.Str.{bytes_eq}
 use Rattle.std.specs.Borrow.{Bor}
 use Rattle.std.specs.Str.Parse.{ParsesUnsigned}
 use Rattle.std.proofs.lemmas.Slice.Eq.{bytes_eq-Decides}
+use Rattle.std.proofs.lemmas.List.{length-map}
 use Rattle.std.proofs.lemmas.List.Elements.{All-get_or}
 use Rattle.clap.specs.Words.{Rule, Text, args_of, groups_of, app_of, rule_of, found_of, matched_of, one_text, without_minus, parser_of, IsParsedFrom}
 use Rattle.clap.specs.Words.{SameRules, IsSignedIn, Accepts, read_as, reading_of, ReadsOne}
@@ -21,8 +22,8 @@ use Rattle.clap.specs.declared.parser.matches.ArgMatches.{ArgMatches}
 use Rattle.clap.specs.declared.parser.matches.MatchedArg.{MatchedArg}
 use Rattle.clap.proofs.CallerLemmas.{entry_by_id, same_rules_by_id}
 use Rattle.clap.proofs.CallerReads.{signed_reads}
-use Rattle.site_args.specs.CommandLine.{site_app, number_or}
-use Rattle.site_args.proofs.SiteApp.{three_rules, plain, no_groups}
+use Rattle.site_args.specs.CommandLine.{site_app, number_rule, number_or}
+use Rattle.site_args.proofs.SiteApp.{six_rules, rules_are, plain, no_groups}
 
 -- argument k of the command reads a number from 1 to the most, and has an id of its own
 pub record IsNumberArg (c : Command) (k : ℕ) (a : Arg) (id : Text) (most : ℕ) : Type 0 where
@@ -108,53 +109,62 @@ given old k a id most n m p is t text = go (matched_of (found_of m) id) refl tex
     go (Some x) e h = entry_read old k a id most n m p none x t (entry_by_id (EntryPasses p.built) (found_of m).entries.items id x
         (p.parsed (p.from.globals ∙ (plain old is).globals)).values e) (rw e at h)
 
--- a list whose items are seen as these three
-record AreThree {A B : Type 0} (f : A → B) (xs : List A) (r s t : B) : Type 0 where
-  first : A
-  second : A
-  third : A
-  list : xs ≡ first ∷ second ∷ third ∷ []
-  first_is : f first ≡ r
-  second_is : f second ≡ s
-  third_is : f third ≡ t
+-- an item that a function takes to the one in a place of another list is in that place itself
+item_at : {A B : Type 0} (f : A → B) (xs : List A) (ys : List B) (k : ℕ) (y : B) → map f xs ≡ ys → k < length ys
+    → (a : A) × (slice_index_or xs k a ≡ a) × (f a ≡ slice_index_or ys k y)
+item_at f [] [] k y e lt = absurd (omega arith)
+item_at f [] (z ∷ ys) k y e lt = absurd (cc)
+item_at f (x ∷ xs) [] k y e lt = absurd (cc)
+item_at f (x ∷ xs) (z ∷ ys) zero y e lt = (x, refl, cc)
+item_at f (x ∷ xs) (z ∷ ys) (suc k) y e lt =
+    let later : map f xs ≡ ys = cc in
+    let below : k < length ys = omega arith in
+    item_at f xs ys k y later below
 
-three_items : {A B : Type 0} (f : A → B) (xs : List A) (r s t : B) → map f xs ≡ r ∷ s ∷ t ∷ [] → AreThree f xs r s t
-three_items f [] r s t e = cc
-three_items f (a ∷ []) r s t e = let same : f a ∷ [] ≡ r ∷ s ∷ t ∷ [] = e in cc
-three_items f (a ∷ b ∷ []) r s t e = let same : f a ∷ f b ∷ [] ≡ r ∷ s ∷ t ∷ [] = e in cc
-three_items f (a ∷ b ∷ d ∷ []) r s t e =
-    let same : f a ∷ f b ∷ f d ∷ [] ≡ r ∷ s ∷ t ∷ [] = e in
-    record { first = a; second = b; third = d; list = refl; first_is = cc; second_is = cc; third_is = cc }
-three_items f (a ∷ b ∷ d ∷ x ∷ xs) r s t e = let same : f a ∷ f b ∷ f d ∷ f x ∷ map f xs ≡ r ∷ s ∷ t ∷ [] = e in cc
+-- the ids of arguments are those of their rules
+id_at : (xs : List Arg) (rs : List Rule) → map rule_of xs ≡ rs → (j : ℕ) (e : Arg) → j < length xs
+    → (slice_index_or xs j e).id.now ≡ (slice_index_or rs j (rule_of e)).id
+id_at [] rs same j e lt = absurd (omega arith)
+id_at (x ∷ xs) [] same j e lt = absurd (cc)
+id_at (x ∷ xs) (r ∷ rs) same zero e lt = let first : rule_of x ≡ r = cc in ap (λ (s : Rule). s.id) first
+id_at (x ∷ xs) (r ∷ rs) same (suc j) e lt =
+    let later : map rule_of xs ≡ rs = cc in
+    let below : j < length xs = omega arith in
+    id_at xs rs later j e below
 
--- an id of one option is not that of another
-calls_alone : (a b d : Arg) → a.id.now ≡ codes "calls" → b.id.now ≡ codes "cache" → d.id.now ≡ codes "trace" → (j : ℕ) (e : Arg) → j < 3
-    → bytes_eq (slice_index_or (a ∷ b ∷ d ∷ []) j e).id.now (codes "calls") ≡ true → j ≡ 0
-calls_alone a b d p q r zero e lt same = refl
-calls_alone a b d p q r (suc zero) e lt same = let no : bytes_eq (codes "cache") (codes "calls") ≡ true = rw q at same in cc
-calls_alone a b d p q r (suc (suc zero)) e lt same = let no : bytes_eq (codes "trace") (codes "calls") ≡ true = rw r at same in cc
-calls_alone a b d p q r (suc (suc (suc j))) e lt same = absurd (omega arith)
+-- no other option has the id
+calls_only : (j : ℕ) (r : Rule) → j < 6 → bytes_eq (slice_index_or six_rules j r).id (codes "calls") ≡ true → j ≡ 0
+calls_only zero r lt same = refl
+calls_only (suc zero) r lt same = let no : bytes_eq (codes "cache") (codes "calls") ≡ true = same in cc
+calls_only (suc (suc zero)) r lt same = let no : bytes_eq (codes "trace") (codes "calls") ≡ true = same in cc
+calls_only (suc (suc (suc zero))) r lt same = let no : bytes_eq (codes "database") (codes "calls") ≡ true = same in cc
+calls_only (suc (suc (suc (suc zero)))) r lt same = let no : bytes_eq (codes "export") (codes "calls") ≡ true = same in cc
+calls_only (suc (suc (suc (suc (suc zero))))) r lt same = let no : bytes_eq (codes "compact") (codes "calls") ≡ true = same in cc
+calls_only (suc (suc (suc (suc (suc (suc j)))))) r lt same = absurd (omega arith)
 
-cache_alone : (a b d : Arg) → a.id.now ≡ codes "calls" → b.id.now ≡ codes "cache" → d.id.now ≡ codes "trace" → (j : ℕ) (e : Arg) → j < 3
-    → bytes_eq (slice_index_or (a ∷ b ∷ d ∷ []) j e).id.now (codes "cache") ≡ true → j ≡ 1
-cache_alone a b d p q r zero e lt same = let no : bytes_eq (codes "calls") (codes "cache") ≡ true = rw p at same in cc
-cache_alone a b d p q r (suc zero) e lt same = refl
-cache_alone a b d p q r (suc (suc zero)) e lt same = let no : bytes_eq (codes "trace") (codes "cache") ≡ true = rw r at same in cc
-cache_alone a b d p q r (suc (suc (suc j))) e lt same = absurd (omega arith)
+cache_only : (j : ℕ) (r : Rule) → j < 6 → bytes_eq (slice_index_or six_rules j r).id (codes "cache") ≡ true → j ≡ 1
+cache_only zero r lt same = let no : bytes_eq (codes "calls") (codes "cache") ≡ true = same in cc
+cache_only (suc zero) r lt same = refl
+cache_only (suc (suc zero)) r lt same = let no : bytes_eq (codes "trace") (codes "cache") ≡ true = same in cc
+cache_only (suc (suc (suc zero))) r lt same = let no : bytes_eq (codes "database") (codes "cache") ≡ true = same in cc
+cache_only (suc (suc (suc (suc zero)))) r lt same = let no : bytes_eq (codes "export") (codes "cache") ≡ true = same in cc
+cache_only (suc (suc (suc (suc (suc zero))))) r lt same = let no : bytes_eq (codes "compact") (codes "cache") ≡ true = same in cc
+cache_only (suc (suc (suc (suc (suc (suc j)))))) r lt same = absurd (omega arith)
 
 calls_arg : (c : Command) → app_of c ≡ site_app → (a : Arg) × IsNumberArg c 0 a (codes "calls") 100000
 calls_arg c is =
-    let three = three_items rule_of (args_of c) _ _ _ (three_rules c is) in
-    let first_id : three.first.id.now ≡ codes "calls" = ap (λ (r : Rule). r.id) three.first_is in
-    let second_id : three.second.id.now ≡ codes "cache" = ap (λ (r : Rule). r.id) three.second_is in
-    let third_id : three.third.id.now ≡ codes "trace" = ap (λ (r : Rule). r.id) three.third_is in (
-      three.first,
+    let rules = rules_are c is in
+    let item = item_at rule_of (args_of c) six_rules 0 (number_rule (codes "calls") 100000) rules (lit< tt) in
+    let six : length (args_of c) ≡ 6 = sym (length-map (args_of c) rule_of) ∙ ap (λ (rs : List Rule). length rs) rules in (
+      item.0,
       record {
-        within = rw three.list (omega arith);
-        is = ap (λ (xs : List Arg). slice_index_or xs 0 three.first) three.list;
-        id_is = first_id;
-        parser = ap (λ (r : Rule). r.parser) three.first_is;
-        alone = rw three.list (calls_alone three.first three.second three.third first_id second_id third_id);
+        within = rw six (lit< tt);
+        is = item.1;
+        id_is = ap (λ (r : Rule). r.id) item.2;
+        parser = ap (λ (r : Rule). r.parser) item.2;
+        alone =
+            λ j e lt same. calls_only j (rule_of e) (subst (λ n. j < n) six lt)
+            (subst (λ (w : Text). bytes_eq w (codes "calls") ≡ true) (id_at (args_of c) six_rules rules j e lt) same);
         own = λ auto. elim auto [ inl h ↦ cc | inr h ↦ cc ];
         named = λ h. cc;
       },
@@ -162,17 +172,18 @@ calls_arg c is =
 
 cache_arg : (c : Command) → app_of c ≡ site_app → (a : Arg) × IsNumberArg c 1 a (codes "cache") 4096
 cache_arg c is =
-    let three = three_items rule_of (args_of c) _ _ _ (three_rules c is) in
-    let first_id : three.first.id.now ≡ codes "calls" = ap (λ (r : Rule). r.id) three.first_is in
-    let second_id : three.second.id.now ≡ codes "cache" = ap (λ (r : Rule). r.id) three.second_is in
-    let third_id : three.third.id.now ≡ codes "trace" = ap (λ (r : Rule). r.id) three.third_is in (
-      three.second,
+    let rules = rules_are c is in
+    let item = item_at rule_of (args_of c) six_rules 1 (number_rule (codes "cache") 4096) rules (lit< tt) in
+    let six : length (args_of c) ≡ 6 = sym (length-map (args_of c) rule_of) ∙ ap (λ (rs : List Rule). length rs) rules in (
+      item.0,
       record {
-        within = rw three.list (omega arith);
-        is = ap (λ (xs : List Arg). slice_index_or xs 1 three.second) three.list;
-        id_is = second_id;
-        parser = ap (λ (r : Rule). r.parser) three.second_is;
-        alone = rw three.list (cache_alone three.first three.second three.third first_id second_id third_id);
+        within = rw six (lit< tt);
+        is = item.1;
+        id_is = ap (λ (r : Rule). r.id) item.2;
+        parser = ap (λ (r : Rule). r.parser) item.2;
+        alone =
+            λ j e lt same. cache_only j (rule_of e) (subst (λ n. j < n) six lt)
+            (subst (λ (w : Text). bytes_eq w (codes "cache") ≡ true) (id_at (args_of c) six_rules rules j e lt) same);
         own = λ auto. elim auto [ inl h ↦ cc | inr h ↦ cc ];
         named = λ h. cc;
       },

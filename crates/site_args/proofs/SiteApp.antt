@@ -1,12 +1,12 @@
 -- Facts about the program's command line, computed.
-use Rattle.std.proofs.Common.{◌≡◌, [], ◌∷◌, map, true, codes, refl, ap, ap₂}
+use Rattle.std.proofs.Common.{◌≡◌, [], ◌∷◌, List, map, true, codes, refl, ap, ap₂}
 use Rattle.std.specs.List.{All, list_all}
 use Rattle.clap.specs.Words.{App, Rule, app_of, args_of, is_simple, is_simple_and_free, with_rule, new_app, rule_of}
 use Rattle.clap.specs.Simple.{on_top}
 use Rattle.clap.specs.declared.builder.command.Command.{Command}
 use Rattle.clap.proofs.OnLiterals.{clap_on_literals}
 use Rattle.clap.proofs.SimpleLemmas.{HasPlainFields, plain_fields, simple_groups}
-use Rattle.site_args.specs.CommandLine.{site_app, number_rule, flag_rule}
+use Rattle.site_args.specs.CommandLine.{site_app, serving_rules, number_rule, flag_rule, path_rule}
 
 pub simple : is_simple site_app ≡ true
 unfolding clap_on_literals site_app
@@ -20,16 +20,26 @@ simple_and_free = refl
 abbrev pub without_name : App → App
 without_name a = on_top (λ s. record s { no_binary_name = true }) a
 
-pub app_is : (a : App) (r s t : Rule) → a ≡ without_name (new_app (codes "site")) → r ≡ number_rule (codes "calls") 100000
-    → s ≡ number_rule (codes "cache") 4096 → t ≡ flag_rule (codes "trace") → with_rule (with_rule (with_rule a r) s) t ≡ site_app
+-- the first three rules of the program are those of a site in memory, and with three more it is whole
+pub serving_is : (a : App) (r s t : Rule) → a ≡ without_name (new_app (codes "site")) → r ≡ number_rule (codes "calls") 100000
+    → s ≡ number_rule (codes "cache") 4096 → t ≡ flag_rule (codes "trace")
+    → with_rule (with_rule (with_rule a r) s) t ≡ serving_rules (without_name (new_app (codes "site")))
+serving_is a r s t p q u v = ap₂ with_rule (ap₂ with_rule (ap₂ with_rule p q) u) v
+
+pub app_is : (a : App) (r s t : Rule) → a ≡ serving_rules (without_name (new_app (codes "site"))) → r ≡ path_rule (codes "database")
+    → s ≡ flag_rule (codes "export") → t ≡ flag_rule (codes "compact") → with_rule (with_rule (with_rule a r) s) t ≡ site_app
 unfolding site_app
 app_is a r s t p q u v = ap₂ with_rule (ap₂ with_rule (ap₂ with_rule p q) u) v
 
--- the three options
-pub three_rules : (c : Command) → app_of c ≡ site_app
-    → map rule_of (args_of c) ≡ number_rule (codes "calls") 100000 ∷ number_rule (codes "cache") 4096 ∷ flag_rule (codes "trace") ∷ []
+-- the six options
+abbrev pub six_rules : List Rule
+six_rules =
+    number_rule (codes "calls") 100000 ∷ number_rule (codes "cache") 4096 ∷ flag_rule (codes "trace") ∷ path_rule (codes "database")
+    ∷ flag_rule (codes "export") ∷ flag_rule (codes "compact") ∷ []
+
+pub rules_are : (c : Command) → app_of c ≡ site_app → map rule_of (args_of c) ≡ six_rules
 unfolding site_app
-three_rules c is = ap (λ (a : App). a.top.rules) is
+rules_are c is = ap (λ (a : App). a.top.rules) is
 
 -- there are no groups, and no option is in one
 pub plain : (c : Command) → app_of c ≡ site_app → HasPlainFields c

@@ -1,9 +1,9 @@
 -- Worked command lines, computed.
-use Rattle.std.proofs.Common.{◌≡◌, List, [], ◌∷◌, codes, refl, true, false}
+use Rattle.std.proofs.Common.{◌≡◌, List, [], ◌∷◌, codes, refl, true, false, Some, None}
 use Rattle.clap.proofs.OnLiterals.{clap_on_literals}
 use Rattle.clap.specs.Words.{Text}
 use Rattle.clap.specs.declared.error.kind.ErrorKind.TheVariants as kind
-use Rattle.site_args.specs.CommandLine.{calls_of, cache_of, trace_of, reasons, site_app}
+use Rattle.site_args.specs.CommandLine.{calls_of, cache_of, trace_of, database_of, export_of, compact_of, reasons, site_app}
 
 pub no_words : reasons [] ≡ []
 unfolding clap_on_literals site_app
@@ -91,3 +91,38 @@ trace = refl
 pub traced_twice : reasons (codes "--trace" ∷ codes "--trace" ∷ []) ≡ kind.ArgumentConflict ∷ []
 unfolding clap_on_literals site_app
 traced_twice = refl
+
+abbrev pub export_options : List Text
+export_options = codes "--database" ∷ codes "a.db" ∷ codes "--export" ∷ []
+
+pub no_database : database_of [] ≡ None
+unfolding clap_on_literals site_app
+no_database = refl
+
+pub exported : reasons export_options ≡ []
+unfolding clap_on_literals site_app
+exported = refl
+
+pub database : database_of export_options ≡ Some (codes "a.db")
+unfolding clap_on_literals site_app
+database = refl
+
+pub export : export_of export_options ≡ true
+unfolding clap_on_literals site_app
+export = refl
+
+pub not_compact : compact_of export_options ≡ false
+unfolding clap_on_literals site_app
+not_compact = refl
+
+pub compact : compact_of (codes "--compact" ∷ []) ≡ true
+unfolding clap_on_literals site_app
+compact = refl
+
+pub no_file : reasons (codes "--database" ∷ []) ≡ kind.InvalidValue ∷ []
+unfolding clap_on_literals site_app
+no_file = refl
+
+pub two_databases : reasons (codes "--database" ∷ codes "a" ∷ codes "--database" ∷ codes "a" ∷ []) ≡ kind.ArgumentConflict ∷ []
+unfolding clap_on_literals site_app
+two_databases = refl

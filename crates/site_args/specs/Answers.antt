@@ -1,30 +1,65 @@
 -- What the program makes of its arguments.
-use Rattle.std.specs.Prelude.{◌≡◌, ◌≢◌, ◌≤◌, List, []}
+use Rattle.std.specs.Prelude.{◌≡◌, ◌≢◌, ◌≤◌, ◌⊎◌, List, [], Bool, true, false, Option, None, Some, option_map, string_bytes}
 use Rattle.clap.specs.Words.{IsAmong, Kinds, Text}
 use Rattle.clap.specs.declared.error.kind.ErrorKind.{ErrorKind}
 use Rattle.clap.specs.declared.error.kind.ErrorKind.TheVariants.{DisplayHelp}
-use Rattle.site_args.specs.CommandLine.{calls_of, cache_of, trace_of}
+use Rattle.site_args.specs.CommandLine.{calls_of, cache_of, trace_of, database_of, export_of, compact_of, reasons}
+use Rattle.site_args.specs.declared.answer.Task.{Task}
+use Rattle.site_args.specs.declared.answer.Task.TheVariants.{Serve, ServeFile, Export, Compact}
+use Rattle.site_args.specs.declared.answer.Options.{Options}
 use Rattle.site_args.specs.declared.answer.ArgsAnswer.{ArgsAnswer}
 use Rattle.site_args.specs.declared.answer.ArgsAnswer.TheVariants.{Run, Help, Bad, OutOfMemory}
 
 -- 1 to 100,000 calls, and 1 to 4,096 texts
 abbrev pub HasRanges : ArgsAnswer → Type 0
-HasRanges (Run calls cache trace) = ((1 ≤ calls) × (calls ≤ 100000)) × ((1 ≤ cache) × (cache ≤ 4096))
+HasRanges (Run calls cache trace task) = ((1 ≤ calls) × (calls ≤ 100000)) × ((1 ≤ cache) × (cache ≤ 4096))
 HasRanges _ = Unit {0}
 
 -- the numbers are those of the arguments, and so is whether invocations are told
 abbrev pub HasNumbers : List Text → ArgsAnswer → Type 0
-HasNumbers words (Run calls cache trace) = (calls ≡ calls_of words) × (cache ≡ cache_of words) × (trace ≡ trace_of words)
+HasNumbers words (Run calls cache trace task) = (calls ≡ calls_of words) × (cache ≡ cache_of words) × (trace ≡ trace_of words)
 HasNumbers words _ = Unit {0}
 
--- clap accepts the arguments, or asks to show help, or refuses them; on allocation failure nothing else is stated
-abbrev pub IsOutcome : Kinds → ArgsAnswer → Type 0
-IsOutcome kinds (Run calls cache trace) = kinds ≡ []
-IsOutcome kinds (Help text) = IsAmong DisplayHelp kinds
-IsOutcome kinds (Bad text) = (kind : ErrorKind) × (kind ≢ DisplayHelp) × IsAmong kind kinds
-IsOutcome kinds OutOfMemory = Unit {0}
+-- what a database, `--export` and `--compact` ask for together, which is nothing if they don't go together
+abbrev pub AsksFor : Option Text → (export compact : Bool) → Option Task → Type 0
+AsksFor None false false (Some Serve) = Unit {0}
+AsksFor (Some path) false false (Some (ServeFile file)) = string_bytes file ≡ path
+AsksFor (Some path) true false (Some (Export file)) = string_bytes file ≡ path
+AsksFor (Some path) false true (Some (Compact file)) = string_bytes file ≡ path
+AsksFor None true compact None = Unit {0}
+AsksFor None false true None = Unit {0}
+AsksFor (Some path) true true None = Unit {0}
+AsksFor _ _ _ _ = ⊥
 
--- no numbers were read
-abbrev pub IsRefusal : ArgsAnswer → Type 0
-IsRefusal (Run calls cache trace) = ⊥
-IsRefusal _ = Unit {0}
+-- what these arguments ask for
+abbrev pub IsTask : List Text → Option Task → Type 0
+IsTask words task = AsksFor (database_of words) (export_of words) (compact_of words) task
+
+-- clap refuses the arguments, for another reason than that help is asked for
+abbrev pub IsRefusedFor : Kinds → Type 0
+IsRefusedFor kinds = (kind : ErrorKind) × (kind ≢ DisplayHelp) × IsAmong kind kinds
+
+-- clap accepts the arguments and the options go together, or it asks to show help, or one of the two refuses; on allocation failure
+-- nothing else is stated
+abbrev pub IsOutcome : List Text → ArgsAnswer → Type 0
+IsOutcome words (Run calls cache trace task) = (reasons words ≡ []) × IsTask words (Some task)
+IsOutcome words (Help text) = IsAmong DisplayHelp (reasons words)
+IsOutcome words (Bad text) = IsRefusedFor (reasons words) ⊎ ((reasons words ≡ []) × IsTask words None)
+IsOutcome words OutOfMemory = Unit {0}
+
+-- ---- definitions for private clauses
+
+-- what clap's error comes to
+abbrev pub IsRefusal : Kinds → ArgsAnswer → Type 0
+IsRefusal kinds (Run calls cache trace task) = ⊥
+IsRefusal kinds (Help text) = IsAmong DisplayHelp kinds
+IsRefusal kinds (Bad text) = IsRefusedFor kinds
+IsRefusal kinds OutOfMemory = Unit {0}
+
+-- what options that were read come to
+abbrev pub IsReadFrom : Options → ArgsAnswer → Type 0
+IsReadFrom o (Run calls cache trace task) =
+    (calls ≡ o.calls) × (cache ≡ o.cache) × (trace ≡ o.trace) × AsksFor (option_map string_bytes o.database) o.export o.compact (Some task)
+IsReadFrom o (Help text) = ⊥
+IsReadFrom o (Bad text) = AsksFor (option_map string_bytes o.database) o.export o.compact None
+IsReadFrom o OutOfMemory = Unit {0}

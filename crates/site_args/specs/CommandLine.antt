@@ -19,11 +19,22 @@ number_rule name most = record (new_rule name) {
 abbrev pub flag_rule : Text → Rule
 flag_rule name = record (new_rule name) { long = Some name; action = Some SetTrue }
 
--- `site [--calls N] [--cache N] [--trace]`, of the command-line arguments; clap adds `--help`
+-- `--NAME FILE`, with a text
+abbrev pub path_rule : Text → Rule
+path_rule name = record (new_rule name) { long = Some name; value_names = 1; action = Some Set }
+
+-- the options of a site in memory
+abbrev pub serving_rules : App → App
+serving_rules app =
+    with_rule (with_rule (with_rule app (number_rule (codes "calls") 100000)) (number_rule (codes "cache") 4096)) (flag_rule (codes "trace"))
+
+-- and those of a site in a file
+abbrev pub database_rules : App → App
+database_rules app = with_rule (with_rule (with_rule app (path_rule (codes "database"))) (flag_rule (codes "export"))) (flag_rule (codes "compact"))
+
+-- `site [--calls N] [--cache N] [--trace] [--database FILE] [--export] [--compact]`, of the command-line arguments; clap adds `--help`
 unfoldable pub site_app : App
-site_app =
-    with_rule (with_rule (with_rule (on_top (λ s. record s { no_binary_name = true }) (new_app (codes "site")))
-    (number_rule (codes "calls") 100000)) (number_rule (codes "cache") 4096)) (flag_rule (codes "trace"))
+site_app = database_rules (serving_rules (on_top (λ s. record s { no_binary_name = true }) (new_app (codes "site"))))
 
 -- why clap refuses the arguments, by the first of its steps that does, and nothing if it accepts them
 abbrev pub reasons : List Text → Kinds
@@ -50,3 +61,15 @@ is_given (Some text) = bytes_eq text (codes "true")
 -- whether invocations are told: only if the arguments say so
 abbrev pub trace_of : List Text → Bool
 trace_of words = is_given (first_of (codes "trace") (matches_of site_app words))
+
+-- the file that the site is kept in, if the arguments name one
+abbrev pub database_of : List Text → Option Text
+database_of words = first_of (codes "database") (matches_of site_app words)
+
+-- whether lines that rebuild the site are to be printed
+abbrev pub export_of : List Text → Bool
+export_of words = is_given (first_of (codes "export") (matches_of site_app words))
+
+-- whether they are to be put in the place of the history
+abbrev pub compact_of : List Text → Bool
+compact_of words = is_given (first_of (codes "compact") (matches_of site_app words))

@@ -1,18 +1,40 @@
 //! What the command-line arguments ask for.
 ghost use Rattle.std.specs.Prelude.{◌≡◌, ◌≤◌, IfOk, map, option_map, string_bytes};
 ghost use Rattle.clap.specs.Words.{FailsBy, HasKind, Kinds};
-ghost use Rattle.site_args.specs.CommandLine.{calls_of, cache_of, trace_of, is_given, reasons};
-ghost use Rattle.site_args.specs.Answers.{HasRanges, HasNumbers, IsOutcome, IsRefusal};
+ghost use Rattle.site_args.specs.CommandLine.{
+  calls_of,
+  cache_of,
+  trace_of,
+  database_of,
+  export_of,
+  compact_of,
+  is_given,
+  reasons,
+};
+ghost use Rattle.site_args.specs.Answers.{AsksFor, HasRanges, HasNumbers, IsOutcome, IsReadFrom, IsRefusal};
 
 use crate::options::site_command;
 use clap::Error;
 use clap::error::ErrorKind;
-use std::alloc::Global;
+use std::alloc::{AllocError, Global};
+
+/// What the program is to do.
+#[derive(Drop)]
+pub enum Task {
+    /// Serve a site that ends with the program.
+    Serve,
+    /// Serve the site of this database file.
+    ServeFile(String),
+    /// Print lines that rebuild the site of this database file.
+    Export(String),
+    /// Put such lines in the place of the history in this database file.
+    Compact(String),
+}
 
 /// What the command-line arguments ask for.
 #[derive(Drop)]
 pub enum ArgsAnswer {
-    /// Serve.
+    /// Do this.
     Run {
         /// How many callbacks each page may call: 1 to 100,000, and 10,000 if no argument says
         /// otherwise.
@@ -21,6 +43,8 @@ pub enum ArgsAnswer {
         cache: u32,
         /// Whether each invocation is told on standard error: not if no argument says so.
         trace: bool,
+        /// What is done, and with which file.
+        task: Task,
     },
     /// Show this help, and serve nothing.
     Help(String),
@@ -30,31 +54,90 @@ pub enum ArgsAnswer {
     OutOfMemory,
 }
 
-/// Parses the command-line arguments: `--calls N`, `--cache N` (also as `--calls=N`), `--trace` and
-/// `--help`. An option given twice, a number out of its range, and any other argument are
-/// [`ArgsAnswer::Bad`]. The last clause says in clap's terms which answer it is.
+// What is said of options that don't go together.
+const APART: &str =
+    "error: '--export' and '--compact' each need '--database <FILE>', and exclude one another\n\n\
+    For more information, try '--help'.\n";
+
+/// What is read of the options, before it is known whether they go together.
+struct Options {
+    calls: u32,
+    cache: u32,
+    trace: bool,
+    database: Option<String>,
+    export: bool,
+    compact: bool,
+}
+
+/// Parses the command-line arguments: `--calls N`, `--cache N` (also as `--calls=N`), `--trace`,
+/// `--database FILE`, `--export`, `--compact` and `--help`. An option given twice, a number out of
+/// its range, any other argument, and `--export` or `--compact` without a file or beside one
+/// another are [`ArgsAnswer::Bad`]. The last clause says in clap's terms which answer it is.
 pub fn read_args(alloc: Global, words: &[String]) -> ArgsAnswer
     ensures ranges { HasRanges result }
     ensures numbers { HasNumbers (map string_bytes words.now) result }
-    ensures outcome { IsOutcome (reasons (map string_bytes words.now)) result }
+    ensures outcome { IsOutcome (map string_bytes words.now) result }
 {
     match read_options(alloc, words) {
-        Ok((calls, cache, trace)) => ArgsAnswer::Run {
-            calls,
-            cache,
-            trace,
-        },
+        Ok(options) => answer(alloc, options),
         Err(error) => refusal(alloc, &error),
     }
 }
 
-/// Returns the two numbers that the arguments give, and whether `--trace` is there, or clap's error.
-fn read_options(alloc: Global, words: &[String]) -> Result<(u32, u32, bool), Error>
-    ensures calls { IfOk result (λ n.
-        (1 ≤ n.0) × (n.0 ≤ 100000) × (n.0 ≡ calls_of (map string_bytes words.now))) }
-    ensures cache { IfOk result (λ n.
-        (1 ≤ n.1) × (n.1 ≤ 4096) × (n.1 ≡ cache_of (map string_bytes words.now))) }
-    ensures trace { IfOk result (λ n. n.2 ≡ trace_of (map string_bytes words.now)) }
+/// Returns the answer for what was read.
+fn answer(alloc: Global, options: Options) -> ArgsAnswer
+    requires calls { (1 ≤ options.calls) × (options.calls ≤ 100000) }
+    requires cache { (1 ≤ options.cache) × (options.cache ≤ 4096) }
+    ensures ranges { HasRanges result }
+    ensures read { IsReadFrom options result }
+{
+    let Options {
+        calls,
+        cache,
+        trace,
+        database,
+        export,
+        compact,
+    } = options;
+    match task_for(database, export, compact) {
+        Some(task) => ArgsAnswer::Run {
+            calls,
+            cache,
+            trace,
+            task,
+        },
+        None => match String::from_str(alloc, APART) {
+            Ok(text) => ArgsAnswer::Bad(text),
+            Err(AllocError) => ArgsAnswer::OutOfMemory,
+        },
+    }
+}
+
+/// Returns what the options on a database ask for, or `None` if they don't go together.
+fn task_for(database: Option<String>, export: bool, compact: bool) -> Option<Task>
+    ensures { AsksFor (option_map string_bytes database) export compact result }
+{
+    match database {
+        None if export || compact => None,
+        None => Some(Task::Serve),
+        Some(_) if export && compact => None,
+        Some(path) if export => Some(Task::Export(path)),
+        Some(path) if compact => Some(Task::Compact(path)),
+        Some(path) => Some(Task::ServeFile(path)),
+    }
+}
+
+/// Returns what the options say, or clap's error.
+fn read_options(alloc: Global, words: &[String]) -> Result<Options, Error>
+    ensures calls { IfOk result (λ o.
+        (1 ≤ o.calls) × (o.calls ≤ 100000) × (o.calls ≡ calls_of (map string_bytes words.now))) }
+    ensures cache { IfOk result (λ o.
+        (1 ≤ o.cache) × (o.cache ≤ 4096) × (o.cache ≡ cache_of (map string_bytes words.now))) }
+    ensures trace { IfOk result (λ o. o.trace ≡ trace_of (map string_bytes words.now)) }
+    ensures database { IfOk result (λ o. option_map string_bytes o.database
+        ≡ database_of (map string_bytes words.now)) }
+    ensures export { IfOk result (λ o. o.export ≡ export_of (map string_bytes words.now)) }
+    ensures compact { IfOk result (λ o. o.compact ≡ compact_of (map string_bytes words.now)) }
     ensures kinds { FailsBy (reasons (map string_bytes words.now)) result }
 {
     let command = site_command(alloc)?;
@@ -62,7 +145,27 @@ fn read_options(alloc: Global, words: &[String]) -> Result<(u32, u32, bool), Err
     let calls = matches.get_one::<u32>("calls").unwrap_or(10_000);
     let cache = matches.get_one::<u32>("cache").unwrap_or(64);
     let trace = is_given(matches.get_str("trace"));
-    Ok((calls, cache, trace))
+    let export = is_given(matches.get_str("export"));
+    let compact = is_given(matches.get_str("compact"));
+    let database = copy_of(alloc, matches.get_str("database"))?;
+    Ok(Options {
+        calls,
+        cache,
+        trace,
+        database,
+        export,
+        compact,
+    })
+}
+
+/// Copies the text of an option, if it is given.
+fn copy_of(alloc: Global, text: Option<&str>) -> Result<Option<String>, AllocError>
+    ensures { IfOk result (λ copy. option_map string_bytes copy ≡ option_map (λ text. text.now) text.entry) }
+{
+    match text {
+        Some(text) => Ok(Some(String::from_str(alloc, text)?)),
+        None => Ok(None),
+    }
 }
 
 /// Returns whether a flag is given, by the text that clap has for it: `true` if it is, else `false`.
@@ -78,8 +181,7 @@ fn is_given(text: Option<&str>) -> bool
 /// Returns the answer for an error of clap's. If memory for its text runs out, that is
 /// `OutOfMemory`.
 fn refusal(alloc: Global, error: &Error) -> ArgsAnswer
-    ensures outcome { (kinds : Kinds) → HasKind kinds error.now → IsOutcome kinds result }
-    ensures refusal { IsRefusal result }
+    ensures { (kinds : Kinds) → HasKind kinds error.now → IsRefusal kinds result }
 {
     let kind = error.kind();
     if kind == ErrorKind::OutOfMemory {

@@ -1,7 +1,7 @@
 //! The options, as `clap` knows them.
 ghost use Rattle.std.specs.Prelude.{◌≡◌, IfOk, codes, false};
 ghost use Rattle.clap.specs.Words.{app_of, rule_of};
-ghost use Rattle.site_args.specs.CommandLine.{number_rule, flag_rule, site_app};
+ghost use Rattle.site_args.specs.CommandLine.{number_rule, flag_rule, path_rule, site_app};
 
 use clap::{Arg, ArgAction, Command, value_parser};
 use std::alloc::{AllocError, Global};
@@ -43,6 +43,40 @@ fn trace_flag<'a>(alloc: Global) -> Arg<'a>
         .action(ArgAction::SetTrue)
 }
 
+/// Makes the option `--database FILE`.
+fn database_option<'a>(alloc: Global) -> Arg<'a>
+    ensures rule { rule_of result ≡ path_rule (codes "database") }
+    ensures local { result.global ≡ false }
+{
+    Arg::new(alloc, "database")
+        .long("database")
+        .value_name("FILE")
+        .help("Keeps the site in this SQLite database, which is made if it is not there")
+        .action(ArgAction::Set)
+}
+
+/// Makes the flag `--export`.
+fn export_flag<'a>(alloc: Global) -> Arg<'a>
+    ensures rule { rule_of result ≡ flag_rule (codes "export") }
+    ensures local { result.global ≡ false }
+{
+    Arg::new(alloc, "export")
+        .long("export")
+        .help("Writes lines that rebuild the site of the database, and serves nothing")
+        .action(ArgAction::SetTrue)
+}
+
+/// Makes the flag `--compact`.
+fn compact_flag<'a>(alloc: Global) -> Arg<'a>
+    ensures rule { rule_of result ≡ flag_rule (codes "compact") }
+    ensures local { result.global ≡ false }
+{
+    Arg::new(alloc, "compact")
+        .long("compact")
+        .help("Puts such lines in the place of the database's history, and serves nothing")
+        .action(ArgAction::SetTrue)
+}
+
 /// Makes the whole command line, for arguments that begin after the program's name.
 pub(crate) fn site_command<'a>(alloc: Global) -> Result<Command<'a>, AllocError>
     ensures { IfOk result (λ command. app_of command ≡ site_app) }
@@ -54,5 +88,8 @@ pub(crate) fn site_command<'a>(alloc: Global) -> Result<Command<'a>, AllocError>
         .no_binary_name(true)
         .arg(calls_option(alloc))?
         .arg(cache_option(alloc))?
-        .arg(trace_flag(alloc))
+        .arg(trace_flag(alloc))?
+        .arg(database_option(alloc))?
+        .arg(export_flag(alloc))?
+        .arg(compact_flag(alloc))
 }

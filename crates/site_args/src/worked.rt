@@ -1,6 +1,6 @@
 //! Worked command lines that are theorems: each clause below is computed from clap's definitions.
-ghost use Rattle.std.specs.Prelude.{◌≡◌, ◌∷◌, [], codes, true, false};
-ghost use Rattle.site_args.specs.CommandLine.{calls_of, cache_of, trace_of, reasons};
+ghost use Rattle.std.specs.Prelude.{◌≡◌, ◌∷◌, [], codes, true, false, Some, None};
+ghost use Rattle.site_args.specs.CommandLine.{calls_of, cache_of, trace_of, database_of, export_of, compact_of, reasons};
 
 use clap::error::ErrorKind;
 
@@ -21,6 +21,14 @@ pub fn worked_args()
     ensures trace { trace_of (codes "--trace" ∷ []) ≡ true }
     ensures one_word { cache_of (codes "--cache=4096" ∷ []) ≡ 4096 }
 
+    ensures no_database { database_of [] ≡ None }
+    ensures exported { reasons (codes "--database" ∷ codes "a.db" ∷ codes "--export" ∷ []) ≡ [] }
+    ensures database { database_of (codes "--database" ∷ codes "a.db" ∷ codes "--export" ∷ [])
+        ≡ Some (codes "a.db") }
+    ensures export { export_of (codes "--database" ∷ codes "a.db" ∷ codes "--export" ∷ []) ≡ true }
+    ensures not_compact { compact_of (codes "--database" ∷ codes "a.db" ∷ codes "--export" ∷ []) ≡ false }
+    ensures compact { compact_of (codes "--compact" ∷ []) ≡ true }
+
     // What clap refuses, and why.
     ensures no_calls { reasons (codes "--calls" ∷ codes "0" ∷ [])
         ≡ ErrorKind.ValueValidation ∷ [] }
@@ -38,6 +46,10 @@ pub fn worked_args()
     ensures traced_twice { reasons (codes "--trace" ∷ codes "--trace" ∷ [])
         ≡ ErrorKind.ArgumentConflict ∷ [] }
     ensures no_value { reasons (codes "--calls" ∷ []) ≡ ErrorKind.InvalidValue ∷ [] }
+    ensures no_file { reasons (codes "--database" ∷ []) ≡ ErrorKind.InvalidValue ∷ [] }
+    ensures two_databases { reasons
+        (codes "--database" ∷ codes "a" ∷ codes "--database" ∷ codes "a" ∷ [])
+        ≡ ErrorKind.ArgumentConflict ∷ [] }
     ensures no_option { reasons (codes "--pages" ∷ []) ≡ ErrorKind.UnknownArgument ∷ [] }
     ensures stray_word { reasons (codes "x" ∷ []) ≡ ErrorKind.UnknownArgument ∷ [] }
 

@@ -27,10 +27,12 @@ pub struct Site<'p, S> {
 }
 
 impl<'p, S: Stated> Site<'p, S> {
-    ghost use Rattle.std.specs.Prelude.{◌≢◌, ℕ, Some};
+    ghost use Rattle.std.specs.Prelude.{◌≢◌, ℕ, Some, All, IfErr, map, string_bytes};
     ghost use Rattle.callback_store.specs.Shape.{shapes_of};
     ghost use Rattle.site_replies.specs.declared.reply.Refusal.{Refusal};
     ghost use Rattle.site_replies.specs.Reply.{refused};
+    ghost use Rattle.site_edits.specs.Faults.{IsReadFault};
+    ghost use Rattle.site_export.specs.Lines.{IsHistory, IsShort, FitsLines};
     ghost use Rattle.site_program.specs.Requests.{Opened};
     ghost use Rattle.site_program.specs.Site.{engine_of, calls_of, setup_of, rows_of, state_of, cache_of};
     ghost use Rattle.site_program.specs.State.{empty_site, page_in};
@@ -77,6 +79,21 @@ impl<'p, S: Stated> Site<'p, S> {
         ensures cache { cache_of self.new ≡ cache_of self.old }
     {
         self.state.stored.limit_steps(limit);
+    }
+
+    /// Returns the lines that rebuild the site's rows, each without its newline: a site that has just begun and carries
+    /// them out stores the same posts, options, templates and active plugins, and has given the same largest ID. The
+    /// site stays as it is. It fails as `OutOfMemory` if memory runs out, and as `Store` only under a limit on steps.
+    pub fn history(&mut self) -> Result<Vec<String>, StoreFault>
+        ensures lines { IfOk result (λ lines. IsHistory (rows_of self.old) (map string_bytes lines.items)) }
+        ensures short { FitsLines (rows_of self.old)
+            → IfOk result (λ lines. All IsShort (map string_bytes lines.items)) }
+        ensures same { state_of S.says S.number self.new ≡ state_of S.says S.number self.old }
+        ensures setup { setup_of self.new ≡ setup_of self.old }
+        ensures cache { cache_of self.new ≡ cache_of self.old }
+        ensures fault { IfErr result (IsReadFault (rows_of self.old).step_limit) }
+    {
+        self.state.stored.history(self.setup.alloc)
     }
 
     /// Carries out one line, given without its newline. A line that isn't a command is refused as such. A refused

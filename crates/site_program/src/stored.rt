@@ -1,8 +1,9 @@
 //! What a site has stored, with what its pages read of it kept from one request to the next.
-ghost use Rattle.std.specs.Prelude.{◌≡◌, IfOk, IfErr};
+ghost use Rattle.std.specs.Prelude.{◌≡◌, All, IfOk, IfErr, map, string_bytes};
 ghost use Rattle.permalink_query.specs.Paths.{query_of};
 ghost use Rattle.permalink_query.specs.Found.{found};
 ghost use Rattle.site_edits.specs.Faults.{IsReadFault};
+ghost use Rattle.site_export.specs.Lines.{IsHistory, IsShort, FitsLines};
 ghost use Rattle.site_program.specs.Requests.{options_of, templates_of, active_of, found_by};
 
 use crate::kept_finds::KeptFinds;
@@ -12,6 +13,7 @@ use hook_changes::Text;
 use permalink_query::{FindFault, Found, find, read};
 use post_tables::Tables;
 use site_edits::StoreFault;
+use site_export::history_of;
 use std::alloc::Global;
 use std::marker::Model;
 use template_parts::SharedFound;
@@ -61,6 +63,16 @@ impl Stored {
         ensures { self.new ≡ record self.old { step_limit = limit } }
     {
         self.tables.limit_steps(limit);
+    }
+
+    /// Returns the lines that rebuild the rows. What is kept of the rows stays, since none changes.
+    pub(crate) fn history(&mut self, alloc: Global) -> Result<Vec<String>, StoreFault>
+        ensures lines { IfOk result (λ lines. IsHistory self.old (map string_bytes lines.items)) }
+        ensures short { FitsLines self.old → IfOk result (λ lines. All IsShort (map string_bytes lines.items)) }
+        ensures same { self.new ≡ self.old }
+        ensures fault { IfErr result (IsReadFault self.old.step_limit) }
+    {
+        Ok(history_of(alloc, &mut self.tables)?)
     }
 
     /// Returns the options, read from the tables if they are not kept.

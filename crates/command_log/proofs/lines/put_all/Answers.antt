@@ -32,6 +32,16 @@ returns-in_err-put_lines-clause-err g c =
     subst (λ h. IsOpen g.S.Store h → OnErr c.from_residual.result (lines_of g.S.Store h ≡ lines_of g.S.Store old)) same
     (λ up. on_err c.from_residual.result (kept_lines g.S.Store old end it up))
 
+pub returns-in_err-put_lines-clause-shut : goal.returns-in_err-put_lines-clause-shut
+returns-in_err-put_lines-clause-shut g c =
+    let old = c.args.conn.now in
+    let last = c.put_lines.new.tx.conn.now in
+    let end = c.drop-tx.new.self.0 in
+    let kept = subst (λ h. HasCleanDisk (state g.S.Store last) → KeepsCommit (state g.S.Store h) (state g.S.Store last)) c.transaction-tx.ensures.begun c.in_err-put_lines.ensures.commit in
+    let it = rolled_back g.S.Store g.met.S.Store.shut_if_dirty old last end c.requires.log c.drop-tx.ensures.survives.clean kept c.drop-tx.ensures.ended c.drop-tx.ensures.undone in
+    let same : end ≡ c.conn-1.given.0 = search rules in
+    subst (λ h. IsOpen g.S.Store h → IsOpen g.S.Store old) same it.was_open
+
 pub returns-clause-log : goal.returns-clause-log
 returns-clause-log g c =
     let old = c.args.conn.now in
@@ -57,6 +67,19 @@ returns-clause-ok g c =
     let it = ends g.S.Store g.met.S.Store.shut_if_dirty old last end more c.requires.log c.commit.ensures.survives.clean kept puts c.commit.ensures.ended c.commit.result c.commit.ensures.ok c.commit.ensures.err in
     let same : end ≡ c.conn-2-1.given.0 = search rules in
     subst (λ h. IsOpen g.S.Store h → OnOk c.commit.result (lines_of g.S.Store h ≡ lines_of g.S.Store old ++ more)) same it.ok
+
+pub returns-clause-shut : goal.returns-clause-shut
+returns-clause-shut g c =
+    let old = c.args.conn.now in
+    let last = c.put_lines.new.tx.conn.now in
+    let end = c.commit.new.self.0 in
+    let more = map string_bytes c.args.more.now in
+    let kept = subst (λ h. HasCleanDisk (state g.S.Store last) → KeepsCommit (state g.S.Store h) (state g.S.Store last)) c.transaction-tx.ensures.begun c.in_ok-put_lines.ensures.commit in
+    let any = subst (λ h. HasCleanDisk (state g.S.Store last) → PutsAny g.S.Store h last more) c.transaction-tx.ensures.begun c.in_ok-put_lines.ensures.put in
+    let puts = λ (clean : HasCleanDisk (state g.S.Store last)). puts_some g.S.Store string_bytes c.args.more.now (begun g.S.Store old) last c.requires.some (any clean) in
+    let it = ends g.S.Store g.met.S.Store.shut_if_dirty old last end more c.requires.log c.commit.ensures.survives.clean kept puts c.commit.ensures.ended c.commit.result c.commit.ensures.ok c.commit.ensures.err in
+    let same : end ≡ c.conn-2-1.given.0 = search rules in
+    subst (λ h. IsOpen g.S.Store h → IsOpen g.S.Store old) same it.shut
 
 pub returns-clause-err : goal.returns-clause-err
 returns-clause-err g c =

@@ -22,7 +22,7 @@ returns-in_err-matches-clause-kinds c =
     kind)
 
 -- the rows of the matches are those of the arguments
-rows_are : (c : goal.Joined-matches) → rows_of (found_of c.in_ok-matches.matches) ≡ matches_of site_app (map string_bytes c.args.words.now)
+rows_are : (c : goal.Joined-matches-2) → rows_of (found_of c.in_ok-matches.matches) ≡ matches_of site_app (map string_bytes c.args.words.now)
 rows_are c = (c.in_ok-matches.ensures.matches (ap is_simple c.in_ok-command.ensures ∙ simple)).0
     ∙ ap (λ a. matches_of a (map string_bytes c.args.words.now)) c.in_ok-command.ensures
 
@@ -46,3 +46,15 @@ returns-clause-cache c =
 pub returns-clause-trace : goal.returns-clause-trace
 returns-clause-trace c = c.is_given-trace.ensures
     ∙ ap is_given (c.get_str.ensures ∙ first_value-rows (found_of c.in_ok-matches.matches) (codes "trace") ∙ ap (first_of (codes "trace")) (rows_are c))
+
+pub returns-clause-export : goal.returns-clause-export
+returns-clause-export c = c.is_given-export.ensures
+    ∙ ap is_given (c.get_str-2.ensures ∙ first_value-rows (found_of c.in_ok-matches.matches) (codes "export") ∙ ap (first_of (codes "export")) (rows_are c))
+
+pub returns-clause-compact : goal.returns-clause-compact
+returns-clause-compact c = c.is_given-compact.ensures
+    ∙ ap is_given (c.get_str-3.ensures ∙ first_value-rows (found_of c.in_ok-matches.matches) (codes "compact") ∙ ap (first_of (codes "compact")) (rows_are c))
+
+pub returns-clause-database : goal.returns-clause-database
+returns-clause-database c = c.in_ok-database.ensures
+    ∙ (c.get_str-4.ensures ∙ first_value-rows (found_of c.in_ok-matches.matches) (codes "database") ∙ ap (first_of (codes "database")) (rows_are c))

@@ -23,5 +23,13 @@ returns c = record {
   no_value = computed.no_value;
   no_option = computed.no_option;
   stray_word = computed.stray_word;
+  no_database = computed.no_database;
+  exported = computed.exported;
+  database = computed.database;
+  export = computed.export;
+  not_compact = computed.not_compact;
+  compact = computed.compact;
+  no_file = computed.no_file;
+  two_databases = computed.two_databases;
   help = computed.help;
 }

@@ -1,5 +1,5 @@
 use Rattle.sqlite.specs.WalFiles.{image_at}
-use Rattle.command_log.proofs.Files.{idle, orderly_if_open, finds_over, reads_over, fails_to_open}
+use Rattle.command_log.proofs.Files.{idle, orderly_if_open, finds_over, reads_over, opened_over, fails_to_open}
 use Rattle.command_log.proofs.log.CommandLog+FileStore+FileFrom+S.open.Goals as goal
 
 pub over-requires-clause-idle : goal.over-requires-clause-idle
@@ -12,6 +12,7 @@ pub returns : goal.returns
 returns g c = record {
   found = finds_over c.in-Ok.conn (image_at g.S.Start) _ c.in-Ok.ensures.found c.in-Ok.ensures.opened c.over.result c.over.ensures.lines c.over.ensures.survives;
   read = reads_over c.in-Ok.conn (image_at g.S.Start) _ c.in-Ok.ensures.found c.in-Ok.ensures.opened c.over.result c.over.ensures.lines c.over.ensures.survives;
+  opened = opened_over c.in-Ok.conn (image_at g.S.Start) _ c.in-Ok.ensures.opened c.over.result c.over.ensures.stays c.over.ensures.survives;
   other = λ none. (c.in-Ok.conn, c.over.ensures.other.0 none, c.in-Ok.ensures.found);
 }
 

@@ -1,0 +1,5 @@
+pub mod Printable
+pub mod Texts
+pub mod Batches
+pub mod Steps
+pub mod Lengths

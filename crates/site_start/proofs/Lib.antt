@@ -1,0 +1,2 @@
+pub mod LogAndSite
+pub mod Replaying

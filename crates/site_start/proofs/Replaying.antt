@@ -1,0 +1,76 @@
+-- Lines that were carried out, and those that are left.
+use Rattle.std.proofs.Common.{◌≡◌, ℕ, ◌+◌, ◌∙◌, List, [], ◌∷◌, ◌++◌, refl, sym, ap, map, take, drop, append_assoc, append-nil, take-append-drop, length, ◌<◌, get_or, arith, ◌≤◌, Result, Ok, Err}
+use Rattle.std.specs.Prelude.{OnOk, OnErr}
+use Rattle.std.proofs.lemmas.List.{take_more, map-append}
+use Rattle.sqlite.specs.Held.{Held, state}
+use Rattle.sqlite.specs.State.{HasCleanDisk, Survives}
+use Rattle.sqlite.specs.Store.{Ghosts}
+use Rattle.sqlite.specs.Tree.{Trees}
+use Rattle.command_log.specs.Lines.{IsOpen}
+use Rattle.command_log.proofs.States.{ShutsIfDirty, clean_of}
+use Rattle.site_replies.specs.Reply.{ReplyData}
+use Rattle.site_program.specs.History.{site_after}
+use Rattle.site_program.specs.State.{State}
+use Rattle.site_start.proofs.LogAndSite.{site_after-append}
+
+module _ (steps : State → List ℕ → State × ReplyData) where
+  -- one more line was carried out
+  pub one_more : {X : Type 0} (f : X → List ℕ) (first mid new : State) (lines : List X) (i : ℕ) (line : X) → i < length lines → line ≡ get_or lines i line
+      → mid ≡ site_after steps first (map f (take i lines)) → new ≡ (steps mid (f line)).0 → new ≡ site_after steps first (map f (take (i + 1) lines))
+  one_more f first mid new lines i line inside is before done =
+      let taken : take (i + 1) lines ≡ take i lines ++ line ∷ [] = take_more lines i line inside ∙ ap (λ x. take i lines ++ x ∷ []) (sym is) in
+      let texts : map f (take (i + 1) lines) ≡ map f (take i lines) ++ f line ∷ [] = ap (map f) taken ∙ map-append f (take i lines) (line ∷ []) in
+      done ∙ ap (λ site. (steps site (f line)).0) before ∙ sym (site_after-append steps first (map f (take i lines)) (f line ∷ []))
+      ∙ ap (site_after steps first) (sym texts)
+
+  -- a batch more was carried out
+  pub batch_more : (first mid new : State) (lines before left batch next : List (List ℕ)) (limit : ℕ) → lines ≡ before ++ left → mid ≡ site_after steps first before
+      → batch ≡ take limit left → next ≡ drop limit left → new ≡ site_after steps mid batch
+      → (done : List (List ℕ)) × (lines ≡ done ++ next) × (new ≡ site_after steps first done)
+  batch_more first mid new lines before left batch next limit whole made took rest did =
+      let cut : left ≡ batch ++ next = sym (take-append-drop limit left) ∙ ap (λ b. b ++ drop limit left) (sym took) ∙ ap (λ n. batch ++ n) (sym rest) in (
+        before ++ batch,
+        whole ∙ ap (λ l. before ++ l) cut ∙ sym (append_assoc before batch next),
+        did ∙ ap (λ site. site_after steps site batch) made ∙ sym (site_after-append steps first before batch),
+      )
+
+-- ---- the first line of a log
+
+-- there is none
+pub none_left : {X : Type 0} (f : X → List ℕ) (items : List X) (lines : List (List ℕ)) → map f items ≡ take 1 lines → length items < 1 → lines ≡ []
+none_left f items [] took few = refl
+none_left f [] (l ∷ lines) took few = let none : [] ≡ l ∷ [] = took in cc
+none_left f (x ∷ items) (l ∷ lines) took few = absurd (omega arith)
+
+-- there is one
+pub first_left : {X : Type 0} (f : X → List ℕ) (items : List X) (lines : List (List ℕ)) (line : X) → map f items ≡ take 1 lines → 1 ≤ length items
+    → line ≡ get_or items 0 line → lines ≡ f line ∷ drop 1 lines
+first_left f [] lines line took some is = absurd (omega arith)
+first_left f (x ∷ items) [] line took some is = let none : f x ∷ map f items ≡ [] = took in cc
+first_left f (x ∷ items) (l ∷ lines) line took some is =
+    let one : f x ∷ map f items ≡ l ∷ [] = took in
+    let head : f x ≡ l = cc in
+    let same : line ≡ x = is in
+    ap (λ first. first ∷ lines) (sym head ∙ ap f (sym same))
+
+-- two facts on `Ok` give a third
+pub on_ok_both : {E P Q R : Type 0} (r : Result (Unit {0}) E) → (P → Q → R) → OnOk r P → OnOk r Q → OnOk r R
+on_ok_both (Ok x) f p q = f p q
+on_ok_both (Err e) f p q = tt
+
+-- what holds anyway holds on `Err`
+pub on_every_err : {E P : Type 0} (r : Result (Unit {0}) E) → P → OnErr r P
+on_every_err (Ok x) p = tt
+on_every_err (Err e) p = p
+
+module _ {S : Type 0} (g : Ghosts S) where
+  -- a disk that is clean was clean before
+  pub clean_before : (old new : Held S) (Commits : Trees → Type 0) → Survives (state g old) (state g new) Commits → HasCleanDisk (state g new)
+      → HasCleanDisk (state g old)
+  clean_before old new Commits s clean = let falls = s.clean in omega (arith, falls, clean)
+
+  -- what was committed is the same after one more call
+  pub same_then : ShutsIfDirty g → (first mid new : Held S) (Commits : Trees → Type 0)
+      → (HasCleanDisk (state g mid) → (state g mid).committed ≡ (state g first).committed) → Survives (state g mid) (state g new) Commits
+      → (IsOpen g new → (state g new).committed ≡ (state g mid).committed) → IsOpen g new → (state g new).committed ≡ (state g first).committed
+  same_then law first mid new Commits before s now up = now up ∙ before (clean_before mid new Commits s (clean_of g law new up))

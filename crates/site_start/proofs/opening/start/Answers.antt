@@ -1,0 +1,127 @@
+use Rattle.std.proofs.Common.{◌≡◌, ◌∙◌, ap, sym, subst, [], drop, take, length, get_or, ◌<◌, ◌≤◌}
+use Rattle.std.specs.Prelude.{◌∷◌, ◌++◌, OnOk}
+use Rattle.std.specs.String.{string_bytes}
+use Rattle.std.proofs.lemmas.Result.{on_ok_weaker, on_err_weaker}
+use Rattle.sqlite.specs.Held.{state}
+use Rattle.sqlite.specs.State.{HasCleanDisk}
+use Rattle.sqlite.proofs.StateLemmas.{survives_then}
+use Rattle.command_log.proofs.States.{clean_of}
+use Rattle.command_log.specs.Lines.{IsOpen, KeepsLines, lines_after, lines_in, lines_left, lines_of}
+use Rattle.site_program.specs.History.{site_after}
+use Rattle.site_program.specs.Site.{setup_of, state_of}
+use Rattle.site_program.specs.Step.{steps_of}
+use Rattle.site_start.specs.Started.{IsTakenOver}
+use Rattle.site_start.proofs.Replaying.{clean_before, first_left, none_left, on_every_err, on_ok_both}
+use Rattle.site_start.proofs.opening.start.Given.{Over}
+use Rattle.site_start.proofs.opening.start.Goals as goal
+use Rattle.site_start.proofs.opening.start.Goals.{After-drop-first-in-empty, After-drop-first-2}
+
+-- ---- the log has no line
+
+-- it had none as it was read
+none_read : (g : Over) (c : After-drop-first-in-empty g) → HasCleanDisk (state g.S.Store c.read_batch.new.self) → lines_of g.S.Store c.args.log.now ≡ []
+none_read g c clean =
+    let read = c.in_ok-first.ensures in
+    let took = read.ok clean ∙ ap (λ place. take 1 (lines_left g.S.Store c.args.log.now place)) c.start.ensures in
+    let few : length c.in_ok-first.first.lines.items < 1 = subst (λ items. length items < 1) c.as_slice.ensures.value c.in-empty.len_below in
+    none_left string_bytes c.in_ok-first.first.lines.items (lines_of g.S.Store c.args.log.now) took few
+
+-- and after that
+none_after : (g : Over) (c : After-drop-first-in-empty g) → HasCleanDisk (state g.S.Store c.read_batch.new.self)
+    → lines_of g.S.Store c.read_batch.new.self ≡ []
+none_after g c clean = let read = c.in_ok-first.ensures in read.same (read.stays clean) ∙ none_read g c clean
+
+-- the identity is its only line then
+alone : (g : Over) (c : After-drop-first-in-empty g) → HasCleanDisk (state g.S.Store c.append_first.new.log)
+    → OnOk c.append_first.result (lines_of g.S.Store c.append_first.new.log ≡ c.args.identity.now ∷ [])
+alone g c clean =
+    let early = clean_before g.S.Store c.read_batch.new.self c.append_first.new.log _ c.append_first.ensures.survives clean in
+    on_ok_weaker c.append_first.result (λ more. more ∙ ap (λ lines. lines ++ c.args.identity.now ∷ []) (none_after g c early)) (c.append_first.ensures.ok clean)
+
+pub returns-in-empty-clause-replayed : goal.returns-in-empty-clause-replayed
+returns-in-empty-clause-replayed g c = λ clean.
+    let steps = steps_of g.P.Stated.says g.P.Stated.number (setup_of c.args.site.now) in
+    let old = state_of g.P.Stated.says g.P.Stated.number c.args.site.now in
+    on_ok_weaker c.append_first.result (λ one. c.in_ok-introduce-in-empty.ensures.done ∙ ap (site_after steps old) (sym one)) (alone g c clean)
+
+pub returns-in-empty-clause-lines : goal.returns-in-empty-clause-lines
+returns-in-empty-clause-lines g c = λ clean.
+    let early = clean_before g.S.Store c.read_batch.new.self c.append_first.new.log _ c.append_first.ensures.survives clean in
+    on_ok_weaker c.append_first.result
+    (λ one. subst (λ old. IsTakenOver c.args.identity.now old (lines_of g.S.Store c.append_first.new.log)) (sym (none_read g c early)) one) (alone g c clean)
+
+pub returns-in-empty-clause-err : goal.returns-in-empty-clause-err
+returns-in-empty-clause-err g c = λ up.
+    let clean = clean_of g.S.Store g.met.S.Store.shut_if_dirty c.append_first.new.log up in
+    let early = clean_before g.S.Store c.read_batch.new.self c.append_first.new.log _ c.append_first.ensures.survives clean in
+    let read = c.in_ok-first.ensures in
+    on_err_weaker c.append_first.result (λ same. same ∙ read.same (read.stays early)) (c.append_first.ensures.err up)
+
+-- a crash leaves what it could leave before, or the identity alone
+pub returns-in-empty-clause-survives : goal.returns-in-empty-clause-survives
+returns-in-empty-clause-survives g c =
+    survives_then (state g.S.Store c.args.log.now) (state g.S.Store c.read_batch.new.self) (state g.S.Store c.append_first.new.log) _ _
+    (KeepsLines (c.args.identity.now ∷ []))
+    (λ clean db none. absurd none)
+    (λ clean db appended.
+    let early = clean_before g.S.Store c.read_batch.new.self c.append_first.new.log _ c.append_first.ensures.survives clean in
+    subst (λ lines. KeepsLines (lines ++ c.args.identity.now ∷ []) db) (none_after g c early) appended.1)
+    c.in_ok-first.ensures.survives c.append_first.ensures.survives
+
+-- ---- the log has a first line
+
+-- the lines of the log are the first one, which is the identity, and those that are left after it
+first_read : (g : Over) (c : After-drop-first-2 g) → HasCleanDisk (state g.S.Store c.read_batch.new.self)
+    → lines_of g.S.Store c.args.log.now ≡ c.as_str.result.now ∷ drop 1 (lines_of g.S.Store c.args.log.now)
+first_read g c clean =
+    let read = c.in_ok-first.ensures in
+    let items = c.in_ok-first.first.lines.items in
+    let line = c.line-item.result in
+    let took = read.ok clean ∙ ap (λ place. take 1 (lines_left g.S.Store c.args.log.now place)) c.start.ensures in
+    let some : 1 ≤ length items = subst (λ items. 1 ≤ length items) c.as_slice.ensures.value c.in-len1-up.len_at_least in
+    let at : line ≡ get_or items 0 line = c.line-item.is ∙ ap (λ items. get_or items 0 line) c.as_slice.ensures.value in
+    first_left string_bytes items (lines_of g.S.Store c.args.log.now) line took some at
+    ∙ ap (λ text. text ∷ drop 1 (lines_of g.S.Store c.args.log.now)) (sym c.as_str.ensures.value)
+
+-- and the log still has them
+still : (g : Over) (c : After-drop-first-2 g) → IsOpen g.S.Store c.replay.new.log → HasCleanDisk (state g.S.Store c.read_batch.new.self)
+    → lines_of g.S.Store c.replay.new.log ≡ lines_of g.S.Store c.args.log.now
+still g c up early =
+    let read = c.in_ok-first.ensures in ap (λ d. lines_in d.trees) (c.replay.ensures.same up) ∙ read.same (read.stays early)
+
+pub returns-clause-replayed : goal.returns-clause-replayed
+returns-clause-replayed g c = λ clean.
+    let store = g.S.Store in
+    let seen = state_of g.P.Stated.says g.P.Stated.number in
+    let old = seen c.args.site.now in
+    let early = clean_before store c.read_batch.new.self c.replay.new.log _ c.replay.ensures.survives clean in
+    let read = c.in_ok-first.ensures in
+    let intro = c.in_ok-introduce-in-len1-up.ensures in
+    let lines = lines_of store c.args.log.now in
+    let left : lines_left store c.read_batch.new.self c.in_ok-first.first.next ≡ drop 1 lines = ap (λ d. lines_after c.in_ok-first.first.next d.trees)
+    (read.committed (read.stays early)) ∙ read.left early ∙ ap (λ place. drop 1 (lines_left store c.args.log.now place)) c.start.ensures in
+    on_ok_both c.replay.result
+    (λ done up.
+    done ∙ ap (λ setup. site_after (steps_of g.P.Stated.says g.P.Stated.number setup) (seen c.introduce-in-len1-up.new.site)
+    (lines_left store c.read_batch.new.self c.in_ok-first.first.next)) intro.setup
+    ∙ ap (λ site. site_after (steps_of g.P.Stated.says g.P.Stated.number (setup_of c.args.site.now)) site
+    (lines_left store c.read_batch.new.self c.in_ok-first.first.next)) intro.done
+    ∙ ap (site_after (steps_of g.P.Stated.says g.P.Stated.number (setup_of c.args.site.now)) (steps_of g.P.Stated.says g.P.Stated.number (setup_of c.args.site.now) old c.as_str.result.now).0)
+    left
+    ∙ ap (site_after (steps_of g.P.Stated.says g.P.Stated.number (setup_of c.args.site.now)) old) (sym (still g c up early ∙ first_read g c early)))
+    (c.replay.ensures.done clean) (c.replay.ensures.opened clean)
+
+pub returns-clause-lines : goal.returns-clause-lines
+returns-clause-lines g c = λ clean.
+    let early = clean_before g.S.Store c.read_batch.new.self c.replay.new.log _ c.replay.ensures.survives clean in
+    let intro = c.in_ok-introduce-in-len1-up.ensures in
+    on_ok_weaker c.replay.result
+    (λ up.
+    subst (λ old. IsTakenOver c.args.identity.now old (lines_of g.S.Store c.replay.new.log)) (sym (first_read g c early))
+    (intro.same, still g c up early ∙ first_read g c early)) (c.replay.ensures.opened clean)
+
+pub returns-clause-err : goal.returns-clause-err
+returns-clause-err g c = λ up.
+    let clean = clean_of g.S.Store g.met.S.Store.shut_if_dirty c.replay.new.log up in
+    let early = clean_before g.S.Store c.read_batch.new.self c.replay.new.log _ c.replay.ensures.survives clean in
+    on_every_err c.replay.result (still g c up early)

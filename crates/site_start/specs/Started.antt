@@ -1,0 +1,16 @@
+-- What a log makes of a site.
+use Rattle.std.specs.Prelude.{◌≡◌, ℕ, List, [], ◌∷◌, Option}
+use Rattle.hook_machine.specs.Meaning.{Engine}
+use Rattle.post_tables.specs.Rows.{Rows}
+use Rattle.site_program.specs.History.{site_after}
+use Rattle.site_program.specs.State.{empty_under}
+use Rattle.site_program.specs.Step.{step}
+
+-- the rows that lines make of the empty site, under a limit on the steps of a statement or none
+abbrev pub rows_after : Engine → ℕ → Option ℕ → List (List ℕ) → Rows
+rows_after engine calls limit lines = (site_after (step engine calls) (empty_under limit) lines).rows
+
+-- the lines of a log that was taken over: those that it had, of which this is the first, or this alone if it had none
+abbrev pub IsTakenOver : List ℕ → (old new : List (List ℕ)) → Type 0
+IsTakenOver identity [] new = new ≡ identity ∷ []
+IsTakenOver identity (first ∷ later) new = (first ≡ identity) × (new ≡ first ∷ later)

@@ -1,0 +1,15 @@
+//! Starting a site from its log: the lines of the log make the site anew. And making the log shorter.
+#![tactic(auto)]
+
+mod compacting;
+mod fault;
+mod identity;
+mod law;
+mod opening;
+mod replay;
+
+pub use compacting::{compact, compact_file};
+pub use fault::StartFault;
+pub use identity::identity_of;
+pub use law::the_log_is_the_site;
+pub use opening::{open_site, start};

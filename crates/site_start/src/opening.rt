@@ -1,0 +1,108 @@
+//! Making a site anew by the lines of its log.
+ghost use Rattle.std.specs.Prelude.{◌≡◌, ℕ, List, ◌∷◌, ◌++◌, [], IfOk, OnOk, OnErr};
+ghost use Rattle.sqlite.specs.Files.{over_files};
+ghost use Rattle.sqlite.specs.Held.{state};
+ghost use Rattle.sqlite.specs.State.{HasCleanDisk, Survives};
+ghost use Rattle.sqlite.specs.WalFiles.{image_at};
+ghost use Rattle.command_log.specs.Found.{ReadsLines};
+ghost use Rattle.command_log.specs.Lines.{IsOpen, IsAppended, KeepsLines, lines_of};
+ghost use Rattle.site_program.specs.History.{site_after};
+ghost use Rattle.site_program.specs.Site.{setup_of, state_of};
+ghost use Rattle.site_program.specs.Step.{steps_of};
+ghost use Rattle.site_start.specs.Started.{IsTakenOver};
+
+use crate::fault::StartFault;
+use crate::replay::{introduce, replay};
+use callback_store::Stated;
+use command_log::{CommandLog, LogFault, Place};
+use site_program::Site;
+use sqlite::{FileFrom, FileStore, Start};
+use sqlite_trees::store::Alter;
+use std::alloc::Global;
+
+/// Opens the log in a file, or makes it, and carries out its lines in the site, as [`start`] does. What the files held
+/// as they were opened is `S`, and so is what a torn write may leave of them.
+pub fn open_site<P: Stated, S: Start>(
+    rt: &HostRuntime,
+    path: &str,
+    files: S,
+    site: &mut Site<'_, P>,
+    identity: &str,
+) -> Result<CommandLog<FileStore<FileFrom<S>>>, StartFault>
+    // The site is what the lines of the log make of it.
+    ensures replayed { IfOk result (λ log. HasCleanDisk (state over_files log)
+        → state_of P.says P.number site.new
+        ≡ site_after (steps_of P.says P.number (setup_of site.old)) (state_of P.says P.number site.old)
+        (lines_of over_files log)) }
+
+    // They are the lines that the files held, or the identity alone if they held none.
+    ensures found { IfOk result (λ log. HasCleanDisk (state over_files log)
+        → (held : List (List ℕ)) × ReadsLines (image_at S.Start) held
+        × IsTakenOver identity.now held (lines_of over_files log)) }
+    ensures opened { IfOk result (λ log. HasCleanDisk (state over_files log) → IsOpen over_files log) }
+    ensures setup { setup_of site.new ≡ setup_of site.old }
+{
+    let mut log = CommandLog::open(rt, path, files)?;
+    start(rt.alloc(), site, &mut log, identity)?;
+    Ok(log)
+}
+
+/// Carries out the lines of a log in a site, with no limit on their number. The first has to be the identity, and each
+/// later one an edit that is done; a log without a line gets the identity.
+///
+/// On `Err` some of the lines were carried out, so the site is of no further use.
+pub fn start<P: Stated, S: Alter>(
+    alloc: Global,
+    site: &mut Site<'_, P>,
+    log: &mut CommandLog<S>,
+    identity: &str,
+) -> Result<(), StartFault>
+    // The site is what the lines of the log make of it.
+    ensures replayed { HasCleanDisk (state S.Store log.new) → OnOk result (state_of P.says P.number site.new
+        ≡ site_after (steps_of P.says P.number (setup_of site.old)) (state_of P.says P.number site.old)
+        (lines_of S.Store log.new)) }
+    ensures lines { HasCleanDisk (state S.Store log.new) → OnOk result
+        (IsTakenOver identity.now (lines_of S.Store log.old) (lines_of S.Store log.new)) }
+    ensures opened { HasCleanDisk (state S.Store log.new) → OnOk result (IsOpen S.Store log.new) }
+
+    // After a fault the log has the lines that it had.
+    ensures err { IsOpen S.Store log.new → OnErr result (lines_of S.Store log.new ≡ lines_of S.Store log.old) }
+
+    // A crash leaves what it could leave before, or a log that has the identity alone.
+    ensures survives { Survives (state S.Store log.old) (state S.Store log.new) (KeepsLines (identity.now ∷ [])) }
+    ensures setup { setup_of site.new ≡ setup_of site.old }
+{
+    let first = log.read_batch(Place::start(), 1)?;
+    match first.lines.as_slice() {
+        [] => {
+            introduce(site, identity, identity)?;
+            append_first(alloc, log, identity)
+        }
+        [line, ..] => {
+            introduce(site, line.as_str(), identity)?;
+            replay(alloc, site, log, first.next)
+        }
+    }
+}
+
+/// Appends the first line to a log.
+fn append_first<S: Alter>(
+    alloc: Global,
+    log: &mut CommandLog<S>,
+    line: &str,
+) -> Result<(), StartFault>
+    requires { HasCleanDisk (state S.Store log.old) → IsOpen S.Store log.old }
+    ensures ok { HasCleanDisk (state S.Store log.new) → OnOk result
+        (lines_of S.Store log.new ≡ lines_of S.Store log.old ++ line.now ∷ []) }
+    ensures err { IsOpen S.Store log.new → OnErr result (lines_of S.Store log.new ≡ lines_of S.Store log.old) }
+    ensures opened { HasCleanDisk (state S.Store log.new) → OnOk result (IsOpen S.Store log.new) }
+    ensures survives { Survives (state S.Store log.old) (state S.Store log.new)
+        (IsAppended S.Store log.old (line.now ∷ [])) }
+{
+    let mut first = Vec::new(alloc);
+    if first.push(String::from_str(alloc, line)?).is_err() {
+        return Err(StartFault::Log(LogFault::OutOfMemory));
+    }
+    log.append(&first)?;
+    Ok(())
+}

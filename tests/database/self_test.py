@@ -1,0 +1,90 @@
+"""The checks' own test: histories that were doctored must be noticed, and so must a program that loses an edit."""
+
+import sys
+import tempfile
+from pathlib import Path
+
+from clients import over, put, replies, same_pages
+from files import check_after_a_crash, check_equal, doctored, history
+
+HERE = Path(__file__).resolve().parent
+sys.path.insert(0, str(HERE.parent))
+from programs import executable
+from replies import Wrong
+
+EDITS = [put(title=f"post {number}", n=number) for number in range(1, 13)]
+# How many of them were there before, and how many of the others were acknowledged.
+BEFORE, ACKNOWLEDGED = 4, 6
+PATHS = tuple(f"/?p={number}" for number in range(1, 14))
+RENUMBER = "UPDATE command SET number = number - 1 WHERE number > ?"
+MOVE = "UPDATE command SET number = ? WHERE number = ?"
+LINE = "UPDATE command SET line = ? WHERE number = ?"
+APPEND = "INSERT INTO command (line) SELECT line FROM command WHERE number = ?"
+ADD = "INSERT INTO command (line) VALUES (?)"
+# What is done to the file; the edits are its lines 2 to 13.
+DOCTORED = {
+    "an acknowledged edit is lost from the end": [("DELETE FROM command WHERE number > ?", (10,))],
+    "an edit is lost from the middle": [("DELETE FROM command WHERE number = ?", (8,)), (RENUMBER, (8,))],
+    "an edit is lost, and its number with it": [("DELETE FROM command WHERE number = ?", (8,))],
+    "an edit of an earlier round is lost": [("DELETE FROM command WHERE number = ?", (3,)), (RENUMBER, (3,))],
+    "an edit is there twice": [(APPEND, (13,))],
+    "an edit is there in another's place": [(LINE, (EDITS[5].decode(), 8))],
+    "two edits have changed places": [(MOVE, (99, 9)), (MOVE, (9, 10)), (MOVE, (10, 99))],
+    "two edits of an earlier round have changed places": [(MOVE, (99, 2)), (MOVE, (2, 3)), (MOVE, (3, 99))],
+    "an edit has another byte": [(LINE, (EDITS[7].decode().replace("post", "Post"), 9))],
+    "an edit has a space more": [(LINE, (EDITS[7].decode() + " ", 9))],
+    "there is an edit that nobody sent": [(ADD, (put(title="nobody").decode(),))],
+    "the first line is gone": [("DELETE FROM command WHERE number = ?", (1,)), (RENUMBER, (1,))],
+    "there is a table more": [("CREATE TABLE more (x)", ())],
+    "there is an index": [("CREATE INDEX i ON command (line)", ())],
+}
+# Leaves out the last line of what it is given, and has the program serve the rest.
+FORGETS = '#!/bin/sh\nsed "\\$d" | {program} "$@"; echo ok 12\n'
+
+
+def check(file, identity):
+    check_after_a_crash(history(file), [identity, *EDITS[:BEFORE]], EDITS[BEFORE:], ACKNOWLEDGED)
+
+
+def noticed(judged):
+    """Whether something is found to be wrong."""
+    try:
+        judged()
+    except Wrong:
+        return
+    raise Wrong("this isn't noticed")
+
+
+def changed_pages(program, file):
+    """Pages that differ from those of the history are noticed: two posts in each other's place."""
+    lines = history(file)
+    same_pages(program, file, lines, PATHS)
+    noticed(lambda: same_pages(program, file, [*lines[:5], lines[6], lines[5], *lines[7:]], PATHS))
+    noticed(lambda: same_pages(program, file, lines[:-1], PATHS))
+
+
+def forgetful(program, folder):
+    """A program that acknowledges an edit which it forgets."""
+    path = executable(folder, "forgets", FORGETS.format(program=program))
+    file = Path(folder, "forgets.db")
+    replies(program, [], *over(file))
+    [identity] = history(file)
+    if replies(str(path), EDITS, *over(file))[-1] != b"ok 12\n":
+        raise Wrong("it doesn't acknowledge all edits")
+    noticed(lambda: check_after_a_crash(history(file), [identity], EDITS, len(EDITS)))
+    noticed(lambda: check_equal(history(file), [identity, *EDITS]))
+
+
+def cases(program):
+    """What must be noticed, by its name."""
+    with tempfile.TemporaryDirectory() as folder:
+        file = Path(folder, "site.db")
+        replies(program, EDITS, *over(file))
+        identity = history(file)[0]
+        yield "a sound file", lambda: check(file, identity)
+        for name, statements in DOCTORED.items():
+            copy = doctored(file, statements, folder)
+            yield name, lambda copy=copy: noticed(lambda: check(copy, identity))
+            copy.unlink()
+        yield "other pages", lambda: changed_pages(program, file)
+        yield "a program that forgets an edit", lambda: forgetful(program, folder)
