@@ -11,6 +11,7 @@ from files import check_equal, copied, history
 
 HERE = Path(__file__).resolve().parent
 sys.path[:0] = [str(HERE.parent), str(HERE.parent / "fuzz")]
+from checks import same
 from lines import BY_TURNS, Lines
 from replies import Wrong, shown
 from sites import Stored, bared
@@ -110,12 +111,6 @@ def exported(program, file, identity):
     return lines
 
 
-def check_same(lines, replies, others, what):
-    for line, reply, other in zip(lines, replies, others, strict=True):
-        if reply != other:
-            raise Wrong(f"the reply to {shown(line)} is {shown(other)} {what}, and was {shown(reply)}")
-
-
 def short(program, lines, most=None):
     """An export of what some lines make, the same given to a site in memory, and a history that is shortened so."""
     with tempfile.TemporaryDirectory() as folder:
@@ -127,7 +122,7 @@ def short(program, lines, most=None):
         wanted = replies(program, [*lines, *probes])[len(lines) :]
         again = replies(program, [*kept, *probes])
         check_done(kept, again)
-        check_same(probes, wanted, again[len(kept) :], "over an export")
+        same(probes, again[len(kept) :], wanted, "before the export it was")
         other = Path(folder, "other.db")
         replies(program, kept, *over(other))
         check_equal(exported(program, other, identity), kept)
@@ -135,7 +130,7 @@ def short(program, lines, most=None):
             ran = run(program, b'{"cmd":"delete","id":1}\n', *over(file, "--compact"))
             check_silent(ran)
             check_equal(history(file), [identity, *kept])
-        check_same(probes, wanted, replies(program, probes, *over(copied(file, folder))), "after --compact")
+        same(probes, replies(program, probes, *over(copied(file, folder))), wanted, "before --compact it was")
         check_equal(exported(program, file, identity), kept)
         if most is not None and len(kept) > most:
             raise Wrong(f"{len(lines)} lines are {len(kept)} after an export, wanted at most {most}")
