@@ -1,7 +1,8 @@
 -- Lines that were carried out, and those that are left.
-use Rattle.std.proofs.Common.{◌≡◌, ℕ, ◌+◌, ◌∙◌, List, [], ◌∷◌, ◌++◌, refl, sym, ap, map, take, drop, append_assoc, append-nil, take-append-drop, length, ◌<◌, get_or, arith, ◌≤◌, Result, Ok, Err}
+use Rattle.std.proofs.Common.{◌≡◌, ℕ, ◌+◌, ◌∙◌, List, [], ◌∷◌, ◌++◌, refl, sym, ap, map, take, drop, append_assoc, append-nil, take-append-drop, length, ◌<◌, get_or, subst, true, suc, arith, ◌≤◌, Result, Ok, Err}
 use Rattle.std.specs.Prelude.{OnOk, OnErr}
 use Rattle.std.proofs.lemmas.List.{take_more, map-append}
+use Rattle.std.proofs.lemmas.List.Elements.{All-append, All-cons, All-nil}
 use Rattle.sqlite.specs.Held.{Held, state}
 use Rattle.sqlite.specs.State.{HasCleanDisk, Survives}
 use Rattle.sqlite.specs.Store.{Ghosts}
@@ -10,39 +11,62 @@ use Rattle.command_log.specs.Lines.{IsOpen}
 use Rattle.command_log.proofs.States.{ShutsIfDirty, clean_of}
 use Rattle.site_replies.specs.Reply.{ReplyData}
 use Rattle.site_program.specs.History.{site_after}
+use Rattle.site_commands.specs.Worked.{line_command}
 use Rattle.site_program.specs.State.{State}
+use Rattle.site_program.specs.Step.{is_edit}
+use Rattle.site_start.specs.Started.{AreEdits}
 use Rattle.site_start.proofs.LogAndSite.{site_after-append}
+
+-- the texts of one item more
+pub texts_more : {X : Type 0} (f : X → List ℕ) (lines : List X) (i : ℕ) (line : X) → i < length lines → line ≡ get_or lines i line
+    → map f (take (i + 1) lines) ≡ map f (take i lines) ++ f line ∷ []
+texts_more f lines i line inside is =
+    let taken : take (i + 1) lines ≡ take i lines ++ line ∷ [] = take_more lines i line inside ∙ ap (λ x. take i lines ++ x ∷ []) (sym is) in
+    ap (map f) taken ∙ map-append f (take i lines) (line ∷ [])
+
+-- one line more is an edit
+pub edits_more : {X : Type 0} (f : X → List ℕ) (lines : List X) (i : ℕ) (line : X) → i < length lines → line ≡ get_or lines i line
+    → AreEdits (map f (take i lines)) → is_edit (line_command (f line)) ≡ true → AreEdits (map f (take (i + 1) lines))
+edits_more f lines i line inside is before one =
+    let P : List ℕ → Type 0 = λ text. is_edit (line_command text) ≡ true in
+    subst AreEdits (sym (texts_more f lines i line inside is)) (All-append P (map f (take i lines)) (f line ∷ []) before (All-cons P (f line) [] one (All-nil P)))
 
 module _ (steps : State → List ℕ → State × ReplyData) where
   -- one more line was carried out
   pub one_more : {X : Type 0} (f : X → List ℕ) (first mid new : State) (lines : List X) (i : ℕ) (line : X) → i < length lines → line ≡ get_or lines i line
       → mid ≡ site_after steps first (map f (take i lines)) → new ≡ (steps mid (f line)).0 → new ≡ site_after steps first (map f (take (i + 1) lines))
   one_more f first mid new lines i line inside is before done =
-      let taken : take (i + 1) lines ≡ take i lines ++ line ∷ [] = take_more lines i line inside ∙ ap (λ x. take i lines ++ x ∷ []) (sym is) in
-      let texts : map f (take (i + 1) lines) ≡ map f (take i lines) ++ f line ∷ [] = ap (map f) taken ∙ map-append f (take i lines) (line ∷ []) in
       done ∙ ap (λ site. (steps site (f line)).0) before ∙ sym (site_after-append steps first (map f (take i lines)) (f line ∷ []))
-      ∙ ap (site_after steps first) (sym texts)
+      ∙ ap (site_after steps first) (sym (texts_more f lines i line inside is))
 
   -- a batch more was carried out
   pub batch_more : (first mid new : State) (lines before left batch next : List (List ℕ)) (limit : ℕ) → lines ≡ before ++ left → mid ≡ site_after steps first before
-      → batch ≡ take limit left → next ≡ drop limit left → new ≡ site_after steps mid batch
-      → (done : List (List ℕ)) × (lines ≡ done ++ next) × (new ≡ site_after steps first done)
-  batch_more first mid new lines before left batch next limit whole made took rest did =
+      → AreEdits before → batch ≡ take limit left → next ≡ drop limit left → new ≡ site_after steps mid batch → AreEdits batch
+      → (done : List (List ℕ)) × (lines ≡ done ++ next) × (new ≡ site_after steps first done) × AreEdits done
+  batch_more first mid new lines before left batch next limit whole made early took rest did late =
       let cut : left ≡ batch ++ next = sym (take-append-drop limit left) ∙ ap (λ b. b ++ drop limit left) (sym took) ∙ ap (λ n. batch ++ n) (sym rest) in (
         before ++ batch,
         whole ∙ ap (λ l. before ++ l) cut ∙ sym (append_assoc before batch next),
         did ∙ ap (λ site. site_after steps site batch) made ∙ sym (site_after-append steps first before batch),
+        All-append (λ text. is_edit (line_command text) ≡ true) before batch early late,
       )
+
+-- an empty batch is the last one
+pub nothing_left : {X : Type 0} (f : X → List ℕ) (items : List X) (whole lines left : List (List ℕ)) (n : ℕ) → whole ≡ lines ++ left
+    → map f items ≡ take (suc n) left → length items < 1 → whole ≡ lines
+nothing_left f [] whole lines [] n cut took none = cut ∙ append-nil lines
+nothing_left f [] whole lines (l ∷ left) n cut took none = let no : [] ≡ l ∷ take n left = took in absurd (cc)
+nothing_left f (x ∷ items) whole lines left n cut took none = absurd (omega arith)
 
 -- ---- the first line of a log
 
--- there is none
+-- no line was read
 pub none_left : {X : Type 0} (f : X → List ℕ) (items : List X) (lines : List (List ℕ)) → map f items ≡ take 1 lines → length items < 1 → lines ≡ []
 none_left f items [] took few = refl
 none_left f [] (l ∷ lines) took few = let none : [] ≡ l ∷ [] = took in cc
 none_left f (x ∷ items) (l ∷ lines) took few = absurd (omega arith)
 
--- there is one
+-- a line was read
 pub first_left : {X : Type 0} (f : X → List ℕ) (items : List X) (lines : List (List ℕ)) (line : X) → map f items ≡ take 1 lines → 1 ≤ length items
     → line ≡ get_or items 0 line → lines ≡ f line ∷ drop 1 lines
 first_left f [] lines line took some is = absurd (omega arith)

@@ -9,7 +9,7 @@ ghost use Rattle.command_log.specs.Lines.{IsOpen, IsAppended, KeepsLines, lines_
 ghost use Rattle.site_program.specs.History.{site_after};
 ghost use Rattle.site_program.specs.Site.{setup_of, state_of};
 ghost use Rattle.site_program.specs.Step.{steps_of};
-ghost use Rattle.site_start.specs.Started.{IsTakenOver};
+ghost use Rattle.site_start.specs.Started.{HasEdits, IsTakenOver};
 
 use crate::fault::StartFault;
 use crate::replay::{introduce, replay};
@@ -39,6 +39,8 @@ pub fn open_site<P: Stated, S: Start>(
     ensures found { IfOk result (λ log. HasCleanDisk (state over_files log)
         → (held : List (List ℕ)) × ReadsLines (image_at S.Start) held
         × IsTakenOver identity.now held (lines_of over_files log)) }
+    ensures edits { IfOk result (λ log. HasCleanDisk (state over_files log)
+        → HasEdits identity.now (lines_of over_files log)) }
     ensures opened { IfOk result (λ log. HasCleanDisk (state over_files log) → IsOpen over_files log) }
     ensures setup { setup_of site.new ≡ setup_of site.old }
 {
@@ -63,6 +65,8 @@ pub fn start<P: Stated, S: Alter>(
         (lines_of S.Store log.new)) }
     ensures lines { HasCleanDisk (state S.Store log.new) → OnOk result
         (IsTakenOver identity.now (lines_of S.Store log.old) (lines_of S.Store log.new)) }
+    ensures edits { HasCleanDisk (state S.Store log.new) → OnOk result
+        (HasEdits identity.now (lines_of S.Store log.new)) }
     ensures opened { HasCleanDisk (state S.Store log.new) → OnOk result (IsOpen S.Store log.new) }
 
     // After a fault the log has the lines that it had.

@@ -8,6 +8,7 @@ ghost use Rattle.site_program.specs.History.{site_after};
 ghost use Rattle.site_program.specs.Site.{setup_of, state_of};
 ghost use Rattle.site_commands.specs.Worked.{line_command};
 ghost use Rattle.site_program.specs.Step.{is_edit, steps_of};
+ghost use Rattle.site_start.specs.Started.{AreEdits};
 
 use crate::fault::StartFault;
 use callback_store::Stated;
@@ -89,6 +90,7 @@ pub(crate) fn redo_all<P: Stated>(
     ensures done { OnOk result (state_of P.says P.number site.new
         ≡ site_after (steps_of P.says P.number (setup_of site.old)) (state_of P.says P.number site.old)
         (map string_bytes lines.now)) }
+    ensures edits { OnOk result (AreEdits (map string_bytes lines.now)) }
     ensures setup { setup_of site.new ≡ setup_of site.old }
 {
     for line in lines {
@@ -108,6 +110,8 @@ pub(crate) fn replay<P: Stated, S: Alter>(
     ensures done { HasCleanDisk (state S.Store log.new) → OnOk result (state_of P.says P.number site.new
         ≡ site_after (steps_of P.says P.number (setup_of site.old)) (state_of P.says P.number site.old)
         (lines_left S.Store log.old first)) }
+    ensures edits { HasCleanDisk (state S.Store log.new) → OnOk result
+        (AreEdits (lines_left S.Store log.old first)) }
     ensures setup { setup_of site.new ≡ setup_of site.old }
     ensures opened { HasCleanDisk (state S.Store log.new) → OnOk result (IsOpen S.Store log.new) }
     ensures same { IsOpen S.Store log.new

@@ -12,3 +12,6 @@ returns-clause-found g c = λ clean.
     let log = c.in_ok-log.log in
     let up = c.in_ok-log.ensures.opened (clean_before over_files log c.start.new.log _ c.in_ok-start.ensures.survives clean) in
     (lines_of over_files log, c.in_ok-log.ensures.read up, c.in_ok-start.ensures.lines clean)
+
+pub returns-clause-edits : goal.returns-clause-edits
+returns-clause-edits g c = c.in_ok-start.ensures.edits

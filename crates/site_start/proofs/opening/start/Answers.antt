@@ -1,7 +1,8 @@
-use Rattle.std.proofs.Common.{◌≡◌, ◌∙◌, ap, sym, subst, [], drop, take, length, get_or, ◌<◌, ◌≤◌}
+use Rattle.std.proofs.Common.{◌≡◌, ◌∙◌, ap, sym, subst, [], drop, take, length, get_or, true, ◌<◌, ◌≤◌}
 use Rattle.std.specs.Prelude.{◌∷◌, ◌++◌, OnOk}
 use Rattle.std.specs.String.{string_bytes}
 use Rattle.std.proofs.lemmas.Result.{on_ok_weaker, on_err_weaker}
+use Rattle.std.proofs.lemmas.List.Elements.{All-nil}
 use Rattle.sqlite.specs.Held.{state}
 use Rattle.sqlite.specs.State.{HasCleanDisk}
 use Rattle.sqlite.proofs.StateLemmas.{survives_then}
@@ -9,8 +10,9 @@ use Rattle.command_log.proofs.States.{clean_of}
 use Rattle.command_log.specs.Lines.{IsOpen, KeepsLines, lines_after, lines_in, lines_left, lines_of}
 use Rattle.site_program.specs.History.{site_after}
 use Rattle.site_program.specs.Site.{setup_of, state_of}
-use Rattle.site_program.specs.Step.{steps_of}
-use Rattle.site_start.specs.Started.{IsTakenOver}
+use Rattle.site_commands.specs.Worked.{line_command}
+use Rattle.site_program.specs.Step.{is_edit, steps_of}
+use Rattle.site_start.specs.Started.{AreEdits, IsTakenOver}
 use Rattle.site_start.proofs.Replaying.{clean_before, first_left, none_left, on_every_err, on_ok_both}
 use Rattle.site_start.proofs.opening.start.Given.{Over}
 use Rattle.site_start.proofs.opening.start.Goals as goal
@@ -89,17 +91,22 @@ still : (g : Over) (c : After-drop-first-2 g) → IsOpen g.S.Store c.replay.new.
 still g c up early =
     let read = c.in_ok-first.ensures in ap (λ d. lines_in d.trees) (c.replay.ensures.same up) ∙ read.same (read.stays early)
 
+-- what is left of it after the first line
+left_after : (g : Over) (c : After-drop-first-2 g) → HasCleanDisk (state g.S.Store c.read_batch.new.self)
+    → lines_left g.S.Store c.read_batch.new.self c.in_ok-first.first.next ≡ drop 1 (lines_of g.S.Store c.args.log.now)
+left_after g c early =
+    let read = c.in_ok-first.ensures in
+    ap (λ d. lines_after c.in_ok-first.first.next d.trees) (read.committed (read.stays early)) ∙ read.left early
+    ∙ ap (λ place. drop 1 (lines_left g.S.Store c.args.log.now place)) c.start.ensures
+
 pub returns-clause-replayed : goal.returns-clause-replayed
 returns-clause-replayed g c = λ clean.
     let store = g.S.Store in
     let seen = state_of g.P.Stated.says g.P.Stated.number in
     let old = seen c.args.site.now in
     let early = clean_before store c.read_batch.new.self c.replay.new.log _ c.replay.ensures.survives clean in
-    let read = c.in_ok-first.ensures in
     let intro = c.in_ok-introduce-in-len1-up.ensures in
-    let lines = lines_of store c.args.log.now in
-    let left : lines_left store c.read_batch.new.self c.in_ok-first.first.next ≡ drop 1 lines = ap (λ d. lines_after c.in_ok-first.first.next d.trees)
-    (read.committed (read.stays early)) ∙ read.left early ∙ ap (λ place. drop 1 (lines_left store c.args.log.now place)) c.start.ensures in
+    let left = left_after g c early in
     on_ok_both c.replay.result
     (λ done up.
     done ∙ ap (λ setup. site_after (steps_of g.P.Stated.says g.P.Stated.number setup) (seen c.introduce-in-len1-up.new.site)
@@ -125,3 +132,20 @@ returns-clause-err g c = λ up.
     let clean = clean_of g.S.Store g.met.S.Store.shut_if_dirty c.replay.new.log up in
     let early = clean_before g.S.Store c.read_batch.new.self c.replay.new.log _ c.replay.ensures.survives clean in
     on_every_err c.replay.result (still g c up early)
+
+-- ---- the lines after the first are edits
+
+pub returns-in-empty-clause-edits : goal.returns-in-empty-clause-edits
+returns-in-empty-clause-edits g c = λ clean.
+    on_ok_weaker c.append_first.result (λ one. ([], one, All-nil (λ line. is_edit (line_command line) ≡ true))) (alone g c clean)
+
+pub returns-clause-edits : goal.returns-clause-edits
+returns-clause-edits g c = λ clean.
+    let early = clean_before g.S.Store c.read_batch.new.self c.replay.new.log _ c.replay.ensures.survives clean in
+    let lines = lines_of g.S.Store c.args.log.now in
+    on_ok_both c.replay.result
+    (λ edits up. (
+      drop 1 lines,
+      still g c up early ∙ first_read g c early ∙ ap (λ text. text ∷ drop 1 lines) c.in_ok-introduce-in-len1-up.ensures.same,
+      subst AreEdits (left_after g c early) edits,
+    )) (c.replay.ensures.edits clean) (c.replay.ensures.opened clean)

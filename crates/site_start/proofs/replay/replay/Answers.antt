@@ -1,4 +1,5 @@
-use Rattle.std.proofs.Common.{◌≡◌, ◌∙◌, ap, map}
+use Rattle.std.proofs.Common.{◌≡◌, ◌∙◌, ◌<◌, ap, arith, length, map, subst, sym, vec_len}
+use Rattle.std.proofs.lemmas.Bool.{eqb-true}
 use Rattle.std.specs.String.{string_bytes}
 use Rattle.sqlite.specs.Held.{state}
 use Rattle.sqlite.specs.State.{HasCleanDisk}
@@ -8,7 +9,8 @@ use Rattle.command_log.specs.Lines.{lines_after, lines_left}
 use Rattle.site_program.specs.History.{site_after}
 use Rattle.site_program.specs.Site.{setup_of, state_of}
 use Rattle.site_program.specs.Step.{steps_of}
-use Rattle.site_start.proofs.Replaying.{batch_more, clean_before, same_then}
+use Rattle.site_start.specs.Started.{AreEdits}
+use Rattle.site_start.proofs.Replaying.{batch_more, clean_before, nothing_left, same_then}
 use Rattle.site_start.proofs.replay.replay.Goals as goal
 
 -- nothing that was committed has changed
@@ -29,6 +31,20 @@ returns-in_err-redo_all-clause-same g c =
 
 pub returns-clause-same : goal.returns-clause-same
 returns-clause-same g c = λ up. c.batches.invariant.same (clean_of g.S.Store g.met.S.Store.shut_if_dirty c.batches.log up)
+
+-- no line is left, so all were edits
+pub returns-then-is_empty-clause-edits : goal.returns-then-is_empty-clause-edits
+returns-then-is_empty-clause-edits g c = λ clean.
+    let store = g.S.Store in
+    let read = c.in_ok-batch.ensures in
+    let before = c.batches.invariant.done (clean_before store c.batches.log c.read_batch.new.self _ read.survives clean) in
+    let items = c.in_ok-batch.batch.lines.items in
+    let none : length items < 1 = let zero = eqb-true (vec_len c.in_ok-batch.batch.lines) 0 (sym c.is_empty.ensures ∙ c.if-is_empty.true) in
+    let same = c.in_ok-batch.batch.lines.ok.0 in omega (arith, zero, same) in
+    subst AreEdits
+    (sym (nothing_left string_bytes items (lines_left store c.args.log.now c.args.first) before.0
+    (lines_left store c.batches.log c.batches.place) 999 before.1 (read.ok clean) none))
+    before.3
 
 -- the lines of one more batch were carried out
 pub batches-preserved : goal.batches-preserved
@@ -52,5 +68,6 @@ batches-preserved g c =
           let made = did.done ∙ ap (λ setup. site_after (steps_of g.P.Stated.says g.P.Stated.number setup) (seen c.batches.site) (map string_bytes c.deref.result.now)) i.setup
           ∙ ap (λ xs. site_after (steps_of g.P.Stated.says g.P.Stated.number (setup_of c.args.site.now)) (seen c.batches.site) (map string_bytes xs)) c.deref.ensures.value in
           batch_more (steps_of g.P.Stated.says g.P.Stated.number (setup_of c.args.site.now)) (seen c.args.site.now) (seen c.batches.site) (seen c.redo_all.new.site) (lines_left store first c.args.first)
-          before.0 (lines_left store mid c.batches.place) lines (lines_left store new c.in_ok-batch.batch.next) 1000 before.1 before.2 (read.ok clean) left made;
+          before.0 (lines_left store mid c.batches.place) lines (lines_left store new c.in_ok-batch.batch.next) 1000 before.1 before.2 before.3 (read.ok clean) left made
+          (subst (λ xs. AreEdits (map string_bytes xs)) c.deref.ensures.value did.edits);
     }

@@ -5,6 +5,7 @@ use Rattle.command_log.specs.Lines.{IsOpen, lines_left}
 use Rattle.site_program.specs.History.{site_after}
 use Rattle.site_program.specs.Site.{setup_of, state_of}
 use Rattle.site_program.specs.Step.{steps_of}
+use Rattle.site_start.specs.Started.{AreEdits}
 use Rattle.site_start.proofs.replay.replay.Given as goal
 
 -- the lines up to the place were carried out, and the others are left
@@ -18,5 +19,5 @@ invariant-batches g l =
       survives : Survives (state store l.fn.log) (state store l.log) (λ _. ⊥);
       same : HasCleanDisk (state store l.log) → (state store l.log).committed ≡ (state store l.fn.log).committed;
       done : HasCleanDisk (state store l.log) → (lines : List (List ℕ)) × (lines_left store l.fn.log l.fn.first ≡ lines ++ lines_left store l.log l.place)
-          × (seen l.site ≡ site_after steps (seen l.fn.site) lines);
+          × (seen l.site ≡ site_after steps (seen l.fn.site) lines) × AreEdits lines;
     }
