@@ -1,6 +1,7 @@
 -- What a row of the tables means: a change, a part of a text, a reply, a plugin.
 use Rattle.std.specs.Prelude.{◌≡◌, ◌==◌, ℕ, Bool, true, false, List, [], ◌∷◌, map, flat_map, length, decimal, Some}
 use Rattle.std.specs.List.{list_any, AllByRecursion}
+use Rattle.hook_changes.specs.Names.{core_name}
 use Rattle.hook_changes.specs.declared.reply.Call.{Call}
 use Rattle.hook_changes.specs.declared.reply.Change.{Change}
 use Rattle.hook_changes.specs.declared.reply.Change.TheVariants as change
@@ -19,9 +20,9 @@ use Rattle.callback_store.specs.Shape.{Shape}
 
 -- the change of a row
 abbrev pub change_of : ChangeRow → Change
-change_of (Add hook priority number accepted) = change.Add hook.now priority number accepted
-change_of (Remove hook priority number) = change.Remove hook.now priority number
-change_of (RemoveAll hook priority) = change.RemoveAll hook.now (Some priority)
+change_of (Add hook priority number accepted) = change.Add (core_name hook) priority number accepted
+change_of (Remove hook priority number) = change.Remove (core_name hook) priority number
+change_of (RemoveAll hook priority) = change.RemoveAll (core_name hook) (Some priority)
 change_of (AddTag tag number) = change.AddTag tag.now number
 change_of (RemoveTag tag) = change.RemoveTag tag.now
 change_of RemoveAllTags = change.RemoveAllTags

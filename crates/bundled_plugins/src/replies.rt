@@ -41,8 +41,8 @@ const PLAIN: [ReplyRow; 24] = [
     ReplyRow {
         number: 4,
         changes: &[
-            ChangeRow::Remove("the_title", 11, 4),
-            ChangeRow::Add("the_title", 11, 4, 1),
+            ChangeRow::Remove(CoreHook::TheTitle, 11, 4),
+            ChangeRow::Add(CoreHook::TheTitle, 11, 4, 1),
         ],
         prints: &[],
         answers: &[Part::First, Part::Fixed("2")],
@@ -76,9 +76,9 @@ const PLAIN: [ReplyRow; 24] = [
     ReplyRow {
         number: 10,
         changes: &[
-            ChangeRow::Add("the_title", 5, 11, 1),
-            ChangeRow::Add("the_title", 10, 12, 1),
-            ChangeRow::Add("the_title", 20, 13, 1),
+            ChangeRow::Add(CoreHook::TheTitle, 5, 11, 1),
+            ChangeRow::Add(CoreHook::TheTitle, 10, 12, 1),
+            ChangeRow::Add(CoreHook::TheTitle, 20, 13, 1),
         ],
         prints: &[],
         answers: &[Part::First, Part::Fixed("a")],
@@ -160,14 +160,14 @@ const PLAIN: [ReplyRow; 24] = [
     },
     ReplyRow {
         number: 22,
-        changes: &[ChangeRow::RemoveAll("the_title", 10)],
+        changes: &[ChangeRow::RemoveAll(CoreHook::TheTitle, 10)],
         prints: &[],
         answers: &[],
     },
     // note
     ReplyRow {
         number: 27,
-        changes: &[ChangeRow::Add("wp_footer", 10, 28, 1)],
+        changes: &[ChangeRow::Add(CoreHook::WpFooter, 10, 28, 1)],
         prints: &[],
         answers: &[Part::Fixed("<sup>*</sup>")],
     },
@@ -253,7 +253,7 @@ fn ask_its_own_hook(alloc: Global, value: &str, answers: &[Answer]) -> Result<Re
         [] => ask_without_itself(alloc),
         [first, ..] => {
             let text = joined(alloc, &[value, "-", text_in(first), "-2"])?;
-            let changes = changes_of(alloc, &[ChangeRow::Add("the_title", 11, 7, 1)])?;
+            let changes = changes_of(alloc, &[ChangeRow::Add(CoreHook::TheTitle, 11, 7, 1)])?;
             Ok(Reply::answer(alloc, text).with_changes(changes))
         }
     }
@@ -264,7 +264,7 @@ fn ask_without_itself(alloc: Global) -> Result<Reply, AllocError>
     ensures { IfOk result (λ reply. reply ≡ changes_and_asks
         (Change.Remove the_title (pos 11) 7 ∷ []) (Ask.Apply the_title [] [])) }
 {
-    let changes = changes_of(alloc, &[ChangeRow::Remove("the_title", 11, 7)])?;
+    let changes = changes_of(alloc, &[ChangeRow::Remove(CoreHook::TheTitle, 11, 7)])?;
     Ok(Reply::ask(alloc, title_pass(alloc, "")?).with_changes(changes))
 }
 

@@ -3,18 +3,18 @@ ghost use Rattle.std.specs.Prelude.{◌≡◌, ◌++◌, IfOk, OnOk, map, string
 ghost use Rattle.bundled_plugins.specs.Rows.{change_of, part_of, text_of, reply_of};
 
 use crate::calls::{first_argument, second_argument};
-use hook_changes::{Call, CallbackId, Change, Listed, Reply, Text, Then};
+use hook_changes::{Call, CallbackId, Change, CoreHook, Listed, Reply, Text, Then};
 use itoa::Buffer;
 use std::alloc::{AllocError, Global};
 
 /// A change of the registrations or of the shortcodes.
 pub enum ChangeRow {
     /// `add_filter`: the hook, the priority, the callback's number, and how many arguments it accepts.
-    Add(&'static str, i32, u32, u8),
+    Add(CoreHook, i32, u32, u8),
     /// `remove_filter`: the hook, the priority and the callback's number.
-    Remove(&'static str, i32, u32),
+    Remove(CoreHook, i32, u32),
     /// `remove_all_filters`: the hook and the priority.
-    RemoveAll(&'static str, i32),
+    RemoveAll(CoreHook, i32),
     /// `add_shortcode`: the tag and the handler's number.
     AddTag(&'static str, u32),
     /// `remove_shortcode`: the tag.
@@ -61,18 +61,18 @@ fn change_of(alloc: Global, row: &ChangeRow) -> Result<Change, AllocError>
 {
     Ok(match row {
         ChangeRow::Add(hook, priority, number, accepted) => Change::Add {
-            hook: shared(alloc, hook)?,
+            hook: Text::core(alloc, *hook),
             priority: *priority,
             callback: CallbackId::new(*number),
             accepted: *accepted,
         },
         ChangeRow::Remove(hook, priority, number) => Change::Remove {
-            hook: shared(alloc, hook)?,
+            hook: Text::core(alloc, *hook),
             priority: *priority,
             callback: CallbackId::new(*number),
         },
         ChangeRow::RemoveAll(hook, priority) => Change::RemoveAll {
-            hook: shared(alloc, hook)?,
+            hook: Text::core(alloc, *hook),
             priority: Some(*priority),
         },
         ChangeRow::AddTag(tag, number) => Change::AddTag {

@@ -6,7 +6,7 @@ ghost use Rattle.bundled_plugins.specs.Rows.{change_of, plugin_of, numbers_in};
 
 use crate::rows::{ChangeRow, changes_of};
 use callback_store::{Plugin, Stated};
-use hook_changes::{Listed, Text};
+use hook_changes::{CoreHook, Listed, Text};
 use std::alloc::{AllocError, Global};
 use std::mem;
 
@@ -28,9 +28,9 @@ const SHIPPED: [Shipped; 10] = [
     Shipped {
         name: "args",
         load: &[
-            ChangeRow::Add("the_title", 10, 14, 0),
-            ChangeRow::Add("the_title", 20, 15, 16),
-            ChangeRow::Add("wp_footer", 10, 16, 1),
+            ChangeRow::Add(CoreHook::TheTitle, 10, 14, 0),
+            ChangeRow::Add(CoreHook::TheTitle, 20, 15, 16),
+            ChangeRow::Add(CoreHook::WpFooter, 10, 16, 1),
         ],
         callbacks: &[14, 15, 16],
     },
@@ -57,30 +57,30 @@ const SHIPPED: [Shipped; 10] = [
     },
     Shipped {
         name: "deep",
-        load: &[ChangeRow::Add("the_title", 10, 26, 1)],
+        load: &[ChangeRow::Add(CoreHook::TheTitle, 10, 26, 1)],
         callbacks: &[26],
     },
     Shipped {
         name: "grow",
-        load: &[ChangeRow::Add("the_title", 10, 10, 1)],
+        load: &[ChangeRow::Add(CoreHook::TheTitle, 10, 10, 1)],
         callbacks: &[10, 11, 12, 13],
     },
     Shipped {
         name: "marks",
         load: &[
-            ChangeRow::Add("the_title", 10, 2, 1),
-            ChangeRow::Add("the_title", 10, 1, 1),
-            ChangeRow::Add("the_title", 10, 2, 2),
+            ChangeRow::Add(CoreHook::TheTitle, 10, 2, 1),
+            ChangeRow::Add(CoreHook::TheTitle, 10, 1, 1),
+            ChangeRow::Add(CoreHook::TheTitle, 10, 2, 2),
         ],
         callbacks: &[1, 2],
     },
     Shipped {
         name: "nest",
         load: &[
-            ChangeRow::Add("the_title", 10, 6, 1),
-            ChangeRow::Add("the_title", 11, 7, 1),
-            ChangeRow::Add("the_title", 11, 8, 1),
-            ChangeRow::Add("the_title", 12, 9, 1),
+            ChangeRow::Add(CoreHook::TheTitle, 10, 6, 1),
+            ChangeRow::Add(CoreHook::TheTitle, 11, 7, 1),
+            ChangeRow::Add(CoreHook::TheTitle, 11, 8, 1),
+            ChangeRow::Add(CoreHook::TheTitle, 12, 9, 1),
         ],
         callbacks: &[6, 7, 8, 9],
     },
@@ -96,15 +96,15 @@ const SHIPPED: [Shipped; 10] = [
     Shipped {
         name: "once",
         load: &[
-            ChangeRow::Add("the_title", 10, 3, 1),
-            ChangeRow::Add("the_title", 11, 4, 1),
-            ChangeRow::Add("the_title", 12, 5, 1),
+            ChangeRow::Add(CoreHook::TheTitle, 10, 3, 1),
+            ChangeRow::Add(CoreHook::TheTitle, 11, 4, 1),
+            ChangeRow::Add(CoreHook::TheTitle, 12, 5, 1),
         ],
         callbacks: &[3, 4, 5],
     },
     Shipped {
         name: "tagmark",
-        load: &[ChangeRow::Add("do_shortcode_tag", 10, 31, 2)],
+        load: &[ChangeRow::Add(CoreHook::DoShortcodeTag, 10, 31, 2)],
         callbacks: &[31],
     },
 ];

@@ -190,7 +190,7 @@ impl<S: Alter> CommandLog<S> {
         ensures err { IsOpen S.Store self.new → OnErr result
             (lines_of S.Store self.new ≡ lines_of S.Store self.old) }
 
-        // Only a fault of the disk shuts the log, and then the call returns an error. A log that is shut stays shut.
+        // A call that succeeds leaves an open log open. A log that is shut stays shut.
         ensures stays { HasCleanDisk (state S.Store self.new) → OnOk result
             (IsOpen S.Store self.old → IsOpen S.Store self.new) }
         ensures shut { IsOpen S.Store self.new → IsOpen S.Store self.old }

@@ -9,7 +9,7 @@ ghost use Rattle.hook_machine.specs.declared.frame.Pending.TheVariants.{Core, Fo
 
 use crate::left::Left;
 use crate::machine::{add_answer, take_first_argument};
-use crate::pass::{PassKind, fill, fill_handler, kept};
+use crate::pass::{PassKind, fill, fill_handler};
 use crate::replacing::TextPass;
 use crate::state::State;
 use call_plans::Position;
@@ -54,22 +54,13 @@ impl HookPass {
         Ok(HookPass { parts })
     }
 
-    pub fn kind(&self) -> PassKind
-        ensures { result ≡ self.now.kind }
+    /// Makes a pass of these parts in the memory of this one.
+    pub fn made_of(self, parts: PassParts) -> Self
+        ensures { result ≡ parts }
     {
-        self.parts.kind
-    }
-
-    pub fn hook(&self) -> &str
-        ensures { result.now ≡ self.now.position.hook }
-    {
-        self.parts.position.hook.as_str()
-    }
-
-    pub fn args(&self) -> &[Text]
-        ensures { result.now ≡ self.now.args }
-    {
-        self.parts.args.as_slice()
+        let mut pass = self;
+        *pass.parts = parts;
+        pass
     }
 
     /// Returns the priority that the pass has reached, if it has reached one.
@@ -89,6 +80,26 @@ impl HookPass {
         state.next(&mut self.parts.position)
     }
 
+    /// Makes an invocation that of the callback of an entry. A filter's value moves into the call.
+    pub fn fill(
+        &mut self,
+        alloc: Global,
+        invoked: &mut Invoked,
+        entry: Entry,
+    ) -> Result<(), AllocError>
+        ensures callback { OnOk result (invoked.new.callback ≡ entry.callback) }
+        ensures call { OnOk result (invoked.new.call ≡ hook_call self.old.position.hook
+            (take entry.accepted (arguments self.old.kind self.old.value self.old.args))) }
+        ensures pass { OnOk result (self.new ≡ record self.old { value = self.new.value }) }
+        ensures kept { OnOk result ((answer : List ℕ)
+            → value_after self.old.kind self.new.value answer ≡ value_after self.old.kind self.old.value answer) }
+    {
+        let parts: &mut PassParts = &mut self.parts;
+        let hook = parts.position.hook.as_str();
+        let args = parts.args.as_slice();
+        invoked.set_hook_call(alloc, parts.kind, hook, &mut parts.value, args, entry)
+    }
+
     /// Takes the value, and leaves empty text in its place. Does not allocate.
     pub fn take_value(&mut self, alloc: Global) -> Text
         ensures value { result ≡ self.old.value }
@@ -97,34 +108,29 @@ impl HookPass {
         mem::replace(&mut self.parts.value, Text::empty(alloc))
     }
 
-    pub fn set_value(&mut self, value: Text)
-        ensures { self.new ≡ record self.old { value = value } }
-    {
-        self.parts.value = value;
-    }
-
     /// Hands a pass the answer of its nth callback. From time to time the value is made one that copies share: most
     /// callbacks of a long pass answer the value as it came.
-    pub fn hand_in_turn(&mut self, alloc: Global, answer: Text, nth: u32) -> Result<(), AllocError>
+    pub fn hand_in_turn(&mut self, answer: Text, nth: u32) -> Result<(), AllocError>
         ensures { OnOk result (self.new ≡ record self.old {
           value = value_after self.old.kind self.old.value answer;
         }) }
     {
-        self.hand(alloc, answer);
+        self.hand(answer);
         if nth % SHARE_EVERY == 0 {
             self.parts.value.share()?;
         }
         Ok(())
     }
 
-    /// Hands the pass a callback's answer.
+    /// Hands the pass a callback's answer: the next value of a filter; an action drops it.
     #[inline]
-    pub fn hand(&mut self, alloc: Global, answer: Text)
+    pub fn hand(&mut self, answer: Text)
         ensures { self.new ≡ record self.old { value = value_after self.old.kind self.old.value answer } }
     {
-        let value = self.take_value(alloc);
-        let value = kept(self.kind(), value, answer);
-        self.set_value(value);
+        match self.parts.kind {
+            PassKind::Filter => self.parts.value = answer,
+            PassKind::Action => {}
+        }
     }
 }
 
@@ -242,20 +248,21 @@ impl Invoked {
 
     /// Makes this the invocation of a hook's callback. Its call reuses the texts of the call before. A filter needs its
     /// value no more until the callback has answered, so the value itself moves into the call; an action keeps it.
+    #[inline]
     pub fn set_hook_call(
         &mut self,
         alloc: Global,
         kind: PassKind,
         hook: &str,
-        value: Text,
+        value: &mut Text,
         args: &[Text],
         entry: Entry,
-    ) -> Result<Text, AllocError>
+    ) -> Result<(), AllocError>
         ensures callback { OnOk result (self.new.callback ≡ entry.callback) }
         ensures call { OnOk result (self.new.call
-            ≡ hook_call hook.now (take entry.accepted (arguments kind value args.now))) }
-        ensures kept { IfOk result (λ kept. (answer : List ℕ)
-            → value_after kind kept answer ≡ value_after kind value answer) }
+            ≡ hook_call hook.now (take entry.accepted (arguments kind value.old args.now))) }
+        ensures kept { OnOk result ((answer : List ℕ)
+            → value_after kind value.new answer ≡ value_after kind value.old answer) }
     {
         self.parts.callback = entry.callback;
         fill(

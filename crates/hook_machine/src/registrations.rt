@@ -8,7 +8,8 @@ use hook_registry::Entry;
 use std::alloc::AllocError;
 
 // A change takes the plans out, and puts them back only once both they and the registry have it. So a change that
-// either of them refuses leaves no plans, and never plans that differ from the registry.
+// either of them refuses leaves no plans, and never plans that differ from the registry. What was known of a hook is
+// forgotten with each change.
 impl State {
     ghost use Rattle.hook_registry.specs.Table.{add, remove, remove_all};
     ghost use Rattle.call_plans.specs.Position.{next_entry};
@@ -32,6 +33,7 @@ impl State {
         let Some(mut plans) = self.plans.take() else {
             return Err(AllocError);
         };
+        self.filters_shortcodes = None;
         let is_new = self.registry.insert(hook, priority, callback, accepted)?;
         let entry = Entry { callback, accepted };
         if is_new {
@@ -59,6 +61,7 @@ impl State {
         let Some(mut plans) = self.plans.take() else {
             return Err(AllocError);
         };
+        self.filters_shortcodes = None;
         plans.remove(hook.as_str(), priority, callback)?;
         let _was_there = self.registry.remove(hook, priority, callback);
         self.plans = Some(plans);
@@ -80,6 +83,7 @@ impl State {
         let Some(mut plans) = self.plans.take() else {
             return Err(AllocError);
         };
+        self.filters_shortcodes = None;
         plans.remove_all(hook.as_str(), priority);
         self.registry.remove_all(hook, priority);
         self.plans = Some(plans);

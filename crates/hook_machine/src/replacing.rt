@@ -20,7 +20,7 @@ use crate::cut::Cut;
 use crate::fault::RunFault;
 use crate::frame::{Frame, Invoked, Move, Pace, Pending, Stack, Went};
 use crate::pieces::{Matched, Work, work_of_piece};
-use crate::state::State;
+use crate::state::{SHORTCODE_FILTER, State};
 use crate::turning::{begin_filter, invoke};
 use callback_store::{Plugins, Stated};
 use content_cache::PieceCache;
@@ -29,9 +29,6 @@ use shortcode_scan::{Piece, Span, text_at};
 use std::alloc::{AllocError, Global};
 use std::marker::Model;
 use std::mem;
-
-/// The filter on what replaces a shortcode (Code Reference, do_shortcode_tag).
-const SHORTCODE_FILTER: &str = "do_shortcode_tag";
 
 /// What a shortcode pass has: the pieces left of its text, and the text that the others have become.
 #[derive(Drop)]
@@ -190,7 +187,7 @@ pub fn text_turn<S: Stated>(
                 let went = invoke(plugins, state, handling.invoked, pace)?;
                 match went {
                     Went::Answered(invoked, answer) => {
-                        if state.is_hooked(SHORTCODE_FILTER) {
+                        if state.filters_shortcodes() {
                             return filter_later(stack, pass, invoked, answer);
                         }
                         state.keep_spare(invoked);

@@ -82,7 +82,7 @@ fn result_turn<S: Stated>(
     match frame {
         Frame::Pass(pass) => {
             let mut pass = pass;
-            pass.hand(state.alloc(), text);
+            pass.hand(text);
             pass_turn(plugins, state, stack, pass, pace)
         }
         Frame::Invocation(invoked) => waiting_turn(plugins, state, stack, invoked, text, pace),

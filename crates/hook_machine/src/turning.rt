@@ -115,11 +115,8 @@ fn next_invocation(
         → value_after pass.old.kind pass.new.value answer ≡ value_after pass.old.kind pass.old.value answer) }
     ensures state { state.new ≡ state.old }
 {
-    let alloc = state.alloc();
     let mut invoked = state.spare()?;
-    let value = pass.take_value(alloc);
-    let kept = invoked.set_hook_call(alloc, pass.kind(), pass.hook(), value, pass.args(), entry)?;
-    pass.set_value(kept);
+    pass.fill(state.alloc(), &mut invoked, entry)?;
     Ok(invoked)
 }
 
@@ -142,7 +139,9 @@ pub fn pass_turn<S: Stated>(
         match pass.next(state)? {
             None => {
                 state.leave();
-                return Ok(Move::Handed(pass.take_value(state.alloc())));
+                let value = pass.take_value(state.alloc());
+                state.keep_pass(pass);
+                return Ok(Move::Handed(value));
             }
             Some(entry) => {
                 let invoked = next_invocation(state, &mut pass, entry)?;
@@ -151,7 +150,7 @@ pub fn pass_turn<S: Stated>(
                     Went::Answered(invoked, answer) => {
                         state.keep_spare(invoked);
                         answered = answered.wrapping_add(1);
-                        pass.hand_in_turn(state.alloc(), answer, answered)?;
+                        pass.hand_in_turn(answer, answered)?;
                     }
                     Went::Waits(invoked) => {
                         stack.put_first(Frame::Pass(pass))?;
@@ -186,7 +185,7 @@ pub fn begin_pass<S: Stated>(
         value,
         position: Position::start(hook),
     };
-    let pass = HookPass::new(state.alloc(), parts)?;
+    let pass = state.new_pass(parts)?;
     pass_turn(plugins, state, stack, pass, pace)
 }
 

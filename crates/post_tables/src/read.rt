@@ -68,6 +68,23 @@ fn read_text(row: &Row, at: usize) -> Result<Text, Error>
     Ok(Text::new(text))
 }
 
+// Reads a text that is kept and copied for each page: copies of one that isn't empty share its memory.
+fn read_shared(row: &Row, at: usize) -> Result<Text, Error>
+    requires place { at < length row.now }
+    requires text { IsText (column row.now at) }
+    ensures ok { IfOk result (λ text. text ≡ bytes (column row.now at)) }
+    ensures memory { IfErr result IsNoMemory }
+{
+    let mut text = read_text(row, at)?;
+    if text.as_str().is_empty() {
+        return Ok(text);
+    }
+    match text.share() {
+        Ok(()) => Ok(text),
+        Err(_) => Err(Error::SqliteFailure(ErrorCode::OutOfMemory)),
+    }
+}
+
 // Reads the date in a column.
 fn read_date(text: &str) -> PostDate
     requires { is_post_date text.now ≡ true }
@@ -124,8 +141,8 @@ fn read_post(row: &Row) -> Result<Post, Error>
         id: read_id(row)?,
         kind: kind_in(row)?,
         status: status_in(row)?,
-        title: read_text(row, 3)?,
-        content: read_text(row, 4)?,
+        title: read_shared(row, 3)?,
+        content: read_shared(row, 4)?,
         date: date_in(row)?,
     })
 }
@@ -159,8 +176,8 @@ fn read_pair(row: &Row) -> Result<(Text, Text), Error>
     ensures memory { IfErr result IsNoMemory }
     ensures ok { IfOk result (λ pair. pair ≡ pair_from row.now) }
 {
-    let name = read_text(row, 0)?;
-    Ok((name, read_text(row, 1)?))
+    let name = read_shared(row, 0)?;
+    Ok((name, read_shared(row, 1)?))
 }
 
 pub(crate) fn read_pairs(alloc: Global, rows: &[Row]) -> Result<Vec<(Text, Text)>, Error>
@@ -181,7 +198,7 @@ fn read_name(row: &Row) -> Result<Text, Error>
     ensures memory { IfErr result IsNoMemory }
     ensures ok { IfOk result (λ name. name ≡ name_from row.now) }
 {
-    read_text(row, 0)
+    read_shared(row, 0)
 }
 
 pub(crate) fn read_names(alloc: Global, rows: &[Row]) -> Result<Vec<Text>, Error>

@@ -9,7 +9,7 @@ use hook_changes::Text;
 use site_records::{FoundKind, text_named};
 use std::alloc::{AllocError, Global};
 use template_parts::{Settings, choose};
-use template_trees::{SharedTemplate, default_index};
+use template_trees::SharedTemplate;
 
 /// Makes the settings of a page for what was found, from these options and templates.
 pub(crate) fn settings_for(
@@ -52,6 +52,6 @@ fn template_for(
     let chosen = choose(kind, templates.names());
     match templates.named(alloc, chosen)? {
         Some(template) => Ok(template),
-        None => SharedTemplate::new(alloc, default_index(alloc)?),
+        None => templates.default_index(alloc),
     }
 }

@@ -1,12 +1,13 @@
 //! The stored templates of a site, each with its tree once a page has used it.
 ghost use Rattle.std.specs.Prelude.{◌≡◌, IfOk, find, map, option_map, bytes_eq};
+ghost use Rattle.template_trees.specs.Trees.{default_index};
 ghost use Rattle.site_program.specs.Requests.{template_named};
 
 use hook_changes::{Listed, Text};
 use site_records::text_named;
 use std::alloc::{AllocError, Global};
 use std::marker::Model;
-use template_trees::{SharedTemplate, read_stored};
+use template_trees::{SharedTemplate, default_index, read_stored};
 
 /// The stored templates of a site: their names with their texts, which is what contracts see.
 ///
@@ -17,10 +18,13 @@ pub struct Templates {
     names: Listed<Text>,
     /// For each name that was asked for, the template that is stored under it, if one is.
     trees: Listed<(Text, Option<SharedTemplate>)>,
+    /// The template of a page for which none is stored, once a page has used it.
+    default: Option<SharedTemplate>,
 }
 
 impl Model for Templates {
-    ghost use Rattle.std.specs.Prelude.{◌≡◌, map};
+    ghost use Rattle.std.specs.Prelude.{◌≡◌, map, IfSome};
+    ghost use Rattle.template_trees.specs.Trees.{default_index};
     ghost use Rattle.site_program.specs.Requests.{Texts};
     ghost use Rattle.site_program.specs.Kept.{AreTrees};
 
@@ -28,7 +32,8 @@ impl Model for Templates {
 
     ghost view = { λ t. t.texts };
 
-    ghost invariant = { λ t. (t.names ≡ map (λ text. text.0) t.texts) × AreTrees t.texts t.trees };
+    ghost invariant = { λ t. (t.names ≡ map (λ text. text.0) t.texts) × AreTrees t.texts t.trees
+        × IfSome t.default (λ template. template.nodes ≡ default_index) };
 }
 
 impl Templates {
@@ -41,6 +46,7 @@ impl Templates {
             texts,
             names,
             trees: Listed::empty(alloc),
+            default: None,
         })
     }
 
@@ -67,6 +73,19 @@ impl Templates {
         let kept = shared(&tree)?;
         self.trees.push((Text::copied(alloc, name)?, kept))?;
         Ok(tree)
+    }
+
+    /// Returns the template of a page for which none is stored. It is made once.
+    pub(crate) fn default_index(&mut self, alloc: Global) -> Result<SharedTemplate, AllocError>
+        ensures template { IfOk result (λ template. template.nodes ≡ default_index) }
+        ensures same { self.new ≡ self.old }
+    {
+        if let Some(template) = &self.default {
+            return template.share();
+        }
+        let template = SharedTemplate::new(alloc, default_index(alloc)?)?;
+        self.default = Some(template.share()?);
+        Ok(template)
     }
 }
 

@@ -54,6 +54,10 @@ pub fn compact<P: Stated, S: Alter>(
         × IsHistory (rows_of site.old) later × IsHistory (rows_of copy.new) later) }
     ensures err { IsOpen S.Store log.new → OnErr result (lines_of S.Store log.new ≡ lines_of S.Store log.old) }
     ensures opened { HasCleanDisk (state S.Store log.new) → OnOk result (IsOpen S.Store log.new) }
+
+    // The site stays as it is.
+    ensures same { state_of P.says P.number site.new ≡ state_of P.says P.number site.old }
+    ensures setup { setup_of site.new ≡ setup_of site.old }
 {
     let lines = site.history()?;
     introduce(copy, identity, identity)?;

@@ -19,9 +19,10 @@ pub returns-then-has_one_argument-clause-call : goal.returns-then-has_one_argume
 returns-then-has_one_argument-clause-call c =
     let takes = c.takes_value_alone.ensures c.if-takes_value_alone.true in
     let one = c.has_one_argument.ensures c.if-has_one_argument.true in
-    rw (takes.0, takes.1, c.empty.ensures)
-    (with_value c.args.call.now c.args.hook.now c.args.value c.set.new.self one.0 (c.set.ensures ∙ only c.args.call.now.args c.args.value one.1))
+    rw (takes.0, takes.1, c.empty-then-has_one_argument.ensures)
+    (with_value c.args.call.now c.args.hook.now c.args.value.now c.set.new.self one.0
+    (rw c.replace-value.ensures.value at (c.set.ensures ∙ only c.args.call.now.args c.replace-value.result one.1)))
 
 pub returns-in_ok-all-in-Action-clause-call : goal.returns-in_ok-all-in-Action-clause-call
 returns-in_ok-all-in-Action-clause-call c =
-    rw (c.in-Action.is, c.in_ok-room.ensures.call, c.new-in-Action.ensures) (ap (λ a. hook_call c.args.hook.now a) (c.in_ok-all-in-Action.ensures c.args.value))
+    rw (c.in-Action.is, c.in_ok-room.ensures.call, c.new-in-Action.ensures) (ap (λ a. hook_call c.args.hook.now a) (c.in_ok-all-in-Action.ensures c.args.value.now))

@@ -15,7 +15,7 @@ use Rattle.hook_machine.proofs.turning.pass_turn.Goals as goal
 pub returns-in-None-clause-moves : goal.returns-in-None-clause-moves
 returns-in-None-clause-moves g c =
     let engine = engine_over g.S.Stated.says g.S.Stated.number c.args.plugins.now in
-    rw (c.take_value.ensures.value, c.in_ok-next.ensures.moved) (moves_then engine (Ok (Handed c.entries.pass.value)) c.leave.new.self c.entries.stack
+    rw (c.keep_pass.ensures, c.take_value-value.ensures.value, c.in_ok-next.ensures.moved) (moves_then engine (Ok (Handed c.entries.pass.value)) c.leave.new.self c.entries.stack
     c.entries.invariant.leads (leave_moves engine c.entries.state c.leave.new.self c.entries.pass c.entries.stack
     (sym c.in-None.is ∙ c.in_ok-next.ensures.entry) c.leave.ensures))
 
