@@ -21,6 +21,8 @@ from pathlib import Path
 from typing import NamedTuple
 
 BUILT_PROGRAM = Path(__file__).resolve().parent.parent / "crates" / "site" / "out" / "site"
+# How many lines the program reads, and the longest that it reads.
+LINES, LINE_BYTES = 1_000_000, 1_048_576
 # What the first line of a reply can be (docs/BEHAVIOUR.md).
 HEAD = re.compile(r"ok( \d+)?|refused \d+ \w+|page \d{3} \d+")
 
@@ -110,14 +112,20 @@ class Program:
 
     def ask(self, line):
         """The reply to a line, which has no newline."""
-        rest = line + b"\n"
-        self.lines += 1
+        [reply] = self.ask_all([line])
+        return reply
+
+    def ask_all(self, lines):
+        """The replies to some lines, which are sent before any of these is read. So but for the last they have to be
+        edits, and a few hundred at most: what the program replies before it has read all must fit into a pipe."""
+        rest = memoryview(b"".join(line + b"\n" for line in lines))
+        self.lines += len(lines)
         try:
             while rest:
                 rest = rest[self.child.stdin.write(rest) :]
         except BrokenPipeError:
             raise Ended from None
-        return read_reply(self.replies)
+        return [read_reply(self.replies) for _ in lines]
 
     def check(self, seconds):
         """Makes sure that what runs replies to a line as the program does, within some seconds.
@@ -129,7 +137,9 @@ class Program:
             self.child.stdin.write(b"{}\n")
         except BrokenPipeError:
             raise Ended from None
-        if not select.select([self.child.stdout], [], [], seconds)[0]:
+        poll = select.poll()
+        poll.register(self.child.stdout, select.POLLIN)
+        if not poll.poll(1000 * seconds):
             raise NoReply(b"")
         read_reply(self.replies)
 

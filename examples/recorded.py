@@ -9,6 +9,7 @@ from html import unescape
 from pathlib import Path
 
 from program import lines_of, read_replies
+from serving import get_line
 
 sys.dont_write_bytecode = True
 sys.path.insert(0, str(Path(__file__).resolve().parent.parent / "tools"))
@@ -98,10 +99,6 @@ class Paths:
             self.found[f"{before}paged={part}"] = None
 
 
-def get(path):
-    return json.dumps({"cmd": "get", "path": path}).encode()
-
-
 class Recorded:
     """The pages of a command file's site, as far as its paths could be told beforehand."""
 
@@ -110,7 +107,7 @@ class Recorded:
         changes = [it for it in lines if command_of(it).get("cmd") != "get"]
         paths = list(Paths(commands).found)
         shares = [paths[at : at + PAGES_A_RUN] for at in range(0, len(paths), PAGES_A_RUN)]
-        runs = [lines] + [[*changes, *map(get, share)] for share in shares]
+        runs = [lines] + [[*changes, *map(get_line, share)] for share in shares]
         first, *rest = run_cases([Case(b"".join(it + b"\n" for it in run)) for run in runs])
         self.check(file, first)
         self.pages = {}

@@ -15,15 +15,14 @@ import threading
 from contextlib import contextmanager
 
 from explain_log import STYLE, as_html, tree_of
-from program import Ended, NoReply, Program
+from program import LINE_BYTES, LINES, Ended, NoReply, Program
+from serving import get_line
 from watched import Watched
 
-# How many lines a program gets before the next takes its place, and how many more it is sent at most meanwhile.
-LINES, MARGIN = 1_000_000, 10
+# How many lines before a program's last one the next takes its place.
+MARGIN = 10
 # How often a program is started, and how many are asked for a page, before either is given up.
 TRIES = 3
-# The longest line that the program reads.
-LINE_BYTES = 1_048_576
 # How long a program may take for its first reply, and for its end once it has no more lines.
 FIRST_SECONDS, LAST_SECONDS = 20, 10
 # Commands that reply `ok` and change nothing that is stored.
@@ -53,7 +52,7 @@ class Plain:
 
     @staticmethod
     def get(program, path):
-        return program.ask(json.dumps({"cmd": "get", "path": path}).encode())
+        return program.ask(get_line(path))
 
 
 class Explained:

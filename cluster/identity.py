@@ -1,0 +1,55 @@
+"""Which program gives a site's lines their meaning.
+
+It is a module, and runs nothing by itself. A program's identity is the first line of a file that it makes: its plugins,
+and the version of what lines mean. The history of a site belongs to one identity, which the first node notes in etcd.
+"""
+
+import sqlite3
+import subprocess
+import tempfile
+from pathlib import Path
+
+from etcd import decoded
+from history import get, is_absent, put
+
+SECONDS = 60
+
+
+class NotTold(Exception):
+    """Why a program's identity isn't known."""
+
+
+def identity_of(path):
+    """The identity of a program."""
+    with tempfile.TemporaryDirectory() as folder:
+        file = Path(folder, "site.db")
+        words = [path, "--database", str(file)]
+        try:
+            ran = subprocess.run(words, stdin=subprocess.DEVNULL, stdout=subprocess.DEVNULL, timeout=SECONDS)
+        except (OSError, subprocess.TimeoutExpired) as fault:
+            raise NotTold(f"{path}: {fault}") from None
+        if ran.returncode:
+            raise NotTold(f"{path} --database ended with status {ran.returncode}")
+        try:
+            database = sqlite3.connect(file)
+            [identity] = database.execute("SELECT line FROM command WHERE number = 1").fetchone()
+            database.close()
+        except (sqlite3.Error, TypeError) as fault:
+            raise NotTold(f"{path} --database has made no site: {fault}") from None
+    return identity.encode()
+
+
+def noted(history):
+    """The identity that the history has, or None."""
+    found = history.read(history.keys.identity)
+    return decoded(found["value"]) if found else None
+
+
+def claimed(history, identity, seconds=10.0):
+    """The identity that the history has, which is this one if it had none."""
+    key = history.keys.identity
+    found = history.read(key, seconds)
+    if found is None:
+        _, _, all_found = history.transaction([is_absent(key)], [put(key, identity), get(key)], [get(key)], seconds)
+        [found] = all_found[-1]
+    return decoded(found["value"])

@@ -1,0 +1,227 @@
+"""A program that has carried out the history up to some edit, and goes on with it as edits come.
+
+It is a module, and runs nothing by itself. A replica is made from the newest snapshot and the edits after it. What its
+program does is a function of these lines, but for four things that end a replica for good, so that the next one takes
+its place: the program refuses an edit because memory ran out (11) or by its database (12), it ends, or it has had its
+lines.
+"""
+
+import sys
+import threading
+import time
+import traceback
+
+import snapshots
+from etcd import Refused, Unreachable, WentBack, reason_of
+from following import Following
+from history import NONE, Gap
+from program import LINE_BYTES, Ended, NoReply, Program
+from serving import get_line
+
+# What a program may refuse an edit with that isn't a function of the lines before it.
+BY_CHANCE = {"11", "12"}
+# How many lines a program is sent before its replies are read: these are far less than a pipe holds.
+TOGETHER = 200
+# How long a program may take for one reply, and for its first one.
+REPLY_SECONDS, FIRST_SECONDS = 30, 20
+# How long a goal waits for the program.
+GOAL_SECONDS = 0.2
+# How many lines are left to a program when no more is asked of it.
+MARGIN = 10
+
+
+class Fault(Exception):
+    """Why a replica has ended: a name for it, and what there is to say."""
+
+    def __init__(self, name, text):
+        super().__init__(f"{name}: {text}")
+        self.name, self.text = name, text
+
+
+class Replica:
+    """One program over the history. `begin` starts the program, `reached` says the last edit that this node has come
+    to, and `moved` is called whenever this one has come further, or has ended."""
+
+    def __init__(self, history, begin, most, reached, moved):
+        self.history, self.begin, self.most = history, begin, most
+        self.together = min(TOGETHER, most // 8)
+        self.reached, self.moved = reached, moved
+        self.program, self.following, self.fault = None, None, None
+        # The last edit that was carried out, and how many lines the program had been sent when it was there.
+        self.last, self.lines_at_start = NONE, 0
+        # The edits that no snapshot has: the place, the reply and the size of each by its ID; and the place up to which
+        # a snapshot has them.
+        self.done, self.forgotten = {}, 0
+        # An edit of the cluster's, with how many there are up to it, and whether this has come to it.
+        self.goal, self.is_verified = None, False
+        # Held while the program is asked; and since when it has owed a reply.
+        self.turn, self.owes_since = threading.Lock(), None
+
+    def start(self):
+        threading.Thread(target=self.run, daemon=True).start()
+        return self
+
+    def run(self):
+        try:
+            self.make()
+            self.follow()
+        except Fault as fault:
+            self.end(fault)
+        except Gap as fault:
+            self.end(Fault("history-has-a-gap", str(fault)))
+        except (WentBack, Unreachable, Refused) as fault:
+            self.end(Fault(*reason_of(fault)))
+        except (Ended, NoReply, OSError) as fault:
+            self.end(Fault("program-ended", str(fault) or "it has ended"))
+        except Exception as fault:
+            # A mistake of this script or of etcd's, which the next replica may not meet.
+            traceback.print_exc(file=sys.stderr)
+            self.end(Fault("failed", repr(fault)))
+
+    def end(self, fault):
+        """Ends the program, and says why, unless that was said before."""
+        self.fault = self.fault or fault
+        if self.following:
+            self.following.close()
+        if self.program:
+            self.program.__exit__()
+        self.moved()
+
+    def make(self):
+        """Starts the program with what the newest snapshot has."""
+        head, lines = snapshots.newest(self.history)
+        self.program = self.begin()
+        for first in range(0, len(lines), self.together):
+            for reply in self.told(lines[first : first + self.together]):
+                if reply.words[0] != "ok":
+                    raise Fault("snapshot-refused", f"a line of the snapshot has the reply {reply.text()!r}")
+        if head:
+            self.last = head.last
+        self.set_goal(self.history.last())
+
+    def follow(self):
+        self.following = Following(self.history, self.last, self.reached)
+        if self.fault:
+            raise self.fault
+        for batch in self.following.batches():
+            for first in range(0, len(batch), self.together):
+                self.carry_out(batch[first : first + self.together])
+
+    def told(self, lines):
+        """The program's replies to some lines."""
+        if self.program.lines + len(lines) > self.most - MARGIN:
+            raise Fault("lines-used-up", f"a program takes {self.most} lines")
+        self.owes_since = time.monotonic()
+        try:
+            return self.program.ask_all(lines)
+        finally:
+            self.owes_since = None
+
+    def carry_out(self, edits):
+        """Has the program carry out some edits. No page is printed between one that fails and the replica's end."""
+        with self.turn:
+            try:
+                if self.fault:
+                    raise self.fault
+                for edit in edits:
+                    if len(edit.line) > LINE_BYTES or b"\n" in edit.line:
+                        raise Fault("history-is-damaged", f"the edit of revision {edit.place} isn't one line")
+                for edit, reply in zip(edits, self.told([it.line for it in edits])):
+                    self.note(edit, reply)
+            except Fault as fault:
+                self.fault = self.fault or fault
+                raise
+            except (Ended, NoReply, OSError) as fault:
+                self.fault = self.fault or Fault("program-ended", str(fault) or "it has ended")
+                raise self.fault from None
+        self.moved()
+
+    def note(self, edit, reply):
+        if reply.is_page() or reply.is_refused() and reply.words[1] in BY_CHANCE:
+            raise Fault("edit-refused", f"the edit of revision {edit.place} has the reply {reply.text()!r}")
+        # Whoever sees that the edit was carried out finds its reply.
+        self.done[edit.id] = (edit.place, reply.text(), len(edit.line))
+        self.last = self.last._replace(place=edit.place, id=edit.id, count=self.last.count + 1)
+        if self.goal and edit.place >= self.goal.place:
+            self.compare()
+
+    def compare(self):
+        """Makes sure that the history up to the goal is the cluster's: the same last edit, and as many."""
+        if self.last != self.goal:
+            raise Fault("history-has-a-gap", f"edit {self.last} was carried out where the cluster has {self.goal}")
+        if not self.is_verified:
+            self.is_verified, self.lines_at_start = True, self.program.lines
+        self.goal = None
+
+    def set_goal(self, goal):
+        """Has the replica compared with the cluster's last edit, once it comes there. Does nothing if the program is
+        busy for long: another goal comes soon."""
+        if not self.turn.acquire(timeout=GOAL_SECONDS):
+            return
+        try:
+            if self.goal is None and goal.place >= self.last.place:
+                self.goal = goal
+                if goal.place == self.last.place:
+                    self.compare()
+        except Fault as fault:
+            self.end(fault)
+        finally:
+            self.turn.release()
+
+    def get(self, path):
+        """The reply to a path, and the place of the last edit before it. Raises Fault if the replica has ended."""
+        with self.turn:
+            if self.fault:
+                raise self.fault
+            try:
+                [reply] = self.told([get_line(path)])
+            except (Ended, NoReply, OSError) as fault:
+                self.end(Fault("program-ended", str(fault) or "it has ended"))
+                raise self.fault from None
+            except Fault as fault:
+                self.end(fault)
+                raise
+            return reply, self.last.place
+
+    def is_near_its_end(self):
+        """Whether the next replica should be begun, so that it is there before this one's program has had its lines."""
+        room = self.most - MARGIN - self.lines_at_start
+        return self.is_verified and self.program.lines > self.lines_at_start + room // 2
+
+    def forget(self, place):
+        """Drops what is known of edits that a snapshot has: etcd has it for as long as it may be asked for."""
+        if place > self.forgotten:
+            self.forgotten = place
+            for name, (at, _, _) in list(self.done.items()):
+                if at <= place:
+                    del self.done[name]
+
+    def size(self):
+        """How many bytes the edits have that no snapshot has."""
+        return sum(size for _, _, size in list(self.done.values()))
+
+    def reply_to(self, name):
+        """The reply to an edit that this has carried out and no snapshot has, or None."""
+        return self.done.get(name, (0, None, 0))[1]
+
+    def look_after(self, known, head):
+        """What is to be done now and then: ends a program that owes a reply for too long, and a watch that is silent
+        although there are edits."""
+        since = self.owes_since
+        if since and time.monotonic() - since > REPLY_SECONDS:
+            self.end(Fault("program-ended", f"it has owed a reply for {REPLY_SECONDS} s"))
+        if head:
+            self.forget(head.last.place)
+        if self.following and known.place > self.last.place:
+            self.following.kick(2)
+
+
+def begin_program(path, options):
+    """Starts a program, and makes sure that it is one."""
+    program = Program(path, *options)
+    try:
+        program.check(FIRST_SECONDS)
+    except BaseException:
+        program.__exit__()
+        raise
+    return program

@@ -1,0 +1,295 @@
+"""One node of a site: the replica that serves its pages, the next one for it, and what the node knows of the cluster.
+
+It is a module, and runs nothing by itself.
+"""
+
+import subprocess
+import sys
+import threading
+import time
+import traceback
+
+from etcd import Refused, Unreachable, WentBack, reason_of
+from history import NONE, Gap
+from identity import claimed
+from program import Ended, NoReply
+from replica import Fault, Replica
+from snapshots import NotMade, OtherMaker, make
+
+# How often the cluster is asked for its last edit, for how long at most, and after how long without an answer it counts
+# as unreachable.
+POLL_SECONDS, ASK_SECONDS, UNHEARD_SECONDS = 0.5, 4, 5
+# How long a request waits for an edit that this node hasn't come to, or for a program.
+WAIT_SECONDS = 5
+# How long an edit may be known to be there that this node hasn't applied, before its health says so.
+LAG_SECONDS = 10
+# How long to wait before a replica is begun after one that has failed, at first and at most.
+AGAIN_SECONDS, AGAIN_SECONDS_AT_MOST = 0.2, 10
+# How often the replicas are looked at, and whether a snapshot is due; and how long to wait after one that wasn't made.
+KEEP_SECONDS, DUE_SECONDS, UNMADE_SECONDS = 0.05, 1, 5
+# How many bytes of edits make a snapshot due, however few there are.
+DUE_BYTES = 100_000_000
+# Reasons that end a node's service until it is started anew.
+FOR_GOOD = {"history-went-back", "other-program"}
+
+
+def say(what):
+    print(f"node: {what}", file=sys.stderr, flush=True)
+
+
+class Arrivals:
+    """Threads that wait until a place in the history is reached."""
+
+    def __init__(self):
+        # The place that each waits for, by its event.
+        self.turn, self.waiting = threading.Lock(), {}
+
+    def wait(self, place, is_there, seconds):
+        """Waits until `reached` is called with that place or a later one, unless `is_there()` holds already."""
+        event = threading.Event()
+        with self.turn:
+            self.waiting[event] = place
+        if not is_there():
+            event.wait(seconds)
+        with self.turn:
+            del self.waiting[event]
+
+    def reached(self, place):
+        with self.turn:
+            for event, wanted in self.waiting.items():
+                if wanted <= place:
+                    event.set()
+
+
+class Node:
+    """A node of a site. `identity` is its program's, and `begin` starts a program, which takes `most` lines."""
+
+    def __init__(self, history, identity, begin, most):
+        self.history, self.identity, self.begin, self.most = history, identity, begin, most
+        self.name = history.keys.root.decode().rstrip("/")
+        # The program that makes snapshots, after how many edits one is due, and how long its edits' requests are known.
+        self.snapshots = None
+        # The replica that serves, the one that is to take its place, and the last edit that any of them has come to.
+        self.current, self.next, self.last = None, None, NONE
+        # What the cluster has said last, its last edit and its newest snapshot; and when.
+        self.known, self.head, self.heard = NONE, None, float("-inf")
+        # The place of an edit that this node hasn't applied yet, and since when that is known.
+        self.awaited, self.awaited_since = 0, 0.0
+        self.arrivals = Arrivals()
+        # Why no page is served, and why not ever again.
+        self.reason, self.ended = ("catching-up", "the node has just started"), None
+        self.has_served, self.is_stopping = False, threading.Event()
+        # Whether the history belongs to this node's program; and when the next replica may be begun, as one that has
+        # failed isn't tried again at once.
+        self.is_claimed, self.pause, self.not_before = threading.Event(), AGAIN_SECONDS, 0.0
+
+    def start(self):
+        for work, seconds in ((self.keep, KEEP_SECONDS), (self.poll, POLL_SECONDS), (self.make_snapshot, DUE_SECONDS)):
+            threading.Thread(target=self.repeated, args=[work, seconds], daemon=True).start()
+
+    def repeated(self, work, seconds):
+        """Does some work time after time until the node ends. A mistake in it is told, and the work goes on."""
+        while not self.is_stopping.wait(seconds):
+            try:
+                work()
+            except WentBack as fault:
+                self.end(*reason_of(fault))
+            except Exception:
+                traceback.print_exc()
+        # Also ends a replica that was begun as the node ended.
+        self.stop()
+
+    def stop(self):
+        self.is_stopping.set()
+        for replica in (self.current, self.next):
+            if replica:
+                replica.end(Fault("stopping", "the node ends"))
+
+    def end(self, name, text):
+        """Serves no more, until the node is started anew by somebody who has looked at it."""
+        if not self.ended:
+            self.ended = self.reason = (name, text)
+            say(f"{name}: {text}; this node serves no more")
+        self.stop()
+
+    # The replicas.
+
+    def keep(self):
+        """Sees to it that there is a replica that serves, and that the next one is there before that has ended."""
+        if not self.is_claimed.is_set():
+            self.claim()
+            return
+        if self.current and self.current.fault:
+            self.say_end(self.current.fault)
+            self.current = None
+        is_wanted = self.current is None or self.current.is_near_its_end()
+        if self.next is None and is_wanted and time.monotonic() >= self.not_before:
+            self.next = self.begun()
+        if self.next and self.next.fault:
+            self.say_end(self.next.fault)
+            self.next, self.not_before = None, time.monotonic() + self.pause
+            self.pause = min(2 * self.pause, AGAIN_SECONDS_AT_MOST)
+        elif self.next and self.next.is_verified and self.takes_over():
+            self.pause = AGAIN_SECONDS
+
+    def claim(self):
+        """Makes sure that the history belongs to this node's program."""
+        try:
+            if claimed(self.history, self.identity, ASK_SECONDS) == self.identity:
+                self.is_claimed.set()
+            else:
+                self.end("other-program", "the history belongs to a program with another identity")
+        except (Unreachable, Refused) as fault:
+            self.reason = reason_of(fault)
+
+    def begun(self):
+        return Replica(self.history, self.begin, self.most, lambda: self.last, self.came).start()
+
+    def say_end(self, fault):
+        if fault.name in FOR_GOOD:
+            self.end(fault.name, fault.text)
+        else:
+            self.reason = (fault.name, fault.text)
+            say(f"a program ends: {fault}")
+
+    def takes_over(self):
+        """Whether the next replica has taken the current one's place. It has to have come as far."""
+        former, following = self.current, self.next
+        if former is None:
+            if following.last.place < self.last.place:
+                return False
+            self.current, self.next = following, None
+        else:
+            if following.last.place < former.last.place:
+                return False
+            # Nothing is asked of the former meanwhile, so it comes no further.
+            with former.turn:
+                until = time.monotonic() + 0.5
+                while following.last.place < former.last.place and time.monotonic() < until:
+                    time.sleep(0.002)
+                if following.last.place < former.last.place or following.fault:
+                    return False
+                self.current, self.next = following, None
+            former.end(Fault("replaced", "the next program has taken its place"))
+        self.has_served = True
+        self.came()
+        return True
+
+    def came(self):
+        """Notes where the replica that serves has come to in the history."""
+        current = self.current
+        if current:
+            self.last = max(self.last, current.last)
+            self.arrivals.reached(current.last.place)
+
+    # What the cluster has.
+
+    def poll(self):
+        """Asks the cluster for its last edit and its newest snapshot."""
+        try:
+            self.ask()
+        except (Unreachable, Refused) as fault:
+            if not self.is_heard() and self.current is None:
+                self.reason = reason_of(fault)
+
+    def ask(self):
+        before = self.last
+        known, head = self.history.now(seconds=ASK_SECONDS)
+        if known.place < before.place:
+            raise WentBack(f"the last edit is of revision {known.place}, and this node has one of {before.place}")
+        self.known, self.head, self.heard = max(known, self.known), head, time.monotonic()
+        if self.place() >= self.awaited:
+            self.awaited, self.awaited_since = known.place, time.monotonic()
+        for replica in (self.current, self.next):
+            if replica:
+                replica.look_after(known, head)
+                if replica.is_verified and not replica.fault:
+                    replica.set_goal(known)
+        return known
+
+    def make_snapshot(self):
+        """Makes a snapshot if one is due and no other node makes it."""
+        path, due, remember = self.snapshots
+        if not self.is_claimed.is_set() or not self.is_heard() or not self.is_due(due):
+            return
+        try:
+            last, size = make(self.history, path, remember)
+            say(f"a snapshot of {last.count} edits up to revision {last.place}: {size} bytes")
+        except OtherMaker:
+            self.is_stopping.wait(UNMADE_SECONDS)
+        except (NotMade, Gap, Unreachable, Refused, Ended, NoReply, OSError, subprocess.SubprocessError) as fault:
+            say(f"no snapshot: {fault or type(fault).__name__}")
+            self.is_stopping.wait(UNMADE_SECONDS)
+
+    def is_due(self, due):
+        """Whether there are that many edits which no snapshot has, or very large ones."""
+        had, current = self.head.last.count if self.head else 0, self.current
+        return self.known.count - had >= due or current is not None and current.size() > DUE_BYTES
+
+    def state(self):
+        """Whether the node is ready, and if not a name for why and what there is to say."""
+        if self.ended:
+            return self.ended
+        current = self.current
+        if current is None:
+            return self.reason
+        fault = current.fault
+        if fault:
+            return fault.name, fault.text
+        if not self.is_heard():
+            return ("etcd-unreachable", "etcd hasn't answered for some seconds")
+        if self.place() < self.awaited and time.monotonic() - self.awaited_since > LAG_SECONDS:
+            return ("lagging", f"this node is at revision {current.last.place}, and the cluster at {self.known.place}")
+        return None
+
+    def is_heard(self):
+        return time.monotonic() - self.heard < UNHEARD_SECONDS
+
+    def place(self):
+        current = self.current
+        return current.last.place if current else 0
+
+    # What requests ask.
+
+    def wait(self, place, seconds=WAIT_SECONDS):
+        """Whether this node has come to a place in the history, within some seconds."""
+        self.arrivals.wait(place, lambda: self.place() >= place, seconds)
+        return self.place() >= place
+
+    def get(self, path, place):
+        """The reply to a path at a place in the history or later, and its place. Raises Fault if there is none now."""
+        until = time.monotonic() + WAIT_SECONDS
+        while True:
+            current = self.current
+            if current and not self.ended:
+                try:
+                    reply, at = current.get(path)
+                    if at >= place:
+                        return reply, at
+                except Fault:
+                    pass
+            if self.ended or not self.has_served or time.monotonic() > until:
+                raise Fault(*(self.state() or ("catching-up", "no program is there in time")))
+            time.sleep(0.02)
+
+    def reply_to(self, name, place, seconds):
+        """The reply to an edit that is in the history, or None if it isn't there in time."""
+        until = time.monotonic() + seconds
+        while True:
+            current = self.current
+            if current and current.last.place >= place:
+                reply = current.reply_to(name) or self.noted_reply(name)
+                if reply:
+                    return reply
+            if time.monotonic() > until or self.ended:
+                return None
+            if current is None or current.last.place >= place:
+                time.sleep(0.05)
+            self.wait(place, max(0.0, until - time.monotonic()))
+
+    def noted_reply(self, name):
+        """The reply to an edit that a snapshot has, or None."""
+        try:
+            return self.history.reply_of(name)
+        except (Unreachable, Refused, WentBack):
+            return None
