@@ -4,6 +4,7 @@ import json
 import os
 import re
 import shutil
+import subprocess
 import sys
 import tempfile
 from pathlib import Path
@@ -23,6 +24,8 @@ from values import command_of
 EXAMPLES = HERE.parents[1] / "examples"
 # Lists of tests/fuzz, and after how many lines of them the program is ended and started again.
 LISTS, LINES = 20, 10
+# How much more memory many waiting pages may take than one: a megabyte waits, in memory that grows by doubling.
+HELD_BACK = 8 << 20
 PATHS = ("/", "/?p=1", "/?p=2", "/?page_id=2", "/?m=202405", "/?paged=2", "/?p=9", "/x")
 # An edit of each kind, some of them written in odd ways, beside lines that are no edits or are refused.
 MIXED = (
@@ -144,6 +147,28 @@ def waits_in_bounds(program, file):
         raise Wrong("the replies are others than in memory")
 
 
+def holds_little_back(program, file):
+    """Many large pages after an edit in one chunk take little more memory than one of them: what waits has a bound."""
+    replies(program, [put(content="x" * 300_000)], *over(file))
+    edit = line_of(cmd="option", name="x", value="y")
+    few, many = (memory_of(program, [edit, *[get("/")] * count], *over(file)) for count in (1, 200))
+    if many > few + HELD_BACK:
+        raise Wrong(f"200 pages of 300,000 bytes take {many:,} bytes of memory, and one {few:,}")
+
+
+def memory_of(program, lines, *words):
+    """The most memory that a run over some lines has at once, in bytes."""
+    with tempfile.TemporaryFile() as given:
+        given.write(joined(lines))
+        given.seek(0)
+        ran = subprocess.Popen([program, *words], stdin=given, stdout=subprocess.DEVNULL)
+        _, status, used = os.wait4(ran.pid, 0)
+        ran.returncode = os.waitstatus_to_exitcode(status)
+    if ran.returncode:
+        raise Wrong(f"it ended with status {ran.returncode}")
+    return used.ru_maxrss * 1024
+
+
 def loses_open_pages(program, file):
     """Open pages end with the program: `turns` after a new start finds none."""
     lines = [put(title="T"), line_of(cmd="begin", path="/")]
@@ -251,8 +276,8 @@ def restarted(program, file, number):
 def cases(program):
     """Each check by its name, with what judges it."""
     checks = (
-        keeps, acknowledges, syncs_before_replies, takes_chunks, waits_in_bounds, loses_open_pages, takes_options,
-        takes_paths, loses_no_edit_to_a_reader, keeps_at_other_ends, bad_arguments,
+        keeps, acknowledges, syncs_before_replies, takes_chunks, waits_in_bounds, holds_little_back, loses_open_pages,
+        takes_options, takes_paths, loses_no_edit_to_a_reader, keeps_at_other_ends, bad_arguments,
     )
     for check in checks:
         yield check.__doc__, lambda check=check: in_a_folder(check, program)
