@@ -100,10 +100,10 @@ class Alone:
 
 
 def pages_of(node):
-    """The pages that a node has, each as fresh as the cluster."""
+    """The pages that a node has, each as fresh as the cluster, which may take some time after trouble."""
     found = []
     for path in ALIKE:
-        answer = node.get(path, X_Site_Fresh="1")
+        answer = node.get_again(path, X_Site_Fresh="1")
         if answer.status not in (200, 404):
             raise Wrong(f"{node.name} answers {path} by {answer.shown()}")
         found.append(page_of(answer.status, answer.body))

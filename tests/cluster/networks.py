@@ -175,7 +175,7 @@ def serves_what_it_has(cluster, network):
     finally:
         network.heal()
     node.wait_until_ready()
-    answer = node.get("/", X_Site_Revision=str(later))
+    answer = node.get_again("/", X_Site_Revision=str(later))
     must(answer.status == 200 and answer.revision() >= later, f"healed it answered {answer.shown()}")
 
 
@@ -193,7 +193,7 @@ def settles_unknown_edits(cluster, network, record, times):
         finally:
             network.heal()
         node.wait_until_ready()
-        answer = node.post(joined(lines), **headers)
+        answer = node.post_again(joined(lines), f"cut-{number}")
         must(answer.status == 200 and record.edits(lines, answer.start, answer.end, answer), answer.shown())
     judge_at_rest(cluster, record)
 

@@ -2,6 +2,7 @@
 
 import json
 import tempfile
+import time
 from contextlib import ExitStack, contextmanager
 from pathlib import Path
 
@@ -43,6 +44,23 @@ class Node:
 
     def get(self, path, **headers):
         return self.ask("GET", path, **headers)
+
+    def get_again(self, path, **headers):
+        """The answer to a request that is made again, for some time, while it is refused for now."""
+        return self.again(lambda: self.get(path, **headers), (503,))
+
+    def post_again(self, body, key):
+        """The same of edits: by their key they are made once, however often they are asked for."""
+        return self.again(lambda: self.post(body, Idempotency_Key=key), (503, 504))
+
+    @staticmethod
+    def again(ask, passing):
+        until = time.monotonic() + READY
+        while True:
+            answer = ask()
+            if answer.status not in passing or time.monotonic() > until:
+                return answer
+            time.sleep(0.2)
 
     def post(self, body, token=TOKEN, seconds=ANSWERS, **headers):
         """Posts edits; `headers` have an underscore where the header's name has a hyphen."""

@@ -9,18 +9,30 @@ import subprocess
 import time
 import uuid
 from pathlib import Path
+from random import SystemRandom
 
 # In the environment of each process that a test starts, and of those that they start.
 MARK = "SITE_CLUSTER_TEST"
 # How long a process may take to end by itself.
 SECONDS = 10
+# What holds ports for this test.
+RANDOM, HELD = SystemRandom(), []
 
 
 def free_port(host="127.0.0.1"):
-    """A port that nothing listens on at the moment."""
-    with socket.socket() as held:
-        held.bind((host, 0))
-        return held.getsockname()[1]
+    """A port for this test alone. Nothing listens on it, and no connection gets it for its own end: Linux takes those from
+    32768 on. Other tests leave it alone for the socket for datagrams that is held on it."""
+    while True:
+        port, kept = RANDOM.randrange(10_000, 32_768), socket.socket(type=socket.SOCK_DGRAM)
+        try:
+            with socket.socket() as tried:
+                tried.bind((host, port))
+            kept.bind((host, port))
+        except OSError:
+            kept.close()
+        else:
+            HELD.append(kept)
+            return port
 
 
 def wait_for(holds, seconds, what, pause=0.02):

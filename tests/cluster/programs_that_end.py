@@ -177,7 +177,7 @@ def refuses_no_visitor(arguments):
         for number in range(EDITS):
             last = edit(cluster, record, number)
         for node in cluster.nodes:
-            must(node.get("/", X_Site_Revision=str(last.revision())).status == 200, "it doesn't come to the last edit")
+            must(node.get_again("/", X_Site_Revision=str(last.revision())).status == 200, "it doesn't come to the last edit")
         visitors = [Visitor(node, PAGES // 3) for node in cluster.nodes]
         for visitor in visitors:
             visitor.start()

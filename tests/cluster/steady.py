@@ -270,7 +270,7 @@ class Steady:
             number = str(answer.revision())
             for headers in ({"X_Site_Revision": number}, {"Cookie": cookie}, {"X_Site_Fresh": "1"}):
                 for other in self.nodes:
-                    page = other.get(path, **headers)
+                    page = other.get_again(path, **headers)
                     holds = page.status == 200 and title.encode() in page.body and page.revision() >= answer.revision()
                     must(holds, f"{other.name} with {headers} answered {page.shown()}")
 
@@ -350,7 +350,7 @@ class Steady:
             must(b"written" not in others[0].get("/").body, "it has another's posts")
             answer = others[0].post(joined(editor.lines(20)))
             must(answer.status == 200, f"it answered {answer.shown()}")
-            pages = [node.get("/", X_Site_Fresh="1").body for node in others]
+            pages = [node.get_again("/", X_Site_Fresh="1").body for node in others]
             must(pages[0] == pages[1], "two nodes of one site differ")
         must(self.edits() == before and len(self.cluster.members.store.edits("other")) == 20, "sites are mixed")
 

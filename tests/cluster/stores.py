@@ -70,7 +70,7 @@ def check_full(cluster, record):
         must(answer.body.strip(), f"{node.name} names no reason")
     for node in cluster.nodes:
         for headers in ({}, {"X_Site_Fresh": "1"}):
-            page = node.get("/", **headers)
+            page = node.get_again("/", **headers)
             must(page.status in (200, 404), f"{node.name} answered {page.shown()} to a read")
     return answer.body.decode().strip()
 
@@ -211,8 +211,8 @@ def forgot(arguments, how):
         must(last.status == 200, last.shown())
         path = f"/?p={last.lines()[0].split()[1]}"
         for other in cluster.nodes:
-            must(other.get(path, X_Site_Fresh="1").status == 200, f"{other.name} doesn't have the edit")
-        before = [it.get("/", X_Site_Fresh="1").revision() for it in cluster.nodes]
+            must(other.get_again(path, X_Site_Fresh="1").status == 200, f"{other.name} doesn't have the edit")
+        before = [it.get_again("/", X_Site_Fresh="1").revision() for it in cluster.nodes]
         put_back(cluster, Path(folder))
         cluster.members.start_all()
         must(cluster.members.store.revision() < max(before), "etcd hasn't forgotten")
@@ -257,7 +257,7 @@ def went_another_way(arguments):
         cluster.settle()
         last = posted(other, [put("the one way")], record)
         path = f"/?p={last.lines()[0].split()[1]}"
-        page = away.get(path, X_Site_Fresh="1")
+        page = away.get_again(path, X_Site_Fresh="1")
         must(page.status == 200, page.shown())
         away.process.stop()
         for node in cluster.nodes[:2]:
