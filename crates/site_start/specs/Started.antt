@@ -1,5 +1,5 @@
 -- What a log makes of a site.
-use Rattle.std.specs.Prelude.{◌≡◌, ℕ, List, [], ◌∷◌, Option, true, All}
+use Rattle.std.specs.Prelude.{◌≡◌, ◌≢◌, ℕ, List, [], ◌∷◌, Option, true, All}
 use Rattle.hook_machine.specs.Meaning.{Engine}
 use Rattle.post_tables.specs.Rows.{Rows}
 use Rattle.site_program.specs.History.{site_after}
@@ -15,6 +15,11 @@ rows_after engine calls limit lines = (site_after (step engine calls) (empty_und
 abbrev pub IsTakenOver : List ℕ → (old new : List (List ℕ)) → Type 0
 IsTakenOver identity [] new = new ≡ identity ∷ []
 IsTakenOver identity (first ∷ later) new = (first ≡ identity) × (new ≡ first ∷ later)
+
+-- the first line of a log is another one than this
+abbrev pub IsOfAnother : List ℕ → List (List ℕ) → Type 0
+IsOfAnother identity [] = ⊥
+IsOfAnother identity (first ∷ later) = first ≢ identity
 
 -- each line is a command that may change what is stored
 abbrev pub AreEdits : List (List ℕ) → Type 0

@@ -34,8 +34,13 @@ pub enum StartFault {
 }
 
 impl StartFault {
+    ghost use Rattle.std.specs.Prelude.{◌≢◌};
+    ghost use Rattle.site_start.specs.declared.fault.StartFault.TheVariants.{OtherProgram};
+
     /// Makes the fault of a line that is refused.
-    pub(crate) fn refused(line: u64, refusal: Refusal) -> Self {
+    pub(crate) fn refused(line: u64, refusal: Refusal) -> Self
+        ensures { result ≢ OtherProgram }
+    {
         StartFault::Refused {
             line,
             number: refusal.number(),
@@ -65,6 +70,12 @@ impl From<StoreFault> for StartFault {
 }
 
 impl From<AllocError> for StartFault {
+    ghost use Rattle.std.specs.Prelude.{◌≡◌};
+    ghost use Rattle.site_start.specs.declared.fault.StartFault.TheVariants.{Log};
+    ghost use Rattle.command_log.specs.declared.fault.LogFault.{LogFault};
+
+    ghost from_gives = { λ _ start. start ≡ Log LogFault.OutOfMemory };
+
     fn from(_error: AllocError) -> StartFault {
         StartFault::Log(LogFault::OutOfMemory)
     }

@@ -1,5 +1,5 @@
 //! Making a site anew by the lines of its log.
-ghost use Rattle.std.specs.Prelude.{◌≡◌, ℕ, List, ◌∷◌, ◌++◌, [], IfOk, OnOk, OnErr};
+ghost use Rattle.std.specs.Prelude.{◌≡◌, ◌≢◌, ℕ, List, ◌∷◌, ◌++◌, [], IfErr, IfOk, OnOk, OnErr};
 ghost use Rattle.sqlite.specs.Files.{over_files};
 ghost use Rattle.sqlite.specs.Held.{state};
 ghost use Rattle.sqlite.specs.State.{HasCleanDisk, Survives};
@@ -9,7 +9,8 @@ ghost use Rattle.command_log.specs.Lines.{IsOpen, IsAppended, KeepsLines, lines_
 ghost use Rattle.site_program.specs.History.{site_after};
 ghost use Rattle.site_program.specs.Site.{setup_of, state_of};
 ghost use Rattle.site_program.specs.Step.{steps_of};
-ghost use Rattle.site_start.specs.Started.{HasEdits, IsTakenOver};
+ghost use Rattle.site_start.specs.Started.{HasEdits, IsOfAnother, IsTakenOver};
+ghost use Rattle.site_start.specs.declared.fault.StartFault.TheVariants.{OtherProgram};
 
 use crate::fault::StartFault;
 use crate::replay::{introduce, replay};
@@ -69,6 +70,10 @@ pub fn start<P: Stated, S: Alter>(
         (HasEdits identity.now (lines_of S.Store log.new)) }
     ensures opened { HasCleanDisk (state S.Store log.new) → OnOk result (IsOpen S.Store log.new) }
 
+    // It is another program's log only if its first line is another one.
+    ensures other { HasCleanDisk (state S.Store log.new) → IfErr result (λ fault. fault ≡ OtherProgram
+        → IsOfAnother identity.now (lines_of S.Store log.old)) }
+
     // After a fault the log has the lines that it had.
     ensures err { IsOpen S.Store log.new → OnErr result (lines_of S.Store log.new ≡ lines_of S.Store log.old) }
 
@@ -100,6 +105,7 @@ fn append_first<S: Alter>(
         (lines_of S.Store log.new ≡ lines_of S.Store log.old ++ line.now ∷ []) }
     ensures err { IsOpen S.Store log.new → OnErr result (lines_of S.Store log.new ≡ lines_of S.Store log.old) }
     ensures opened { HasCleanDisk (state S.Store log.new) → OnOk result (IsOpen S.Store log.new) }
+    ensures fault { IfErr result (λ fault. fault ≢ OtherProgram) }
     ensures survives { Survives (state S.Store log.old) (state S.Store log.new)
         (IsAppended S.Store log.old (line.now ∷ [])) }
 {

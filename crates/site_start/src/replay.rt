@@ -1,5 +1,5 @@
 //! Carrying out the lines of a log once more.
-ghost use Rattle.std.specs.Prelude.{◌≡◌, map, true, IfOk, OnOk};
+ghost use Rattle.std.specs.Prelude.{◌≡◌, ◌≢◌, map, true, IfErr, IfOk, OnOk};
 ghost use Rattle.std.specs.String.{string_bytes};
 ghost use Rattle.sqlite.specs.Held.{state};
 ghost use Rattle.sqlite.specs.State.{HasCleanDisk, Survives};
@@ -9,6 +9,7 @@ ghost use Rattle.site_program.specs.Site.{setup_of, state_of};
 ghost use Rattle.site_commands.specs.Worked.{line_command};
 ghost use Rattle.site_program.specs.Step.{is_edit, steps_of};
 ghost use Rattle.site_start.specs.Started.{AreEdits};
+ghost use Rattle.site_start.specs.declared.fault.StartFault.TheVariants.{OtherProgram};
 
 use crate::fault::StartFault;
 use callback_store::Stated;
@@ -31,6 +32,7 @@ pub(crate) fn introduce<P: Stated>(
     ensures done { OnOk result (state_of P.says P.number site.new
         ≡ (steps_of P.says P.number (setup_of site.old) (state_of P.says P.number site.old) line.now).0) }
     ensures same { OnOk result (line.now ≡ identity.now) }
+    ensures other { IfErr result (λ fault. fault ≡ OtherProgram → line.now ≢ identity.now) }
     ensures setup { setup_of site.new ≡ setup_of site.old }
 {
     if line != identity {
@@ -39,13 +41,14 @@ pub(crate) fn introduce<P: Stated>(
     match site.command(line.as_bytes()) {
         SiteReply::Refused(Refusal::BadCommand) => Ok(()),
         SiteReply::Refused(refusal) => Err(StartFault::refused(1, refusal)),
-        _ => Err(StartFault::OtherProgram),
+        _ => Err(StartFault::NotAnEdit { line: 1 }),
     }
 }
 
 /// Returns whether a line is an edit: a command that may change what is stored.
 fn is_edit(alloc: Global, line: &str) -> Result<bool, StartFault>
-    ensures { IfOk result (λ edits. edits ≡ is_edit (line_command line.now)) }
+    ensures edits { IfOk result (λ edits. edits ≡ is_edit (line_command line.now)) }
+    ensures fault { IfErr result (λ fault. fault ≢ OtherProgram) }
 {
     let tree = match read_line(alloc, line.as_bytes()) {
         Ok(Some(tree)) => tree,
@@ -70,6 +73,7 @@ fn redo<P: Stated>(
     ensures done { OnOk result (state_of P.says P.number site.new
         ≡ (steps_of P.says P.number (setup_of site.old) (state_of P.says P.number site.old) line.now).0) }
     ensures edit { OnOk result (is_edit (line_command line.now) ≡ true) }
+    ensures fault { IfErr result (λ fault. fault ≢ OtherProgram) }
     ensures setup { setup_of site.new ≡ setup_of site.old }
 {
     let edits = is_edit(alloc, line)?;
@@ -91,6 +95,7 @@ pub(crate) fn redo_all<P: Stated>(
         ≡ site_after (steps_of P.says P.number (setup_of site.old)) (state_of P.says P.number site.old)
         (map string_bytes lines.now)) }
     ensures edits { OnOk result (AreEdits (map string_bytes lines.now)) }
+    ensures fault { IfErr result (λ fault. fault ≢ OtherProgram) }
     ensures setup { setup_of site.new ≡ setup_of site.old }
 {
     for line in lines {
@@ -112,6 +117,7 @@ pub(crate) fn replay<P: Stated, S: Alter>(
         (lines_left S.Store log.old first)) }
     ensures edits { HasCleanDisk (state S.Store log.new) → OnOk result
         (AreEdits (lines_left S.Store log.old first)) }
+    ensures fault { IfErr result (λ fault. fault ≢ OtherProgram) }
     ensures setup { setup_of site.new ≡ setup_of site.old }
     ensures opened { HasCleanDisk (state S.Store log.new) → OnOk result (IsOpen S.Store log.new) }
     ensures same { IsOpen S.Store log.new

@@ -1,4 +1,4 @@
-use Rattle.std.proofs.Common.{◌≡◌, ◌∙◌, ap, []}
+use Rattle.std.proofs.Common.{◌∙◌, ap, []}
 use Rattle.std.specs.Prelude.{◌∷◌, ◌++◌, codes, decimal, flat_map}
 use Rattle.std.proofs.lemmas.List.{append_assoc}
 use Rattle.callback_store.specs.Shape.{shapes_of}

@@ -1,7 +1,7 @@
 use Rattle.std.proofs.Common.{◌≡◌, ◌∙◌, ap, sym, subst, [], drop, take, length, get_or, true, ◌<◌, ◌≤◌}
 use Rattle.std.specs.Prelude.{◌∷◌, ◌++◌, OnOk}
 use Rattle.std.specs.String.{string_bytes}
-use Rattle.std.proofs.lemmas.Result.{on_ok_weaker, on_err_weaker}
+use Rattle.std.proofs.lemmas.Result.{err_from_is_err_and, on_ok_weaker, on_err_weaker}
 use Rattle.std.proofs.lemmas.List.Elements.{All-nil}
 use Rattle.sqlite.specs.Held.{state}
 use Rattle.sqlite.specs.State.{HasCleanDisk}
@@ -12,11 +12,11 @@ use Rattle.site_program.specs.History.{site_after}
 use Rattle.site_program.specs.Site.{setup_of, state_of}
 use Rattle.site_commands.specs.Worked.{line_command}
 use Rattle.site_program.specs.Step.{is_edit, steps_of}
-use Rattle.site_start.specs.Started.{AreEdits, IsTakenOver}
+use Rattle.site_start.specs.Started.{AreEdits, IsOfAnother, IsTakenOver}
 use Rattle.site_start.proofs.Replaying.{clean_before, first_left, none_left, on_every_err, on_ok_both}
 use Rattle.site_start.proofs.opening.start.Given.{Over}
 use Rattle.site_start.proofs.opening.start.Goals as goal
-use Rattle.site_start.proofs.opening.start.Goals.{After-drop-first-in-empty, After-drop-first-2}
+use Rattle.site_start.proofs.opening.start.Goals.{After-drop-first-in-empty, After-drop-first-in_err-introduce-in-len1-up, After-drop-first-2}
 
 -- ---- the log has no line
 
@@ -149,3 +149,23 @@ returns-clause-edits g c = λ clean.
       still g c up early ∙ first_read g c early ∙ ap (λ text. text ∷ drop 1 lines) c.in_ok-introduce-in-len1-up.ensures.same,
       subst AreEdits (left_after g c early) edits,
     )) (c.replay.ensures.edits clean) (c.replay.ensures.opened clean)
+
+-- ---- another program's log has another first line
+
+-- the lines of the log as it was read, where the first one was refused
+first_refused : (g : Over) (c : After-drop-first-in_err-introduce-in-len1-up g) → HasCleanDisk (state g.S.Store c.read_batch.new.self)
+    → lines_of g.S.Store c.args.log.now ≡ c.as_str.result.now ∷ drop 1 (lines_of g.S.Store c.args.log.now)
+first_refused g c clean =
+    let items = c.in_ok-first.first.lines.items in
+    let line = c.line-item.result in
+    let lines = lines_of g.S.Store c.args.log.now in
+    let took = c.in_ok-first.ensures.ok clean ∙ ap (λ place. take 1 (lines_left g.S.Store c.args.log.now place)) c.start.ensures in
+    let some : 1 ≤ length items = subst (λ items. 1 ≤ length items) c.as_slice.ensures.value c.in-len1-up.len_at_least in
+    let at : line ≡ get_or items 0 line = c.line-item.is ∙ ap (λ items. get_or items 0 line) c.as_slice.ensures.value in
+    first_left string_bytes items lines line took some at ∙ ap (λ text. text ∷ drop 1 lines) (sym c.as_str.ensures.value)
+
+pub returns-in_err-introduce-in-len1-up-clause-other : goal.returns-in_err-introduce-in-len1-up-clause-other
+returns-in_err-introduce-in-len1-up-clause-other g c = λ clean.
+    let p = err_from_is_err_and c.from_residual-in_err-introduce-in-len1-up.result c.from_residual-in_err-introduce-in-len1-up.ensures.1 in
+    rw (p.1, p.2)
+    (λ is. subst (IsOfAnother c.args.identity.now) (sym (first_refused g c clean)) (c.in_err-introduce-in-len1-up.ensures.other is))

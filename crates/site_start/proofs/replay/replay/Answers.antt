@@ -1,8 +1,7 @@
-use Rattle.std.proofs.Common.{◌≡◌, ◌∙◌, ◌<◌, ap, arith, length, map, subst, sym, vec_len}
+use Rattle.std.proofs.Common.{◌∙◌, ◌<◌, ap, arith, length, map, subst, sym, vec_len}
 use Rattle.std.proofs.lemmas.Bool.{eqb-true}
 use Rattle.std.specs.String.{string_bytes}
 use Rattle.sqlite.specs.Held.{state}
-use Rattle.sqlite.specs.State.{HasCleanDisk}
 use Rattle.sqlite.proofs.StateLemmas.{survives_then}
 use Rattle.command_log.proofs.States.{clean_of}
 use Rattle.command_log.specs.Lines.{lines_after, lines_left}

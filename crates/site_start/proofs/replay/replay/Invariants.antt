@@ -1,7 +1,7 @@
 use Rattle.std.proofs.Common.{◌≡◌, ℕ, List, ◌++◌}
 use Rattle.sqlite.specs.Held.{state}
 use Rattle.sqlite.specs.State.{HasCleanDisk, Survives}
-use Rattle.command_log.specs.Lines.{IsOpen, lines_left}
+use Rattle.command_log.specs.Lines.{lines_left}
 use Rattle.site_program.specs.History.{site_after}
 use Rattle.site_program.specs.Site.{setup_of, state_of}
 use Rattle.site_program.specs.Step.{steps_of}
