@@ -4,7 +4,7 @@ use Rattle.hook_changes.specs.Names.{is_hook_name}
 use Rattle.hook_registry.specs.declared.registration.Entry.{Entry}
 use Rattle.hook_registry.specs.Table.{group, after}
 use Rattle.hook_machine.specs.declared.fault.RunFault.{RunFault}
-use Rattle.hook_machine.specs.declared.pass.PassKind.TheVariants.{Action}
+use Rattle.hook_machine.specs.declared.run.calls.PassKind.TheVariants.{Action}
 use Rattle.hook_machine.specs.World.{Text, World}
 use Rattle.hook_machine.specs.Trace.{Trace, Done, Refused, Turn, and_then, chosen, Ended, outcome_of}
 use Rattle.hook_machine.specs.Meaning.{Invocation, group_pass, priorities_pass, pass, action_pass, fired}

@@ -4,14 +4,14 @@ use Rattle.std.specs.Prelude.{IfOk, IfErr}
 use Rattle.hook_changes.specs.declared.reply.Call.{Call}
 use Rattle.hook_machine.specs.declared.fault.RunFault.{RunFault}
 use Rattle.hook_machine.specs.declared.fault.RunFault.TheVariants.{TooManyCalls, TooDeep, OutOfMemory}
-use Rattle.hook_machine.specs.declared.frame.Frame.{Frame}
-use Rattle.hook_machine.specs.declared.frame.Frame.TheVariants as frame
-use Rattle.hook_machine.specs.declared.frame.Invoked.{Invoked}
-use Rattle.hook_machine.specs.declared.frame.Move.{Move}
-use Rattle.hook_machine.specs.declared.frame.Move.TheVariants.{Turned, Handed}
-use Rattle.hook_machine.specs.declared.frame.Pace.{Pace}
-use Rattle.hook_machine.specs.declared.frame.Pace.TheVariants.{ByTurns, Through}
-use Rattle.hook_machine.specs.declared.resuming.Turn.{Turn}
+use Rattle.hook_machine.specs.declared.run.frames.Frame.{Frame}
+use Rattle.hook_machine.specs.declared.run.frames.Frame.TheVariants as frame
+use Rattle.hook_machine.specs.declared.run.frames.Invoked.{Invoked}
+use Rattle.hook_machine.specs.declared.run.frames.Move.{Move}
+use Rattle.hook_machine.specs.declared.run.frames.Move.TheVariants.{Turned, Handed}
+use Rattle.hook_machine.specs.declared.run.frames.Pace.{Pace}
+use Rattle.hook_machine.specs.declared.run.frames.Pace.TheVariants.{ByTurns, Through}
+use Rattle.hook_machine.specs.declared.run.jobs.Turn.{Turn}
 use Rattle.hook_machine.specs.World.{Text, World}
 use Rattle.hook_machine.specs.Trace.{Trace, Done, Turn as turned_to, and_then, outcome_of, turns_of}
 use Rattle.hook_machine.specs.Meaning.{Engine, invoke}

@@ -1,11 +1,11 @@
 -- The innermost frame of a stopped run.
 use Rattle.std.proofs.Common.{◌≡◌, false, List, [], ◌∷◌, Option, None, Some, refl, subst}
 use Rattle.std.specs.Prelude.{is_some, slice_get}
-use Rattle.hook_machine.specs.declared.frame.Invoked.{Invoked}
-use Rattle.hook_machine.specs.declared.frame.Pending.{Pending}
-use Rattle.hook_machine.specs.declared.frame.Frame.{Frame}
-use Rattle.hook_machine.specs.declared.frame.Frame.TheVariants.{Pass, Invocation, Shortcodes}
-use Rattle.hook_machine.specs.declared.resuming.Job.{Job}
+use Rattle.hook_machine.specs.declared.run.frames.Invoked.{Invoked}
+use Rattle.hook_machine.specs.declared.run.frames.Pending.{Pending}
+use Rattle.hook_machine.specs.declared.run.frames.Frame.{Frame}
+use Rattle.hook_machine.specs.declared.run.frames.Frame.TheVariants.{Pass, Invocation, Shortcodes}
+use Rattle.hook_machine.specs.declared.run.jobs.Job.{Job}
 use Rattle.hook_machine.specs.World.{World}
 use Rattle.hook_machine.specs.Meaning.{Engine}
 use Rattle.hook_machine.specs.Rest.{rest, goes_on, pending_left, then_rest}

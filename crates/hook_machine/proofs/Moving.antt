@@ -19,19 +19,19 @@ use Rattle.shortcode_scan.specs.Pieces.{pieces_of}
 use Rattle.shortcode_scan.specs.Live.{live}
 use Rattle.hook_machine.specs.declared.fault.RunFault.{RunFault}
 use Rattle.hook_machine.specs.declared.fault.RunFault.TheVariants.{TooDeep, OutOfMemory}
-use Rattle.hook_machine.specs.declared.pass.PassKind.{PassKind}
-use Rattle.hook_machine.specs.declared.pass.PassKind.TheVariants.{Filter, Action}
+use Rattle.hook_machine.specs.declared.run.calls.PassKind.{PassKind}
+use Rattle.hook_machine.specs.declared.run.calls.PassKind.TheVariants.{Filter, Action}
 use Rattle.call_plans.specs.declared.position.Position.{Position}
-use Rattle.hook_machine.specs.declared.pieces.Matched.{Matched}
-use Rattle.hook_machine.specs.declared.frame.HookPass.{HookPass}
-use Rattle.hook_machine.specs.declared.frame.Invoked.{Invoked}
-use Rattle.hook_machine.specs.declared.frame.Pending.{Pending}
-use Rattle.hook_machine.specs.declared.frame.Pending.TheVariants.{Next, Core, ForText, ForNothing, ForCore}
-use Rattle.hook_machine.specs.declared.frame.Frame.{Frame}
-use Rattle.hook_machine.specs.declared.frame.Frame.TheVariants as frame
-use Rattle.hook_machine.specs.declared.frame.Move.{Move}
-use Rattle.hook_machine.specs.declared.frame.Move.TheVariants.{Handed}
-use Rattle.hook_machine.specs.declared.replacing.Handling.{Handling}
+use Rattle.hook_machine.specs.declared.run.pieces.Matched.{Matched}
+use Rattle.hook_machine.specs.declared.run.frames.HookPass.{HookPass}
+use Rattle.hook_machine.specs.declared.run.frames.Invoked.{Invoked}
+use Rattle.hook_machine.specs.declared.run.frames.Pending.{Pending}
+use Rattle.hook_machine.specs.declared.run.frames.Pending.TheVariants.{Next, Core, ForText, ForNothing, ForCore}
+use Rattle.hook_machine.specs.declared.run.frames.Frame.{Frame}
+use Rattle.hook_machine.specs.declared.run.frames.Frame.TheVariants as frame
+use Rattle.hook_machine.specs.declared.run.frames.Move.{Move}
+use Rattle.hook_machine.specs.declared.run.frames.Move.TheVariants.{Handed}
+use Rattle.hook_machine.specs.declared.run.texts.Handling.{Handling}
 use Rattle.hook_machine.specs.Cuts.{CutText, PassOverText}
 use Rattle.hook_machine.specs.Handling.{handling_pass}
 use Rattle.hook_machine.specs.World.{Text, World}
@@ -43,10 +43,10 @@ use Rattle.call_plans.specs.Position.{first_of, reach, next_entry}
 use Rattle.hook_machine.specs.Works.{bracketed, answer_shown}
 use Rattle.hook_machine.specs.Rest.{in_place, left_hook, risen, with_answer, pass_left, text_left, text_handed, pending_left, pending_handed, goes_on}
 use Rattle.hook_machine.specs.Rest.{handed, rest_with, then_rest, rest}
-use Rattle.hook_machine.specs.declared.resuming.Job.{Job}
+use Rattle.hook_machine.specs.declared.run.jobs.Job.{Job}
 use Rattle.hook_machine.specs.Jobs.{job_left, left_from}
-use Rattle.hook_machine.specs.declared.frame.Pace.{Pace}
-use Rattle.hook_machine.specs.declared.frame.Pace.TheVariants.{Through}
+use Rattle.hook_machine.specs.declared.run.frames.Pace.{Pace}
+use Rattle.hook_machine.specs.declared.run.frames.Pace.TheVariants.{Through}
 use Rattle.hook_machine.specs.Moves.{Moves, Leads}
 use Rattle.hook_machine.specs.PassedOver.{left_by_core}
 use Rattle.hook_machine.proofs.Going.{leads_here, leads_over}

@@ -12,7 +12,7 @@ use Rattle.shortcode_scan.specs.declared.Piece.TheVariants.{Plain}
 use Rattle.shortcode_scan.specs.Matches.{span}
 use Rattle.shortcode_scan.specs.Pieces.{pieces_of, plain_between}
 use Rattle.shortcode_scan.specs.Live.{live}
-use Rattle.hook_machine.specs.declared.pass.PassKind.TheVariants.{Filter}
+use Rattle.hook_machine.specs.declared.run.calls.PassKind.TheVariants.{Filter}
 use Rattle.hook_machine.specs.World.{Text, World}
 use Rattle.hook_machine.specs.Trace.{Trace, Done, Turn, and_then}
 use Rattle.hook_machine.specs.Meaning.{Engine, Invocation, hook_call, deeper, pieces_pass, shortcodes_pass, filter_pass, invoke, first_or_empty}

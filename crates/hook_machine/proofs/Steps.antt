@@ -16,18 +16,18 @@ use Rattle.shortcode_scan.specs.Pieces.{pieces_of}
 use Rattle.shortcode_scan.specs.Live.{live}
 use Rattle.hook_machine.specs.declared.fault.RunFault.{RunFault}
 use Rattle.hook_machine.specs.declared.fault.RunFault.TheVariants.{TooManyCalls, TooDeep, OutOfMemory}
-use Rattle.hook_machine.specs.declared.pass.PassKind.{PassKind}
+use Rattle.hook_machine.specs.declared.run.calls.PassKind.{PassKind}
 use Rattle.call_plans.specs.declared.position.Position.{Position}
-use Rattle.hook_machine.specs.declared.pieces.Matched.{Matched}
-use Rattle.hook_machine.specs.declared.frame.HookPass.{HookPass}
-use Rattle.hook_machine.specs.declared.frame.Invoked.{Invoked}
-use Rattle.hook_machine.specs.declared.frame.Pending.{Pending}
-use Rattle.hook_machine.specs.declared.frame.Pending.TheVariants.{Next, Core, ForText, ForNothing, ForCore}
-use Rattle.hook_machine.specs.declared.frame.Frame.{Frame}
-use Rattle.hook_machine.specs.declared.frame.Frame.TheVariants as frame
-use Rattle.hook_machine.specs.declared.frame.Move.{Move}
-use Rattle.hook_machine.specs.declared.pieces.Work.{Work}
-use Rattle.hook_machine.specs.declared.pieces.Work.TheVariants as work
+use Rattle.hook_machine.specs.declared.run.pieces.Matched.{Matched}
+use Rattle.hook_machine.specs.declared.run.frames.HookPass.{HookPass}
+use Rattle.hook_machine.specs.declared.run.frames.Invoked.{Invoked}
+use Rattle.hook_machine.specs.declared.run.frames.Pending.{Pending}
+use Rattle.hook_machine.specs.declared.run.frames.Pending.TheVariants.{Next, Core, ForText, ForNothing, ForCore}
+use Rattle.hook_machine.specs.declared.run.frames.Frame.{Frame}
+use Rattle.hook_machine.specs.declared.run.frames.Frame.TheVariants as frame
+use Rattle.hook_machine.specs.declared.run.frames.Move.{Move}
+use Rattle.hook_machine.specs.declared.run.pieces.Work.{Work}
+use Rattle.hook_machine.specs.declared.run.pieces.Work.TheVariants as work
 use Rattle.hook_machine.specs.World.{Text, World}
 use Rattle.hook_machine.specs.Trace.{Trace, Done, Refused, Turn, and_then}
 use Rattle.hook_machine.specs.Meaning.{Engine, Invocation, hook_call, arguments, value_after, group_pass, priorities_pass, pass, filter_pass, action_pass}
@@ -35,9 +35,9 @@ use Rattle.hook_machine.specs.Meaning.{piece_pass, pieces_pass, shortcodes_pass,
 use Rattle.hook_machine.specs.Meaning.{first_or_empty, text_at}
 use Rattle.hook_machine.specs.Works.{work_pass, answer_shown}
 use Rattle.call_plans.specs.Position.{first_of, reach, next_entry}
-use Rattle.hook_machine.specs.Rest.{begun, left_hook, risen, with_answer, above_left, pass_from, pass_left, pending_left, pending_handed, handed}
+use Rattle.hook_machine.specs.Rest.{after_call, left_hook, risen, with_answer, above_left, pass_from, pass_left, pending_left, pending_handed, handed}
 use Rattle.hook_machine.specs.Rest.{rest_with, then_rest}
-use Rattle.hook_machine.specs.declared.frame.Pace.{Pace}
+use Rattle.hook_machine.specs.declared.run.frames.Pace.{Pace}
 use Rattle.hook_machine.specs.Moves.{Moves, LeadsOn}
 use Rattle.hook_machine.proofs.Agree.{invoke-step}
 use Rattle.hook_machine.proofs.Ending.{invoke_some, deeper_within, deeper_beyond}
@@ -220,7 +220,7 @@ module _ (engine : Engine) where
   turn_by false w taken k call found n h t e = rw e (turn_other w taken k call h n t)
 
   pub turn_begun : (w taken : World) (k : ℕ) (call : Call) (found : World × Pending) → 0 < w.calls → taken ≡ record w { calls = w.calls - 1 }
-      → found ≡ begun engine taken k call → invoke engine w k call ≡ Turn found.0 (pending_left engine found.0 k call found.1)
+      → found ≡ after_call engine taken k call → invoke engine w k call ≡ Turn found.0 (pending_left engine found.0 k call found.1)
   turn_begun w taken k call found h t e = turn_by (k == 0) w taken k call found refl h t e
 
   -- a callback's answer is handed on

@@ -2,13 +2,13 @@
 use Rattle.std.specs.Prelude.{◌≡◌, ℕ, ℤ, ◌==◌, if◌then◌else◌, List, Option, None, Some, option_map, slice_get}
 use Rattle.hook_changes.specs.declared.reply.Call.{Call}
 use Rattle.hook_changes.specs.declared.reply.Reply.{Reply}
-use Rattle.hook_machine.specs.declared.frame.Pending.{Pending}
-use Rattle.hook_machine.specs.declared.frame.Invoked.{Invoked}
-use Rattle.hook_machine.specs.declared.frame.Frame.{Frame}
-use Rattle.hook_machine.specs.declared.frame.Frame.TheVariants.{Pass, Invocation, Shortcodes}
-use Rattle.hook_machine.specs.declared.invocation.Invocation as invocation
-use Rattle.hook_machine.specs.declared.paused.PausedRun.{PausedRun}
-use Rattle.hook_machine.specs.declared.resuming.Job.{Job}
+use Rattle.hook_machine.specs.declared.run.frames.Pending.{Pending}
+use Rattle.hook_machine.specs.declared.run.frames.Invoked.{Invoked}
+use Rattle.hook_machine.specs.declared.run.frames.Frame.{Frame}
+use Rattle.hook_machine.specs.declared.run.frames.Frame.TheVariants.{Pass, Invocation, Shortcodes}
+use Rattle.hook_machine.specs.declared.run.invocation.Invocation as invocation
+use Rattle.hook_machine.specs.declared.run.paused.PausedRun.{PausedRun}
+use Rattle.hook_machine.specs.declared.run.jobs.Job.{Job}
 use Rattle.hook_machine.specs.World.{World}
 use Rattle.hook_machine.specs.Meaning.{Engine, said}
 use Rattle.hook_machine.specs.Rest.{pending_left, then_rest}

@@ -2,17 +2,17 @@
 use Rattle.std.specs.Prelude.{◌≡◌, ℕ, zero, suc, ◌+◌, ◌≤◌, List, [], ◌∷◌, Option, None, Some, Result, Ok, Err, ⊤}
 use Rattle.hook_machine.specs.declared.fault.RunFault.{RunFault}
 use Rattle.hook_machine.specs.declared.fault.RunFault.TheVariants.{TooManyCalls, TooDeep, OutOfMemory}
-use Rattle.hook_machine.specs.declared.pieces.Matched.{Matched}
-use Rattle.hook_machine.specs.declared.frame.Frame.{Frame}
-use Rattle.hook_machine.specs.declared.frame.Frame.TheVariants.{Pass, Invocation, Shortcodes}
-use Rattle.hook_machine.specs.declared.frame.Pace.{Pace}
-use Rattle.hook_machine.specs.declared.frame.Pace.TheVariants.{ByTurns, Through}
-use Rattle.hook_machine.specs.declared.frame.Went.{Went}
-use Rattle.hook_machine.specs.declared.frame.Went.TheVariants.{Answered, Waits}
-use Rattle.hook_machine.specs.declared.frame.Move.{Move}
-use Rattle.hook_machine.specs.declared.frame.Move.TheVariants.{Turned, Handed}
-use Rattle.hook_machine.specs.declared.resuming.Turn.{Turn}
-use Rattle.hook_machine.specs.declared.resuming.Turn.TheVariants as turn
+use Rattle.hook_machine.specs.declared.run.pieces.Matched.{Matched}
+use Rattle.hook_machine.specs.declared.run.frames.Frame.{Frame}
+use Rattle.hook_machine.specs.declared.run.frames.Frame.TheVariants.{Pass, Invocation, Shortcodes}
+use Rattle.hook_machine.specs.declared.run.frames.Pace.{Pace}
+use Rattle.hook_machine.specs.declared.run.frames.Pace.TheVariants.{ByTurns, Through}
+use Rattle.hook_machine.specs.declared.run.frames.Went.{Went}
+use Rattle.hook_machine.specs.declared.run.frames.Went.TheVariants.{Answered, Waits}
+use Rattle.hook_machine.specs.declared.run.frames.Move.{Move}
+use Rattle.hook_machine.specs.declared.run.frames.Move.TheVariants.{Turned, Handed}
+use Rattle.hook_machine.specs.declared.run.jobs.Turn.{Turn}
+use Rattle.hook_machine.specs.declared.run.jobs.Turn.TheVariants as turn
 use Rattle.hook_machine.specs.World.{Text, World}
 use Rattle.hook_machine.specs.Trace.{Trace, Done, Refused, Turn as turned_to}
 use Rattle.hook_machine.specs.Meaning.{Engine}
@@ -88,10 +88,10 @@ weight_of [] = 0
 weight_of (f ∷ fs) = suc (room_of f) + weight_of fs
 
 -- if a result is handed on, the frames have no more weight than before, or at most that much more
-abbrev pub Shrinks : ℕ → Result Move RunFault → List Frame → List Frame → Type 0
-Shrinks more (Ok Turned) olds news = ⊤
-Shrinks more (Ok (Handed x)) olds news = weight_of news ≤ weight_of olds + more
-Shrinks more (Err fault) olds news = ⊤
+abbrev pub AddsWeight : ℕ → Result Move RunFault → List Frame → List Frame → Type 0
+AddsWeight more (Ok Turned) olds news = ⊤
+AddsWeight more (Ok (Handed x)) olds news = weight_of news ≤ weight_of olds + more
+AddsWeight more (Err fault) olds news = ⊤
 
 -- how many frames a result may still go through
 abbrev pub way_of : Move → List Frame → ℕ

@@ -1,16 +1,30 @@
-//! A request's run, as its page sees it.
+//! The run of a request's callbacks: the public face, and in `run/` its frames.
 ghost use Rattle.std.specs.Prelude.{◌≡◌, [], None, IfOk, OnOk};
 ghost use Rattle.hook_machine.specs.Meaning.{filtered, action_pass, replaced, invoke};
 ghost use Rattle.hook_machine.specs.Outcomes.{RunsAs, engine_over};
 ghost use Rattle.hook_machine.specs.Runs.{fault_in};
 
+pub(crate) mod asks;
+pub(crate) mod calls;
+pub(crate) mod cut;
+pub(crate) mod frames;
+pub(crate) mod invocation;
+pub(crate) mod jobs;
+pub(crate) mod left;
+pub(crate) mod passes;
+pub(crate) mod paused;
+pub(crate) mod pieces;
+pub(crate) mod texts;
+
 use crate::fault::RunFault;
-use crate::frame::{Pace, Stack};
-use crate::pass::copies;
-use crate::paused::PausedRun;
-use crate::resuming::{Job, Turn, next_turn, run_job};
+use crate::run::calls::copies;
+use crate::run::frames::{Pace, Stack};
+use crate::run::jobs::{Job, Turn, next_turn, run_job};
+use crate::run::passes::may_pass_over;
+use crate::run::paused::PausedRun;
 use crate::state::State;
-use crate::turning::may_pass_over;
+use crate::state::load_list::load_list;
+use crate::state::loaded::KeptLoad;
 use callback_store::{Plugins, Stated};
 use content_cache::PieceCache;
 use hook_changes::{Listed, Text};
@@ -162,7 +176,7 @@ impl<'a, S: Stated> Run<'a, S> {
     ghost use Rattle.hook_machine.specs.Moves.{Leads, Turns, TurnsBy};
     ghost use Rattle.hook_machine.specs.Jobs.{job_left};
     ghost use Rattle.hook_machine.specs.Runs.{world_of, fault_of, engine_of, left_of, left_in};
-    ghost use Rattle.hook_machine.specs.Runs.{CanBegin, IsIdle, IsIdleAtEnd};
+    ghost use Rattle.hook_machine.specs.Runs.{CanBegin, IsIdle, IsReady, IsIdleAtEnd};
     ghost use Rattle.hook_machine.specs.Runs.{Keeps, paused_world, paused_left, IsPausedIdle};
 
     /// Makes a run with nothing registered and nothing printed, of a site with these active plugins and options, that
@@ -190,6 +204,30 @@ impl<'a, S: Stated> Run<'a, S> {
             stack: Stack::none(alloc),
             fault: None,
         })
+    }
+
+    /// Makes a run as [`Run::new`] does, in which everything has loaded as by [`Run::load`]. What the load left is kept
+    /// for later runs: one with the same load lists shares it, and carries nothing out.
+    pub fn loaded(
+        alloc: Global,
+        plugins: &'a Plugins<S>,
+        active: &[Text],
+        options: &[(Text, Text)],
+        calls: u32,
+        kept: &mut KeptLoad,
+    ) -> Result<Self, RunFault>
+        ensures world { IfOk result (λ run. world_of run
+            ≡ loaded (shapes_of S.number plugins.entry.now) (fresh calls options.now active.now)) }
+        ensures ready { IfOk result (λ run. IsReady run) }
+        ensures engine { IfOk result (λ run. engine_of S.says S.number run ≡ engine_with S.says
+            (shapes_of S.number plugins.entry.now)) }
+        ensures err { IfErr result (λ fault. fault ≡ RunFault.OutOfMemory) }
+    {
+        let load = load_list(alloc, plugins, active)?;
+        let loaded = kept.loaded(alloc, &load)?;
+        let mut run = Run::new(alloc, plugins, active, options, calls)?;
+        run.state.share(loaded);
+        Ok(run)
     }
 
     /// Carries out core's own registration, and then the load lists of the active plugins in the order of their names.

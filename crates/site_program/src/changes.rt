@@ -120,6 +120,7 @@ impl Stored {
             templates,
             active,
             found,
+            load: _,
         } = self;
         *options = None;
         *templates = None;

@@ -18,7 +18,7 @@ use crate::templates::Templates;
 use callback_store::{Plugins, Stated};
 use content_cache::PieceCache;
 use hook_changes::Text;
-use hook_machine::{Run, RunFault};
+use hook_machine::{KeptLoad, Run, RunFault};
 use page_log::{PageName, Watch};
 use site_edits::StoreFault;
 use site_replies::{Refusal, SiteReply};
@@ -122,7 +122,13 @@ impl<'p, S: Stated> Setup<'p, S> {
         let found = stored.found(self.alloc, path, options.as_slice())?;
         let active = stored.active()?;
         let mut templates = stored.take_templates(self.alloc)?;
-        let page = self.page(found, options.as_slice(), &mut templates, active.as_slice());
+        let page = self.page(
+            found,
+            options.as_slice(),
+            &mut templates,
+            active.as_slice(),
+            &mut stored.load,
+        );
         stored.keep_templates(templates);
         Ok(page?)
     }
@@ -134,13 +140,14 @@ impl<'p, S: Stated> Setup<'p, S> {
         options: &[(Text, Text)],
         templates: &mut Templates,
         active: &[Text],
+        kept: &mut KeptLoad,
     ) -> Result<OpenPage, AllocError>
         ensures ok { IfOk result (λ page. opened_as (engine_of S.says S.number self.now) page ≡ page_of
             (engine_of S.says S.number self.now) (calls_of self.now) found options.now templates.old active.now) }
         ensures same { templates.new ≡ templates.old }
     {
         let settings = settings_for(self.alloc, found.kind(), options, templates)?;
-        let run = loaded_run(self.alloc, self.plugins, active, options, self.calls)?;
+        let run = loaded_run(self.alloc, self.plugins, active, options, self.calls, kept)?;
         Ok(OpenPage::begin(self.alloc, found, settings, run))
     }
 
@@ -218,6 +225,7 @@ fn loaded_run<'p, S: Stated>(
     active: &[Text],
     options: &[(Text, Text)],
     calls: u32,
+    kept: &mut KeptLoad,
 ) -> Result<Run<'p, S>, AllocError>
     ensures loaded { IfOk result (λ run. world_of run ≡ loaded (shapes_of S.number plugins.entry.now)
         (fresh calls options.now active.now)) }
@@ -225,14 +233,8 @@ fn loaded_run<'p, S: Stated>(
     ensures engine { IfOk result (λ run. runs.engine_of S.says S.number run
         ≡ engine_with S.says (shapes_of S.number plugins.entry.now)) }
 {
-    let Ok(mut run) = Run::new(alloc, plugins, active, options, calls) else {
-        return Err(AllocError);
-    };
-    match run.load() {
-        Ok(()) => Ok(run),
-        Err(_) => {
-            run.end();
-            Err(AllocError)
-        }
+    match Run::loaded(alloc, plugins, active, options, calls, kept) {
+        Ok(run) => Ok(run),
+        Err(_) => Err(AllocError),
     }
 }

@@ -10,6 +10,7 @@ use crate::kept_finds::KeptFinds;
 use crate::shared::SharedList;
 use crate::templates::Templates;
 use hook_changes::Text;
+use hook_machine::KeptLoad;
 use permalink_query::{FindFault, Found, find, read};
 use post_tables::Tables;
 use site_edits::StoreFault;
@@ -29,6 +30,8 @@ pub struct Stored {
     pub(crate) templates: Option<Templates>,
     pub(crate) active: Option<SharedList<Text>>,
     pub(crate) found: KeptFinds,
+    /// What the load of the last page left. No contract sees it.
+    pub(crate) load: KeptLoad,
 }
 
 impl Model for Stored {
@@ -55,6 +58,7 @@ impl Stored {
             templates: None,
             active: None,
             found: KeptFinds::none(alloc),
+            load: KeptLoad::none(),
         }
     }
 

@@ -8,9 +8,9 @@ use Rattle.template_trees.specs.declared.tree.Item.{Item}
 use Rattle.hook_machine.specs.World.{Text, World}
 use Rattle.hook_machine.specs.declared.fault.RunFault.{RunFault}
 use Rattle.hook_machine.specs.declared.fault.RunFault.TheVariants.{TooManyCalls, TooDeep, OutOfMemory}
-use Rattle.hook_machine.specs.declared.resuming.Turn as result
-use Rattle.hook_machine.specs.declared.resuming.Turn.TheVariants as turn
-use Rattle.hook_machine.specs.declared.resuming.Job.TheVariants.{Filters, Action}
+use Rattle.hook_machine.specs.declared.run.jobs.Turn as result
+use Rattle.hook_machine.specs.declared.run.jobs.Turn.TheVariants as turn
+use Rattle.hook_machine.specs.declared.run.jobs.Job.TheVariants.{Filters, Action}
 use Rattle.hook_machine.specs.Trace.{Trace, Done, Turn, outcome_of, and_then}
 use Rattle.hook_machine.specs.Meaning.{Engine, filtered, acted, invoke}
 use Rattle.hook_machine.proofs.Ending.{filter_unhooked}
@@ -18,8 +18,8 @@ use Rattle.hook_registry.specs.Table.{has}
 use Rattle.hook_machine.specs.Jobs.{job_left}
 use Rattle.hook_machine.specs.declared.run.Run.{Run}
 use Rattle.hook_machine.specs.Runs.{world_of, engine_of, left_of}
-use Rattle.hook_machine.specs.declared.frame.Pace.{Pace}
-use Rattle.hook_machine.specs.declared.frame.Pace.TheVariants.{ByTurns}
+use Rattle.hook_machine.specs.declared.run.frames.Pace.{Pace}
+use Rattle.hook_machine.specs.declared.run.frames.Pace.TheVariants.{ByTurns}
 use Rattle.hook_machine.specs.Moves as run
 use Rattle.hook_machine.specs.Moves.{Leads}
 use Rattle.hook_machine.proofs.Going.{leads_here, leads_then, leads_under, leads_next, same_end}

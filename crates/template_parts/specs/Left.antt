@@ -7,7 +7,7 @@ use Rattle.template_trees.specs.declared.tree.Item.{Item}
 use Rattle.hook_machine.specs.World.{Text, World}
 use Rattle.hook_machine.specs.declared.fault.RunFault.{RunFault}
 use Rattle.hook_machine.specs.declared.fault.RunFault.TheVariants.{OutOfMemory}
-use Rattle.hook_machine.specs.declared.frame.Pace.{Pace}
+use Rattle.hook_machine.specs.declared.run.frames.Pace.{Pace}
 use Rattle.hook_machine.specs.declared.run.Run.{Run}
 use Rattle.hook_machine.specs.Trace.{Trace, Done, Turn, and_then}
 use Rattle.hook_machine.specs.Meaning.{Engine}

@@ -6,7 +6,7 @@ use Rattle.hook_machine.specs.declared.fault.RunFault.{RunFault}
 use Rattle.hook_machine.specs.declared.fault.RunFault.TheVariants.{TooManyCalls, TooDeep, OutOfMemory}
 use Rattle.hook_machine.specs.Trace.{Done, Refused, Turn, Fault, outcome_of, turns_of}
 use Rattle.hook_machine.specs.Meaning.{Engine}
-use Rattle.hook_machine.specs.declared.frame.Pace.{Pace}
+use Rattle.hook_machine.specs.declared.run.frames.Pace.{Pace}
 use Rattle.hook_machine.specs.Moves.{Leads}
 use Rattle.hook_machine.specs.Runs.{world_of, fault_of, left_of, IsIdle}
 use Rattle.site_records.specs.declared.found.Found.{Found}

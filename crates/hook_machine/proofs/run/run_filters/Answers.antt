@@ -1,6 +1,6 @@
 use Rattle.std.proofs.Common.{subst}
 use Rattle.hook_machine.specs.Outcomes.{engine_over}
-use Rattle.hook_machine.specs.declared.resuming.Job.{Job}
+use Rattle.hook_machine.specs.declared.run.jobs.Job.{Job}
 use Rattle.hook_machine.specs.Outcomes.{RunsAs}
 use Rattle.hook_machine.specs.Jobs.{job_left}
 use Rattle.hook_machine.specs.Meaning.{filtered}

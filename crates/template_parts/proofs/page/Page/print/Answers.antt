@@ -1,7 +1,7 @@
 use Rattle.std.proofs.Common.{◌∙◌, Err, sym, subst}
 use Rattle.hook_machine.specs.Meaning.{Engine}
 use Rattle.std.proofs.lemmas.Result.{err_from_is_err_and}
-use Rattle.hook_machine.specs.declared.frame.Pace.TheVariants.{Through}
+use Rattle.hook_machine.specs.declared.run.frames.Pace.TheVariants.{Through}
 use Rattle.hook_machine.specs.Runs.{engine_of, world_of}
 use Rattle.hook_machine.proofs.Going.{same_end, fewer_turns}
 use Rattle.template_parts.specs.Page.{page_left, run_in, Goes}

@@ -1,0 +1,15 @@
+use Rattle.std.proofs.Common.{◌∙◌, ap, map, sym}
+use Rattle.callback_store.specs.Shape.{shapes_of}
+use Rattle.hook_machine.specs.World.{fresh}
+use Rattle.hook_machine.specs.Loads.{load_change, load_left, with_tables}
+use Rattle.hook_machine.proofs.Loading.{loaded_carries}
+use Rattle.hook_machine.proofs.run.Run.loaded.Goals as goal
+
+-- the tables of this very load are shared
+pub returns-clause-world : goal.returns-clause-world
+returns-clause-world g c =
+    let plugins = shapes_of g.S.Stated.number c.args.plugins.now in
+    let active = c.args.active.now in
+    let load = c.in_ok-loaded.ensures ∙ ap (map load_change) c.deref.ensures.value ∙ c.in_ok-load.ensures in
+    c.share.ensures ∙ (λ i. with_tables (c.in_ok-run.ensures.world i) (load_left (load i)))
+    ∙ sym (loaded_carries plugins (fresh c.args.calls c.args.options.now active))
