@@ -7,7 +7,7 @@ use Rattle.hook_changes.specs.declared.reply.Call.{Call}
 use Rattle.hook_changes.specs.declared.reply.Reply.{Reply}
 use Rattle.bundled_plugins.specs.declared.rows.ReplyRow.{ReplyRow}
 use Rattle.hook_changes.specs.Replies.{answers_text}
-use Rattle.bundled_plugins.specs.Replies.{reply_in, stated}
+use Rattle.bundled_plugins.specs.Replies.{reply_in, stated_functions}
 use Rattle.bundled_plugins.specs.Rows.{replies_of, has, is_no_row, AreStated}
 
 abbrev Numbered : Type 0
@@ -32,18 +32,19 @@ missed (f ∷ fs) n call e =
     ] e
 
 module _ (rows : List ReplyRow) (are : AreStated rows) (n : ℕ) where
-  no_more : has stated n ≡ false → has (replies_of rows) n ≡ false
+  no_more : has stated_functions n ≡ false → has (replies_of rows) n ≡ false
   no_more e =
       elim (has (replies_of rows) n) as (λ b. has (replies_of rows) n ≡ b → b ≡ false) [
-        | true ↦ λ t. sym (holds (λ m. has stated m ≡ true) (replies_of rows) n are.numbers t) ∙ e
+        | true ↦ λ t. sym (holds (λ m. has stated_functions m ≡ true) (replies_of rows) n are.numbers t) ∙ e
         | false ↦ λ t. refl
       ] refl
 
-  pub rows_say : (call : Call) → is_no_row n ≡ false → reply_in (replies_of rows) n call ≡ reply_in stated n call
+  pub rows_say : (call : Call) → is_no_row n ≡ false → reply_in (replies_of rows) n call ≡ reply_in stated_functions n call
   rows_say call other =
-      elim (has stated n) as (λ b. has stated n ≡ b → reply_in (replies_of rows) n call ≡ reply_in stated n call) [
-        | true ↦ λ t. holds (λ m. is_no_row m ≡ false → reply_in (replies_of rows) m call ≡ reply_in stated m call) stated n (are.replies call) t other
-        | false ↦ λ t. missed (replies_of rows) n call (no_more t) ∙ sym (missed stated n call t)
+      elim (has stated_functions n) as (λ b. has stated_functions n ≡ b → reply_in (replies_of rows) n call ≡ reply_in stated_functions n call) [
+        | true ↦ λ t. holds (λ m. is_no_row m ≡ false → reply_in (replies_of rows) m call ≡ reply_in stated_functions m call) stated_functions n
+            (are.replies call) t other
+        | false ↦ λ t. missed (replies_of rows) n call (no_more t) ∙ sym (missed stated_functions n call t)
       ] refl
 
 differs : (k n : ℕ) → k ≢ n → (k == n) ≡ false

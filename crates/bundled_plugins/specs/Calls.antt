@@ -26,14 +26,14 @@ text_in (answer.Flag flag) = []
 text_in answer.Nothing = []
 
 -- an answer as it is shown
-abbrev pub shown : Answer → Text
-shown (answer.Text text) = text
-shown (answer.Number number) = signed_decimal number
-shown (answer.Flag true) = codes "1"
-shown (answer.Flag false) = codes "0"
-shown answer.Nothing = codes "-"
+abbrev pub text_of_answer : Answer → Text
+text_of_answer (answer.Text text) = text
+text_of_answer (answer.Number number) = signed_decimal number
+text_of_answer (answer.Flag true) = codes "1"
+text_of_answer (answer.Flag false) = codes "0"
+text_of_answer answer.Nothing = codes "-"
 
 -- answers as they are shown, with commas between them
-abbrev pub listed : List Answer → Text
-listed [] = []
-listed (first ∷ more) = shown first ++ flat_map (λ next. codes "," ++ shown next) more
+abbrev pub text_of_answers : List Answer → Text
+text_of_answers [] = []
+text_of_answers (first ∷ more) = text_of_answer first ++ flat_map (λ next. codes "," ++ text_of_answer next) more

@@ -10,7 +10,7 @@ use Rattle.hook_changes.specs.declared.reply.Ask.{Ask}
 use Rattle.hook_changes.specs.declared.reply.Ask.TheVariants.{Apply, Act, Shortcodes, Did, Current, Doing, Has, TagExists, GetOption}
 use Rattle.hook_changes.specs.declared.reply.Change.TheVariants.{Add, Remove, RemoveAll, RemoveTag, RemoveAllTags}
 use Rattle.hook_changes.specs.Replies.{answers_text, changes_and_answers, prints_and_answers, changes_and_asks, asks}
-use Rattle.bundled_plugins.specs.Calls.{Text, first_argument, second_argument, text_in, shown, listed}
+use Rattle.bundled_plugins.specs.Calls.{Text, first_argument, second_argument, text_in, text_of_answer, text_of_answers}
 
 abbrev pub the_title : Text
 the_title = codes "the_title"
@@ -59,7 +59,7 @@ questions =
 -- the next question if there is one, and then the answers
 abbrev pub asks_or_lists : Option Ask → List Answer → Reply
 asks_or_lists (Some ask) answers = asks ask
-asks_or_lists None answers = answers_text (listed (take 6 answers))
+asks_or_lists None answers = answers_text (text_of_answers (take 6 answers))
 
 abbrev pub asks_in_turn : List Answer → Reply
 asks_in_turn answers = asks_or_lists (slice_get questions (length answers)) answers
@@ -83,11 +83,11 @@ goes_deeper value answers =
 abbrev pub counts_pings : List Answer → Reply
 counts_pings [] = asks (Act (codes "ping") [])
 counts_pings (first ∷ []) = asks (Did (codes "ping"))
-counts_pings (first ∷ second ∷ more) = answers_text (shown second)
+counts_pings (first ∷ second ∷ more) = answers_text (text_of_answer second)
 
 -- the stated functions
-abbrev pub stated : List (ℕ × (Call → Reply))
-stated =
+abbrev pub stated_functions : List (ℕ × (Call → Reply))
+stated_functions =
     -- marks
     (1, λ call. answers_text (first_argument call.args ++ codes "Y"))
     ∷ (2, λ call. answers_text (first_argument call.args ++ codes "X" ++ second_argument call.args))
@@ -142,4 +142,4 @@ reply_in (f ∷ fs) number call = if f.0 == number then f.1 call else reply_in f
 
 -- what the callback with that number replies
 unfoldable pub says : ℕ → Call → Reply
-says number call = reply_in stated number call
+says number call = reply_in stated_functions number call

@@ -9,12 +9,12 @@ use Rattle.hook_changes.specs.declared.reply.Reply.{Reply}
 use Rattle.hook_changes.specs.declared.reply.Then.TheVariants as next
 use Rattle.bundled_plugins.specs.declared.rows.ChangeRow.{ChangeRow}
 use Rattle.bundled_plugins.specs.declared.rows.ChangeRow.TheVariants.{Add, Remove, RemoveAll, AddTag, RemoveTag, RemoveAllTags}
-use Rattle.bundled_plugins.specs.declared.rows.Part.{Part}
-use Rattle.bundled_plugins.specs.declared.rows.Part.TheVariants.{Fixed, First, Second, Count, Content}
+use Rattle.bundled_plugins.specs.declared.rows.TextPart.{TextPart}
+use Rattle.bundled_plugins.specs.declared.rows.TextPart.TheVariants.{Fixed, First, Second, Count, Content}
 use Rattle.bundled_plugins.specs.declared.rows.ReplyRow.{ReplyRow}
 use Rattle.bundled_plugins.specs.declared.shipped.Shipped.{Shipped}
 use Rattle.bundled_plugins.specs.Calls.{Text, first_argument, second_argument}
-use Rattle.bundled_plugins.specs.Replies.{reply_in, stated}
+use Rattle.bundled_plugins.specs.Replies.{reply_in, stated_functions}
 use Rattle.bundled_plugins.specs.Bundle.{plugin}
 use Rattle.callback_store.specs.Shape.{Shape}
 
@@ -28,7 +28,7 @@ change_of (RemoveTag tag) = change.RemoveTag tag.now
 change_of RemoveAllTags = change.RemoveAllTags
 
 -- a part of a text, for a call
-abbrev pub part_of : Call → Part → Text
+abbrev pub part_of : Call → TextPart → Text
 part_of call (Fixed text) = text.now
 part_of call First = first_argument call.args
 part_of call Second = second_argument call.args
@@ -36,7 +36,7 @@ part_of call Count = decimal (length call.args)
 part_of call Content = call.content
 
 -- parts, joined
-abbrev pub text_of : Call → List Part → Text
+abbrev pub text_of : Call → List TextPart → Text
 text_of call parts = flat_map (part_of call) parts
 
 -- the reply of a row
@@ -61,8 +61,9 @@ has replies number = list_any (λ f. f.0 == number) replies
 
 -- the rows reply what is stated of every other number, and have no number of which nothing is stated
 pub record AreStated (rows : List ReplyRow) : Type 0 where
-  pub replies : (call : Call) → AllByRecursion (λ f. is_no_row f.0 ≡ false → reply_in (replies_of rows) f.0 call ≡ reply_in stated f.0 call) stated
-  pub numbers : AllByRecursion (λ f. has stated f.0 ≡ true) (replies_of rows)
+  pub replies : (call : Call) → AllByRecursion (λ f. is_no_row f.0 ≡ false → reply_in (replies_of rows) f.0 call ≡ reply_in stated_functions f.0 call)
+      stated_functions
+  pub numbers : AllByRecursion (λ f. has stated_functions f.0 ≡ true) (replies_of rows)
 
 -- the plugin of a row
 abbrev pub plugin_of : Shipped → Shape

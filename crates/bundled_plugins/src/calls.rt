@@ -1,6 +1,8 @@
 //! What a bundled callback reads of its call, and how it makes texts and replies.
 ghost use Rattle.std.specs.Prelude.{◌≡◌, ◌++◌, IfOk, OnOk, codes, flat_map};
-ghost use Rattle.bundled_plugins.specs.Calls.{first_argument, second_argument, text_in, shown, listed};
+ghost use Rattle.bundled_plugins.specs.Calls.{first_argument, second_argument, text_in};
+ghost use Rattle.bundled_plugins.specs.Calls.{text_of_answer};
+ghost use Rattle.bundled_plugins.specs.Calls.{text_of_answers};
 ghost use Rattle.hook_changes.specs.Replies.{answers_text};
 
 use hook_changes::{Answer, Call, Reply, Text};
@@ -56,10 +58,10 @@ pub fn joined(alloc: Global, parts: &[&str]) -> Result<Text, AllocError>
     Ok(text)
 }
 
-/// Appends an answer to a text, as it is shown: a text as it is, a number in decimal, a flag as `1` or `0`, and the
-/// answer to an action as `-`.
+/// Appends an answer to a text, as it is shown: a text as it is, a number in decimal, a flag as `1`
+/// or `0`, and the answer to an action as `-`.
 pub fn show(text: &mut Text, answer: &Answer) -> Result<(), AllocError>
-    ensures { OnOk result (text.new ≡ text.old ++ shown answer.now) }
+    ensures { OnOk result (text.new ≡ text.old ++ text_of_answer answer.now) }
 {
     match answer {
         Answer::Text(shown) => text.push_str(shown.as_str()),
@@ -71,7 +73,7 @@ pub fn show(text: &mut Text, answer: &Answer) -> Result<(), AllocError>
 
 /// Joins answers, each as [`show`] writes it, with commas between them.
 pub fn listed(alloc: Global, answers: &[Answer]) -> Result<Text, AllocError>
-    ensures { IfOk result (λ text. text ≡ listed answers.now) }
+    ensures { IfOk result (λ text. text ≡ text_of_answers answers.now) }
 {
     let mut text = Text::empty(alloc);
     if let Some((first, more)) = answers.split_first() {
@@ -83,7 +85,8 @@ pub fn listed(alloc: Global, answers: &[Answer]) -> Result<Text, AllocError>
 
 /// Appends further answers to a text, each with a comma before it.
 fn show_more(text: &mut Text, answers: &[Answer]) -> Result<(), AllocError>
-    ensures { OnOk result (text.new ≡ text.old ++ flat_map (λ next. codes "," ++ shown next) answers.now) }
+    ensures { OnOk result (text.new ≡ text.old
+        ++ flat_map (λ next. codes "," ++ text_of_answer next) answers.now) }
 {
     for answer in answers {
         text.push_str(",")?;

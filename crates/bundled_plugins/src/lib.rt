@@ -1,7 +1,7 @@
 //! The ten plugins that come with the engine: their load lists, and what their callbacks reply.
 //!
-//! A plugin's closures are made where the program starts; each passes its call on to [`bundled_reply`], whose reply is
-//! the one that is stated for its number.
+//! A plugin's closures are made where the program starts; each passes its call on to
+//! [`bundled_reply`], whose reply is the one that is stated for its number.
 #![tactic(auto)]
 
 mod calls;

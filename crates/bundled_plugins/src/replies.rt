@@ -1,18 +1,21 @@
 //! What the bundled callbacks reply.
-ghost use Rattle.std.specs.Prelude.{◌≡◌, ◌++◌, ◌∷◌, [], IfOk, OnOk, codes, length, map, string_bytes, pos, ◌==◌};
+ghost use Rattle.std.specs.Prelude.{◌≡◌, ◌++◌, ◌∷◌, [], IfOk, OnOk, codes, length, map};
+ghost use Rattle.std.specs.Prelude.{string_bytes, pos, ◌==◌};
 ghost use Rattle.std.specs.List.{list_all};
 ghost use Rattle.hook_changes.specs.declared.reply.Change.{Change};
 ghost use Rattle.hook_changes.specs.declared.reply.Ask.{Ask};
 ghost use Rattle.hook_changes.specs.Replies.{answers_text, changes_and_asks};
-ghost use Rattle.bundled_plugins.specs.Calls.{shown};
-ghost use Rattle.bundled_plugins.specs.Replies.{says, reply_in, the_title, asks_its_own_hook, replaces_content};
+ghost use Rattle.bundled_plugins.specs.Calls.{text_of_answer};
+ghost use Rattle.bundled_plugins.specs.Replies.{says, reply_in, the_title, asks_its_own_hook};
+ghost use Rattle.bundled_plugins.specs.Replies.{replaces_content};
 ghost use Rattle.bundled_plugins.specs.Replies.{attributes_listed, named_listed};
-ghost use Rattle.bundled_plugins.specs.Replies.{positional_listed, link, asks_in_turn, is_run_of_d, in_parentheses};
+ghost use Rattle.bundled_plugins.specs.Replies.{positional_listed, link, asks_in_turn, is_run_of_d};
+ghost use Rattle.bundled_plugins.specs.Replies.{in_parentheses};
 ghost use Rattle.bundled_plugins.specs.Replies.{goes_deeper, counts_pings};
 ghost use Rattle.bundled_plugins.specs.Rows.{replies_of, AreStated};
 
 use crate::calls::{answer, first_argument, joined, listed, push_all, show, text_in};
-use crate::rows::{ChangeRow, Part, ReplyRow, changes_of, reply_of};
+use crate::rows::{ChangeRow, ReplyRow, TextPart, changes_of, reply_of};
 use hook_changes::{Answer, Ask, Atts, Call, CallbackId, CoreHook, Listed, Reply, Text};
 use std::alloc::{AllocError, Global};
 
@@ -23,20 +26,20 @@ const PLAIN: [ReplyRow; 24] = [
         number: 1,
         changes: &[],
         prints: &[],
-        answers: &[Part::First, Part::Fixed("Y")],
+        answers: &[TextPart::First, TextPart::Fixed("Y")],
     },
     ReplyRow {
         number: 2,
         changes: &[],
         prints: &[],
-        answers: &[Part::First, Part::Fixed("X"), Part::Second],
+        answers: &[TextPart::First, TextPart::Fixed("X"), TextPart::Second],
     },
     // once
     ReplyRow {
         number: 3,
         changes: &[],
         prints: &[],
-        answers: &[Part::First, Part::Fixed("1")],
+        answers: &[TextPart::First, TextPart::Fixed("1")],
     },
     ReplyRow {
         number: 4,
@@ -45,32 +48,32 @@ const PLAIN: [ReplyRow; 24] = [
             ChangeRow::Add(CoreHook::TheTitle, 11, 4, 1),
         ],
         prints: &[],
-        answers: &[Part::First, Part::Fixed("2")],
+        answers: &[TextPart::First, TextPart::Fixed("2")],
     },
     ReplyRow {
         number: 5,
         changes: &[],
         prints: &[],
-        answers: &[Part::First, Part::Fixed("4")],
+        answers: &[TextPart::First, TextPart::Fixed("4")],
     },
     // nest
     ReplyRow {
         number: 6,
         changes: &[],
         prints: &[],
-        answers: &[Part::First, Part::Fixed("1")],
+        answers: &[TextPart::First, TextPart::Fixed("1")],
     },
     ReplyRow {
         number: 8,
         changes: &[],
         prints: &[],
-        answers: &[Part::First, Part::Fixed("3")],
+        answers: &[TextPart::First, TextPart::Fixed("3")],
     },
     ReplyRow {
         number: 9,
         changes: &[],
         prints: &[],
-        answers: &[Part::First, Part::Fixed("4")],
+        answers: &[TextPart::First, TextPart::Fixed("4")],
     },
     // grow
     ReplyRow {
@@ -81,55 +84,55 @@ const PLAIN: [ReplyRow; 24] = [
             ChangeRow::Add(CoreHook::TheTitle, 20, 13, 1),
         ],
         prints: &[],
-        answers: &[Part::First, Part::Fixed("a")],
+        answers: &[TextPart::First, TextPart::Fixed("a")],
     },
     ReplyRow {
         number: 11,
         changes: &[],
         prints: &[],
-        answers: &[Part::First, Part::Fixed("5")],
+        answers: &[TextPart::First, TextPart::Fixed("5")],
     },
     ReplyRow {
         number: 12,
         changes: &[],
         prints: &[],
-        answers: &[Part::First, Part::Fixed("9")],
+        answers: &[TextPart::First, TextPart::Fixed("9")],
     },
     ReplyRow {
         number: 13,
         changes: &[],
         prints: &[],
-        answers: &[Part::First, Part::Fixed("7")],
+        answers: &[TextPart::First, TextPart::Fixed("7")],
     },
     // args
     ReplyRow {
         number: 14,
         changes: &[],
         prints: &[],
-        answers: &[Part::Fixed("n"), Part::Count],
+        answers: &[TextPart::Fixed("n"), TextPart::Count],
     },
     ReplyRow {
         number: 15,
         changes: &[],
         prints: &[],
         answers: &[
-            Part::First,
-            Part::Fixed("("),
-            Part::Count,
-            Part::Fixed(" "),
-            Part::Second,
-            Part::Fixed(")"),
+            TextPart::First,
+            TextPart::Fixed("("),
+            TextPart::Count,
+            TextPart::Fixed(" "),
+            TextPart::Second,
+            TextPart::Fixed(")"),
         ],
     },
     ReplyRow {
         number: 16,
         changes: &[],
         prints: &[
-            Part::Fixed("["),
-            Part::Count,
-            Part::Fixed(":"),
-            Part::First,
-            Part::Fixed("]"),
+            TextPart::Fixed("["),
+            TextPart::Count,
+            TextPart::Fixed(":"),
+            TextPart::First,
+            TextPart::Fixed("]"),
         ],
         answers: &[],
     },
@@ -138,13 +141,17 @@ const PLAIN: [ReplyRow; 24] = [
         number: 17,
         changes: &[],
         prints: &[],
-        answers: &[Part::Fixed("<b>"), Part::Content, Part::Fixed("</b>")],
+        answers: &[
+            TextPart::Fixed("<b>"),
+            TextPart::Content,
+            TextPart::Fixed("</b>"),
+        ],
     },
     ReplyRow {
         number: 19,
         changes: &[],
         prints: &[],
-        answers: &[Part::Fixed("[b]y[/b]")],
+        answers: &[TextPart::Fixed("[b]y[/b]")],
     },
     ReplyRow {
         number: 20,
@@ -169,19 +176,19 @@ const PLAIN: [ReplyRow; 24] = [
         number: 27,
         changes: &[ChangeRow::Add(CoreHook::WpFooter, 10, 28, 1)],
         prints: &[],
-        answers: &[Part::Fixed("<sup>*</sup>")],
+        answers: &[TextPart::Fixed("<sup>*</sup>")],
     },
     ReplyRow {
         number: 28,
         changes: &[],
-        prints: &[Part::Fixed("<p>note</p>")],
+        prints: &[TextPart::Fixed("<p>note</p>")],
         answers: &[],
     },
     ReplyRow {
         number: 30,
         changes: &[],
-        prints: &[Part::Fixed("E")],
-        answers: &[Part::Fixed("A")],
+        prints: &[TextPart::Fixed("E")],
+        answers: &[TextPart::Fixed("A")],
     },
     // tagmark
     ReplyRow {
@@ -189,16 +196,16 @@ const PLAIN: [ReplyRow; 24] = [
         changes: &[],
         prints: &[],
         answers: &[
-            Part::First,
-            Part::Fixed("{"),
-            Part::Second,
-            Part::Fixed("}"),
+            TextPart::First,
+            TextPart::Fixed("{"),
+            TextPart::Second,
+            TextPart::Fixed("}"),
         ],
     },
 ];
 
-// A reply that takes more than a look at the number is made apart from this function (never inline), so that it saves
-// no registers for the others.
+// A reply that takes more than a look at the number is made apart from this function (never
+// inline), so that it saves no registers for the others.
 
 /// Returns the reply of the bundled callback with that number. Any other number answers empty text.
 #[tactic(auto, unfolding(crate::specs::Replies::says))]
@@ -219,7 +226,8 @@ pub fn bundled_reply(alloc: Global, id: CallbackId, call: &Call) -> Result<Reply
     }
 }
 
-/// Returns the replies that need no more than a row. Its contract is the proof that they are what is stated.
+/// Returns the replies that need no more than a row. Its contract is the proof that they are what
+/// is stated.
 fn plain_rows() -> &'static [ReplyRow]
     ensures { AreStated result.now }
 {
@@ -244,7 +252,8 @@ fn row_reply(
     answer(alloc, &[])
 }
 
-/// Number 7 takes itself out and asks what the others make of an empty title, and then adds itself again.
+/// Number 7 takes itself out and asks what the others make of an empty title, and then adds itself
+/// again.
 #[inline(never)]
 fn ask_its_own_hook(alloc: Global, value: &str, answers: &[Answer]) -> Result<Reply, AllocError>
     ensures { IfOk result (λ reply. reply ≡ asks_its_own_hook value.now answers.now) }
@@ -432,7 +441,7 @@ fn ping(alloc: Global) -> Result<Ask, AllocError>
 
 /// Makes the reply that answers one of the engine's answers, as [`show`] writes it.
 fn answer_shown(alloc: Global, found: &Answer) -> Result<Reply, AllocError>
-    ensures { IfOk result (λ reply. reply ≡ answers_text (shown found.now)) }
+    ensures { IfOk result (λ reply. reply ≡ answers_text (text_of_answer found.now)) }
 {
     let mut text = Text::empty(alloc);
     show(&mut text, found)?;

@@ -9,7 +9,8 @@ use std::alloc::{AllocError, Global};
 
 /// A change of the registrations or of the shortcodes.
 pub enum ChangeRow {
-    /// `add_filter`: the hook, the priority, the callback's number, and how many arguments it accepts.
+    /// `add_filter`: the hook, the priority, the callback's number, and how many arguments it
+    /// accepts.
     Add(CoreHook, i32, u32, u8),
     /// `remove_filter`: the hook, the priority and the callback's number.
     Remove(CoreHook, i32, u32),
@@ -24,7 +25,7 @@ pub enum ChangeRow {
 }
 
 /// A part of a text that a callback prints or answers.
-pub enum Part {
+pub enum TextPart {
     /// The same text for every call.
     Fixed(&'static str),
     /// The first argument, or empty text if the call has no such argument.
@@ -37,16 +38,18 @@ pub enum Part {
     Content,
 }
 
-/// A reply that asks nothing: changes, a text to print and a text to answer, of the same parts for every call.
+/// A reply that asks nothing: changes, a text to print and a text to answer, of the same parts for
+/// every call.
 pub struct ReplyRow {
     /// The callback's number.
     pub number: u32,
     pub changes: &'static [ChangeRow],
-    pub prints: &'static [Part],
-    pub answers: &'static [Part],
+    pub prints: &'static [TextPart],
+    pub answers: &'static [TextPart],
 }
 
-/// Copies a text, whose copies then share its memory: a load list is carried out anew for each request.
+/// Copies a text, whose copies then share its memory: a load list is carried out anew for each
+/// request.
 fn shared(alloc: Global, text: &str) -> Result<Text, AllocError>
     ensures { IfOk result (λ shared. shared ≡ text.now) }
 {
@@ -98,35 +101,36 @@ pub fn changes_of(alloc: Global, rows: &[ChangeRow]) -> Result<Listed<Change>, A
 }
 
 /// Appends a part to a text.
-fn push_part(text: &mut String, part: &Part, call: &Call) -> Result<(), AllocError>
-    ensures { OnOk result (string_bytes text.new ≡ string_bytes text.old ++ part_of call.now part.now) }
+fn push_part(text: &mut String, part: &TextPart, call: &Call) -> Result<(), AllocError>
+    ensures { OnOk result (string_bytes text.new ≡ string_bytes text.old
+        ++ part_of call.now part.now) }
 {
     match part {
-        Part::Fixed(fixed) => text.push_str(fixed),
-        Part::First => text.push_str(first_argument(call)),
-        Part::Second => text.push_str(second_argument(call)),
-        Part::Count => text.push_str(Buffer::new().format(call.args.as_slice().len())),
-        Part::Content => text.push_str(call.content.as_str()),
+        TextPart::Fixed(fixed) => text.push_str(fixed),
+        TextPart::First => text.push_str(first_argument(call)),
+        TextPart::Second => text.push_str(second_argument(call)),
+        TextPart::Count => text.push_str(Buffer::new().format(call.args.as_slice().len())),
+        TextPart::Content => text.push_str(call.content.as_str()),
     }
 }
 
 /// Returns about how many bytes parts take together.
-fn room_for(parts: &[Part], call: &Call) -> usize {
+fn room_for(parts: &[TextPart], call: &Call) -> usize {
     let mut room = 0usize;
     for part in parts {
         room = room.saturating_add(match part {
-            Part::Fixed(fixed) => fixed.len(),
-            Part::First => first_argument(call).len(),
-            Part::Second => second_argument(call).len(),
-            Part::Count => 2,
-            Part::Content => call.content.as_str().len(),
+            TextPart::Fixed(fixed) => fixed.len(),
+            TextPart::First => first_argument(call).len(),
+            TextPart::Second => second_argument(call).len(),
+            TextPart::Count => 2,
+            TextPart::Content => call.content.as_str().len(),
         });
     }
     room
 }
 
 /// Joins parts, in room that is allocated at once.
-fn text_of(alloc: Global, parts: &[Part], call: &Call) -> Result<Text, AllocError>
+fn text_of(alloc: Global, parts: &[TextPart], call: &Call) -> Result<Text, AllocError>
     ensures { IfOk result (λ text. text ≡ text_of call.now parts.now) }
 {
     if parts.is_empty() {

@@ -127,7 +127,8 @@ fn push<S: Stated + Drop>(
     callbacks: &mut Vec<S>,
 ) -> Result<(), AllocError>
     requires { length row.now.callbacks.now ≤ length (map S.number callbacks.old.items) }
-    ensures pushed { OnOk result (map (shape_of S.number) plugins.new ≡ map (shape_of S.number) plugins.old
+    ensures pushed { OnOk result (map (shape_of S.number) plugins.new
+        ≡ map (shape_of S.number) plugins.old
         ++ plugin row.now.name.now (map change_of row.now.load.now)
         (take (length row.now.callbacks.now) (map S.number callbacks.old.items)) ∷ []) }
     ensures left { OnOk result (map S.number callbacks.new.items
@@ -159,7 +160,8 @@ fn plugins_of<S: Stated + Drop>(
     Ok(plugins)
 }
 
-/// Makes the bundled plugins, in the order of their names. Their callbacks must be in the order of [`NUMBERS`].
+/// Makes the bundled plugins, in the order of their names. Their callbacks must be in the order of
+/// [`NUMBERS`].
 pub fn bundle<S: Stated + Drop>(
     alloc: Global,
     callbacks: Listed<S>,

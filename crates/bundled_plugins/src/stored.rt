@@ -9,8 +9,8 @@ use std::alloc::{AllocError, Global};
 /// A callback as a boxed function, which takes the allocator and what it is called with.
 pub type Function = Box<dyn Fn(Global, &Call) -> Result<Reply, AllocError>>;
 
-/// A bundled callback: a boxed function, kept with the facts that it may be called on every call, and that whatever
-/// it answers is what the bundle states for its number.
+/// A bundled callback: a boxed function, kept with the facts that it may be called on every call,
+/// and that whatever it answers is what the bundle states for its number.
 #[derive(Drop)]
 pub struct Stored {
     id: CallbackId,

@@ -5,7 +5,7 @@ use Rattle.hook_changes.specs.declared.reply.Change.TheVariants.{Add, Remove}
 use Rattle.hook_registry.specs.declared.registration.Entry.{Entry}
 use Rattle.hook_registry.specs.Table.{Table}
 use Rattle.call_plans.specs.declared.position.Position.{Position}
-use Rattle.call_plans.specs.Changes.{applied}
+use Rattle.call_plans.specs.Changes.{table_after_change}
 use Rattle.call_plans.specs.Position.{next_entry}
 
 abbrev pub the_title : List ℕ
@@ -15,14 +15,14 @@ the_title = codes "the_title"
 abbrev pub at_start : Position
 at_start = record { hook = the_title; reached = None; entries = [] }
 
-abbrev pub added : ℕ → ℤ → Change
-added callback priority = Add the_title priority callback 1
+abbrev pub add_title : ℕ → ℤ → Change
+add_title callback priority = Add the_title priority callback 1
 
-abbrev pub removed : ℕ → ℤ → Change
-removed callback priority = Remove the_title priority callback
+abbrev pub remove_title : ℕ → ℤ → Change
+remove_title callback priority = Remove the_title priority callback
 
 abbrev pub after_all : Table → List Change → Table
-after_all table changes = fold applied table changes
+after_all table changes = fold table_after_change table changes
 
 -- the callbacks of the next n steps of a pass
 abbrev pub steps : ℕ → Table → Position → List (Option ℕ)
@@ -36,12 +36,13 @@ position_after (suc n) table position = position_after n table (next_entry table
 
 -- callbacks 1 and 2 at priority 10
 abbrev pub table_before : Table
-table_before = after_all [] (added 1 (pos 10) ∷ added 2 (pos 10) ∷ [])
+table_before = after_all [] (add_title 1 (pos 10) ∷ add_title 2 (pos 10) ∷ [])
 
 -- 1 moves after 2, 3 comes after both, and 4 and 5 come at a smaller and at a larger priority
 abbrev pub table_meanwhile : Table
-table_meanwhile = after_all table_before (removed 1 (pos 10) ∷ added 1 (pos 10) ∷ added 3 (pos 10) ∷ added 4 (pos 5) ∷ added 5 (pos 11) ∷ [])
+table_meanwhile = after_all table_before (remove_title 1 (pos 10) ∷ add_title 1 (pos 10) ∷ add_title 3 (pos 10) ∷ add_title 4 (pos 5) ∷ add_title 5 (pos 11)
+    ∷ [])
 
 -- 6 comes at a still larger priority
 abbrev pub table_at_last : Table
-table_at_last = after_all table_meanwhile (added 6 (pos 12) ∷ [])
+table_at_last = after_all table_meanwhile (add_title 6 (pos 12) ∷ [])

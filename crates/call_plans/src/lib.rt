@@ -1,12 +1,11 @@
-//! Plans of hooks: the callbacks of each hook in groups, one for each priority, which passes share.
+//! Passes over the callbacks of a hook.
 //!
-//! A pass holds the group that it reached, and a change puts a new group in its place (class WP_Hook). So a pass goes
-//! on through the group as it was, whatever changes meanwhile, and copies none of it.
+//! A pass holds the group that it reached, and a change puts a new group in its place (class
+//! WP_Hook). So a pass goes on through the group as it was, whatever changes meanwhile, and copies
+//! none of it.
 #![tactic(auto)]
 
 mod entries;
-mod group;
-mod hook_plan;
 mod plans;
 mod position;
 mod worked;

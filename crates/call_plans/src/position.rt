@@ -5,8 +5,8 @@ use crate::entries::EntriesLeft;
 use hook_changes::HookName;
 use hook_registry::Priority;
 
-/// Where a pass is in its hook: the priority that it reached, if any, and the entries left of that priority's group as
-/// it was when the pass reached it.
+/// Where a pass is in its hook: the priority that it reached, if any, and the entries left of that
+/// priority's group as it was when the pass reached it.
 #[derive(Drop)]
 pub struct Position {
     pub hook: HookName,

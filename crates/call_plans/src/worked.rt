@@ -9,14 +9,15 @@ ghost use Rattle.call_plans.specs.Worked.{
   table_at_last,
 };
 
-/// Works out a pass over a hook that changes while the pass is in its first group. The call itself does nothing: it
-/// carries these facts.
+/// Works out a pass over a hook that changes while the pass is in its first group. The call itself
+/// does nothing: it carries these facts.
 pub fn worked_pass()
     // The pass begins with the first callback of the smallest priority.
     ensures first { steps 1 table_before at_start ≡ Some 1 ∷ [] }
 
-    // It goes on through the group as it was when the pass reached it: what is removed and added again, or added, at
-    // this priority or a smaller one doesn't change it. What is added at a larger priority is reached.
+    // It goes on through the group as it was when the pass reached it: what is removed and added
+    // again, or added, at this priority or a smaller one doesn't change it. What is added at a
+    // larger priority is reached.
     ensures meanwhile { steps 3 table_meanwhile (position_after 1 table_before at_start)
         ≡ Some 2 ∷ Some 5 ∷ None ∷ [] }
 

@@ -5,7 +5,7 @@ use Rattle.std.specs.Cmp.{IsStrictWeakOrder}
 use Rattle.std.specs.List.{AllByRecursion}
 use Rattle.std.specs.List.Sorted.{IsSortedBy, IsStableBy, ties}
 use Rattle.std.proofs.lemmas.List.Sorted.{sorted_far}
-use Rattle.callback_store.specs.Sorting.{placed, sorted}
+use Rattle.callback_store.specs.Sorting.{with_placed, in_order}
 
 module _ {X : Type 0} (lt : X → X → Bool) (o : IsStrictWeakOrder lt) where
   -- no item comes before x
@@ -28,26 +28,26 @@ module _ {X : Type 0} (lt : X → X → Bool) (o : IsStrictWeakOrder lt) where
         (λ i j d p q. h (suc i) (suc j) d (omega arith) (omega arith)),
   )
 
-  none_before-placed : (x y : X) (ys : List X) → lt y x ≡ false → NoneBefore x ys → NoneBefore x (placed lt y ys)
+  none_before-placed : (x y : X) (ys : List X) → lt y x ≡ false → NoneBefore x ys → NoneBefore x (with_placed lt y ys)
   none_before-placed x y [] n h = (n, tt)
   none_before-placed x y (z ∷ zs) n h =
-      elim (lt z y) as (λ b. NoneBefore x (cond b (z ∷ placed lt y zs) (y ∷ z ∷ zs))) [ true ↦ (h.0, none_before-placed x y zs n h.1) | false ↦ (n, h) ]
+      elim (lt z y) as (λ b. NoneBefore x (cond b (z ∷ with_placed lt y zs) (y ∷ z ∷ zs))) [ true ↦ (h.0, none_before-placed x y zs n h.1) | false ↦ (n, h) ]
 
   none_before-chain : (x y : X) (ys : List X) → lt y x ≡ false → NoneBefore y ys → NoneBefore x ys
   none_before-chain x y [] n h = tt
   none_before-chain x y (z ∷ zs) n h = (o.chain z y x h.0 n, none_before-chain x y zs n h.1)
 
-  up-placed : (x : X) (ys : List X) → Up ys → Up (placed lt x ys)
+  up-placed : (x : X) (ys : List X) → Up ys → Up (with_placed lt x ys)
   up-placed x [] h = (tt, tt)
   up-placed x (y ∷ ys) h =
-      elim (lt y x) as (λ b. lt y x ≡ b → Up (cond b (y ∷ placed lt x ys) (x ∷ y ∷ ys))) [
+      elim (lt y x) as (λ b. lt y x ≡ b → Up (cond b (y ∷ with_placed lt x ys) (x ∷ y ∷ ys))) [
         | true ↦ λ e. (none_before-placed y x ys (o.one_way y x e) h.0, up-placed x ys h.1)
         | false ↦ λ e. ((e, none_before-chain x y ys e h.0), h)
       ] refl
 
-  up-sorted : (xs : List X) → Up (sorted lt xs)
+  up-sorted : (xs : List X) → Up (in_order lt xs)
   up-sorted [] = tt
-  up-sorted (x ∷ xs) = up-placed x (sorted lt xs) (up-sorted xs)
+  up-sorted (x ∷ xs) = up-placed x (in_order lt xs) (up-sorted xs)
 
   both : (a b : Bool) → not a && not b ≡ true → (a ≡ false) × (b ≡ false)
   both true b e = absurd (true≢false (sym e))
@@ -62,12 +62,12 @@ module _ {X : Type 0} (lt : X → X → Bool) (o : IsStrictWeakOrder lt) where
         | false ↦ λ e. refl
       ] refl
 
-  kept-placed : (z x : X) (ys : List X) → filter (ties lt z) (placed lt x ys) ≡ filter (ties lt z) (x ∷ ys)
+  kept-placed : (z x : X) (ys : List X) → filter (ties lt z) (with_placed lt x ys) ≡ filter (ties lt z) (x ∷ ys)
   kept-placed z x [] = refl
   kept-placed z x (y ∷ ys) =
-      elim (lt y x) as (λ b. lt y x ≡ b → filter (ties lt z) (cond b (y ∷ placed lt x ys) (x ∷ y ∷ ys)) ≡ filter (ties lt z) (x ∷ y ∷ ys)) [
+      elim (lt y x) as (λ b. lt y x ≡ b → filter (ties lt z) (cond b (y ∷ with_placed lt x ys) (x ∷ y ∷ ys)) ≡ filter (ties lt z) (x ∷ y ∷ ys)) [
         | true ↦ λ l.
-            elim (ties lt z y) as (λ b. ties lt z y ≡ b → cond b (y ∷ filter (ties lt z) (placed lt x ys)) (filter (ties lt z) (placed lt x ys))
+            elim (ties lt z y) as (λ b. ties lt z y ≡ b → cond b (y ∷ filter (ties lt z) (with_placed lt x ys)) (filter (ties lt z) (with_placed lt x ys))
             ≡ cond (ties lt z x) (x ∷ cond b (y ∷ filter (ties lt z) ys) (filter (ties lt z) ys))
             (cond b (y ∷ filter (ties lt z) ys) (filter (ties lt z) ys))) [
               | true ↦ λ t. ap (λ rest. y ∷ rest) (kept-placed z x ys) ∙ rw (apart z x y l t) refl
@@ -76,9 +76,9 @@ module _ {X : Type 0} (lt : X → X → Bool) (o : IsStrictWeakOrder lt) where
         | false ↦ λ l. refl
       ] refl
 
-  pub stable-sorted : (xs : List X) → IsStableBy lt xs (sorted lt xs)
+  pub stable-sorted : (xs : List X) → IsStableBy lt xs (in_order lt xs)
   stable-sorted [] z = refl
-  stable-sorted (x ∷ xs) z = kept-placed z x (sorted lt xs) ∙ ap (λ rest. cond (ties lt z x) (x ∷ rest) rest) (stable-sorted xs z)
+  stable-sorted (x ∷ xs) z = kept-placed z x (in_order lt xs) ∙ ap (λ rest. cond (ties lt z x) (x ∷ rest) rest) (stable-sorted xs z)
 
   not_itself : (x : X) → lt x x ≡ false
   not_itself x = elim (lt x x) as (λ b. lt x x ≡ b → b ≡ false) [ true ↦ λ e. sym e ∙ o.one_way x x e | false ↦ λ e. refl ] refl
@@ -118,22 +118,22 @@ module _ {X : Type 0} (lt : X → X → Bool) (o : IsStrictWeakOrder lt) where
       (ap (λ w. cond (ties lt z w) (w ∷ filter (ties lt z) ys) (filter (ties lt z) ys)) (sym first) ∙ same z)) in
       λ i. sym first i ∷ rest i
 
-  pub sorted_is : (xs ys : List X) → IsSortedBy lt ys → IsStableBy lt xs ys → ys ≡ sorted lt xs
-  sorted_is xs ys up stable = one_order ys (sorted lt xs) (up_of ys (sorted_far lt o ys up)) (up-sorted xs) (λ z. stable-sorted xs z ∙ sym (stable z))
+  pub sorted_is : (xs ys : List X) → IsSortedBy lt ys → IsStableBy lt xs ys → ys ≡ in_order lt xs
+  sorted_is xs ys up stable = one_order ys (in_order lt xs) (up_of ys (sorted_far lt o ys up)) (up-sorted xs) (λ z. stable-sorted xs z ∙ sym (stable z))
 
-  pub sorted_itself : (xs : List X) → IsSortedBy lt xs → sorted lt xs ≡ xs
+  pub sorted_itself : (xs : List X) → IsSortedBy lt xs → in_order lt xs ≡ xs
   sorted_itself xs up = sym (sorted_is xs xs up (λ z. refl))
 
 module _ {X Y : Type 0} (lt : Y → Y → Bool) (f : X → Y) where
-  placed-map : (x : X) (ys : List X) → map f (placed (λ a b. lt (f a) (f b)) x ys) ≡ placed lt (f x) (map f ys)
+  placed-map : (x : X) (ys : List X) → map f (with_placed (λ a b. lt (f a) (f b)) x ys) ≡ with_placed lt (f x) (map f ys)
   placed-map x [] = refl
   placed-map x (y ∷ ys) =
-      elim (lt (f y) (f x)) as (λ b. map f (cond b (y ∷ placed (λ a b. lt (f a) (f b)) x ys) (x ∷ y ∷ ys))
-      ≡ cond b (f y ∷ placed lt (f x) (map f ys)) (f x ∷ f y ∷ map f ys)) [
+      elim (lt (f y) (f x)) as (λ b. map f (cond b (y ∷ with_placed (λ a b. lt (f a) (f b)) x ys) (x ∷ y ∷ ys))
+      ≡ cond b (f y ∷ with_placed lt (f x) (map f ys)) (f x ∷ f y ∷ map f ys)) [
         | true ↦ ap (λ rest. f y ∷ rest) (placed-map x ys)
         | false ↦ refl
       ]
 
-  pub sorted-map : (xs : List X) → map f (sorted (λ a b. lt (f a) (f b)) xs) ≡ sorted lt (map f xs)
+  pub sorted-map : (xs : List X) → map f (in_order (λ a b. lt (f a) (f b)) xs) ≡ in_order lt (map f xs)
   sorted-map [] = refl
-  sorted-map (x ∷ xs) = placed-map x (sorted (λ a b. lt (f a) (f b)) xs) ∙ ap (placed lt (f x)) (sorted-map xs)
+  sorted-map (x ∷ xs) = placed-map x (in_order (λ a b. lt (f a) (f b)) xs) ∙ ap (with_placed lt (f x)) (sorted-map xs)

@@ -5,7 +5,7 @@ use Rattle.std.specs.List.{list_any}
 use Rattle.std.specs.List.Sorted.{IsSortedByKey}
 use Rattle.std.specs.Ordering.{is_lt, nat_cmp}
 use Rattle.hook_changes.specs.declared.reply.Change.{Change}
-use Rattle.callback_store.specs.Sorting.{sorted}
+use Rattle.callback_store.specs.Sorting.{in_order}
 use Rattle.callback_store.specs.declared.plugins.Plugin.{Plugin}
 use Rattle.callback_store.specs.declared.plugins.Plugins.{Plugins}
 
@@ -31,7 +31,7 @@ comes_before s t = is_lt (slice_cmp nat_cmp s.name t.name)
 
 -- by name, in the order of bytes
 abbrev pub by_name : List Shape → List Shape
-by_name shapes = sorted comes_before shapes
+by_name shapes = in_order comes_before shapes
 
 abbrev pub has_callback : ℕ → Shape → Bool
 has_callback callback shape = list_any (λ c. c == callback) shape.callbacks

@@ -1,6 +1,8 @@
 //! Plugins, with their load lists and callbacks.
-ghost use Rattle.std.specs.Prelude.{◌≡◌, ◌≢◌, ◌++◌, map, IfOk, IfErr, OnOk, IsTrue, IfSome, None, Some};
-ghost use Rattle.std.specs.Prelude.{option_map, is_some, find, bytes_eq, not, nat_lt, length, slice_get};
+ghost use Rattle.std.specs.Prelude.{◌≡◌, ◌≢◌, ◌++◌, map, IfOk, IfErr, OnOk, IsTrue, IfSome, None};
+ghost use Rattle.std.specs.Prelude.{Some};
+ghost use Rattle.std.specs.Prelude.{option_map, is_some, find, bytes_eq, not, nat_lt, length};
+ghost use Rattle.std.specs.Prelude.{slice_get};
 ghost use Rattle.std.specs.Prelude.{◌==◌, ◌&&◌, ◌||◌};
 ghost use Rattle.std.specs.List.{list_any};
 ghost use Rattle.std.specs.List.Sorted.{IsPermutation, IsSortedByKey};
@@ -8,14 +10,16 @@ ghost use Rattle.std.specs.Ordering.{nat_cmp};
 ghost use Rattle.std.specs.Cmp.Lexicographic.{slice_cmp};
 ghost use Rattle.std.specs.Option.{option_copied};
 ghost use Rattle.hook_changes.specs.Names.{is_tag_name};
-ghost use Rattle.callback_store.specs.Shape.{AreInOrder, shape_of, shapes_of, has_callback, is_held};
+ghost use Rattle.callback_store.specs.Shape.{AreInOrder, shape_of, shapes_of, has_callback};
+ghost use Rattle.callback_store.specs.Shape.{is_held};
 ghost use Rattle.callback_store.specs.Shape.{is_held_by, by_name, owner, load_of};
-ghost use Rattle.callback_store.specs.Faults.{has_repeat, is_large, has_same_callback, numbers, fault_of};
+ghost use Rattle.callback_store.specs.Faults.{has_repeat, is_large, has_same_callback, numbers};
+ghost use Rattle.callback_store.specs.Faults.{fault_of};
 
 use crate::fault::PluginFault;
 use crate::stated::Stated;
-use hook_changes::{Call, CallbackId, Change, Listed, Reply, Text, is_tag_name};
-use indexmap::{IndexMap, IndexSet};
+use hook_changes::{Call, CallbackId, Change, Listed, Reply, Text, is_one_of, is_tag_name};
+use indexmap::IndexSet;
 use std::alloc::{AllocError, Global};
 
 const MOST_PLUGINS: usize = 64;
@@ -85,15 +89,22 @@ impl<S: Stated> Plugin<S> {
 #[derive(Drop)]
 pub struct Plugins<S> {
     list: Listed<Plugin<S>>,
-    places: Places,
+    /// By ascending number.
+    places: Vec<CallbackPlace>,
 }
 
-/// Where each callback is, by its number: the index of its plugin, and its own index there.
-type Places = IndexMap<u32, (usize, usize)>;
+/// Where the callback with a number is: the index of its plugin, and its own index there. What is
+/// found there is compared before it is used, so no contract sees it.
+#[derive(Clone, Copy)]
+struct CallbackPlace {
+    number: u32,
+    plugin: usize,
+    callback: usize,
+}
 
 impl<S: Stated> Plugins<S> {
-    /// Takes a list of plugins and puts them in the order of their names by bytes, in which load lists are carried out,
-    /// or refuses the list by its first fault. A refused list is dropped.
+    /// Takes a list of plugins and puts them in the order of their names by bytes, in which load
+    /// lists are carried out, or refuses the list by its first fault. A refused list is dropped.
     pub fn new(alloc: Global, list: Listed<Plugin<S>>) -> Result<Self, PluginFault>
         ensures permutation { IfOk result (λ plugins. IsPermutation
             (map (shape_of S.number) list) (shapes_of S.number plugins)) }
@@ -118,8 +129,9 @@ impl<S: Stated> Plugins<S> {
         self.list.as_slice()
     }
 
-    /// Returns the plugins in the order of their names by bytes, in which load lists are carried out. `new` has put
-    /// them in that order already, but no invariant of a type that holds callbacks can say so.
+    /// Returns the plugins in the order of their names by bytes, in which load lists are carried
+    /// out. `new` has put them in that order already, but no invariant of a type that holds
+    /// callbacks can say so.
     pub fn by_name(&self, alloc: Global) -> Result<Vec<&Plugin<S>>, AllocError>
         ensures { IfOk result (λ list. map (λ p. shape_of S.number p.now) list.items
             ≡ by_name (shapes_of S.number self.entry.now)) }
@@ -133,7 +145,8 @@ impl<S: Stated> Plugins<S> {
     }
 
     fn with_callback(&self, id: CallbackId) -> Option<&Plugin<S>>
-        ensures { option_copied result ≡ find (λ p. list_any (λ c. S.number c == id) p.callbacks) self.entry.now.list }
+        ensures { option_copied result ≡ find (λ p. list_any (λ c. S.number c == id) p.callbacks)
+            self.entry.now.list }
     {
         for plugin in self.list.as_slice() {
             if plugin.has_callback(id) {
@@ -154,9 +167,11 @@ impl<S: Stated> Plugins<S> {
         None
     }
 
-    /// Returns the name of the plugin that has the callback, if one has it. Core's callback 0 has no plugin.
+    /// Returns the name of the plugin that has the callback, if one has it. Core's callback 0 has
+    /// no plugin.
     pub fn owner(&self, id: CallbackId) -> Option<&str>
-        ensures { option_map (λ name. name.now) result ≡ owner (shapes_of S.number self.entry.now) id }
+        ensures { option_map (λ name. name.now) result
+            ≡ owner (shapes_of S.number self.entry.now) id }
     {
         match self.with_callback(id) {
             Some(plugin) => Some(plugin.name.as_str()),
@@ -164,25 +179,38 @@ impl<S: Stated> Plugins<S> {
         }
     }
 
-    /// Returns whether a plugin of one of these names has the callback. If one does, that takes one look-up, and
-    /// otherwise a walk over those plugins.
+    /// Returns whether a plugin of one of these names has the callback. If one does, that takes one
+    /// look-up, and otherwise a walk over those plugins.
     pub fn is_held_by(&self, names: &[Text], id: CallbackId) -> bool
         ensures { result ≡ is_held_by (shapes_of S.number self.now) names.now id }
     {
         self.is_placed_in(names, id) || self.is_among(names, id)
     }
 
-    /// Returns whether the place that is kept for the number is in a plugin of one of these names, and has the
-    /// callback.
+    /// Returns where the callback with a number is, if one has it: the first place whose number is
+    /// not smaller.
+    fn place_of(&self, id: CallbackId) -> Option<CallbackPlace> {
+        let number = id.number();
+        // Each number below 1,024 has a place, at the number as its index (`places_of`).
+        if number < 1_024 {
+            return self.places.get(number as usize).copied();
+        }
+        let at = self.places.partition_point(|place| place.number < number);
+        self.places.get(at).copied()
+    }
+
+    /// Returns whether the place that is kept for the number is in a plugin of one of these names,
+    /// and has the callback.
     fn is_placed_in(&self, names: &[Text], id: CallbackId) -> bool
         ensures { IsTrue result → IsTrue (is_held_by (shapes_of S.number self.now) names.now id) }
     {
-        let Some(kept) = self.places.get(&id.number()) else {
+        let Some(place) = self.place_of(id) else {
             return false;
         };
-        let (plugin, place) = *kept;
-        match self.plugin_at(plugin) {
-            Some(plugin) => is_one_of(names, plugin.name.as_str()) && plugin.has_at(place, id),
+        match self.plugin_at(place.plugin) {
+            Some(plugin) => {
+                is_one_of(names, plugin.name.as_str()) && plugin.has_at(place.callback, id)
+            }
             None => false,
         }
     }
@@ -202,7 +230,8 @@ impl<S: Stated> Plugins<S> {
 
     /// Returns the load list of the plugin of that name, or `None` if no plugin has the name.
     pub fn load_of(&self, name: &str) -> Option<&[Change]>
-        ensures { option_map (λ changes. changes.now) result ≡ load_of (shapes_of S.number self.entry.now) name.now }
+        ensures { option_map (λ changes. changes.now) result
+            ≡ load_of (shapes_of S.number self.entry.now) name.now }
     {
         match self.named(name) {
             Some(plugin) => Some(plugin.load.as_slice()),
@@ -220,10 +249,11 @@ impl<S: Stated> Plugins<S> {
     /// Returns the callback at the place that is kept for a number.
     fn at_place(&self, id: CallbackId) -> Option<&S>
         ensures number { IfSome result (λ callback. S.number callback.now ≡ id) }
-        ensures held { IfSome result (λ callback. IsTrue (is_held (shapes_of S.number self.entry.now) id)) }
+        ensures held { IfSome result
+            (λ callback. IsTrue (is_held (shapes_of S.number self.entry.now) id)) }
     {
-        let (plugin, place) = *self.places.get(&id.number())?;
-        let callback = self.plugin_at(plugin)?.callback_at(place)?;
+        let place = self.place_of(id)?;
+        let callback = self.plugin_at(place.plugin)?.callback_at(place.callback)?;
         if callback.id() == id {
             Some(callback)
         } else {
@@ -231,8 +261,8 @@ impl<S: Stated> Plugins<S> {
         }
     }
 
-    /// Returns the callback with a number, if a plugin has it. That takes as long in a bundle of many callbacks as in a
-    /// small one; a number that no callback has is looked for among all.
+    /// Returns the callback with a number, if a plugin has it. That takes as long in a bundle of
+    /// many callbacks as in a small one; a number that no callback has is looked for among all.
     pub fn callback(&self, id: CallbackId) -> Option<&S>
         ensures number { IfSome result (λ callback. S.number callback.now ≡ id) }
         ensures held { is_some result ≡ is_held (shapes_of S.number self.entry.now) id }
@@ -265,12 +295,6 @@ impl<S: Stated> Plugins<S> {
     }
 }
 
-fn is_one_of(names: &[Text], name: &str) -> bool
-    ensures { result ≡ list_any (bytes_eq name.now) names.now }
-{
-    names.iter().any(|other| name == other.as_str())
-}
-
 /// Refuses a list by its first fault.
 fn without_fault<S: Stated>(alloc: Global, list: &[Plugin<S>]) -> Result<(), PluginFault>
     ensures no_fault { OnOk result (fault_of (map (shape_of S.number) list.now) ≡ None) }
@@ -294,7 +318,8 @@ fn without_fault<S: Stated>(alloc: Global, list: &[Plugin<S>]) -> Result<(), Plu
 }
 
 fn are_too_many<S: Stated>(list: &[Plugin<S>]) -> bool
-    ensures { result ≡ nat_lt 64 (length list.now) || list_any (λ p. is_large (shape_of S.number p)) list.now }
+    ensures { result ≡ nat_lt 64 (length list.now) || list_any (λ p. is_large (shape_of S.number p))
+        list.now }
 {
     let many = list.len() > MOST_PLUGINS;
     many || has_large(list)
@@ -374,23 +399,55 @@ fn all_numbers<S: Stated>(alloc: Global, list: &[Plugin<S>]) -> Result<Vec<u32>,
     Ok(all)
 }
 
-fn put_places<S: Stated>(
-    places: &mut Places,
+/// Appends the places of the callbacks of a plugin, which is at an index.
+fn push_places<S: Stated>(
+    places: &mut Vec<CallbackPlace>,
     plugin: usize,
     callbacks: &[S],
 ) -> Result<(), AllocError> {
-    for (place, callback) in callbacks.iter().enumerate() {
-        places.insert(callback.id().number(), (plugin, place))?;
+    for (callback, held) in callbacks.iter().enumerate() {
+        let number = held.id().number();
+        places.push(CallbackPlace {
+            number,
+            plugin,
+            callback,
+        })?;
     }
     Ok(())
 }
 
-fn places_of<S: Stated>(alloc: Global, list: &[Plugin<S>]) -> Result<Places, AllocError> {
-    let mut places = IndexMap::new(alloc);
-    for (place, plugin) in list.iter().enumerate() {
-        put_places(&mut places, place, plugin.callbacks.as_slice())?;
+/// Lists where each callback is, by ascending number.
+fn places_of<S: Stated>(
+    alloc: Global,
+    list: &[Plugin<S>],
+) -> Result<Vec<CallbackPlace>, AllocError> {
+    let mut places = Vec::new(alloc);
+    for (at, plugin) in list.iter().enumerate() {
+        push_places(&mut places, at, plugin.callbacks.as_slice())?;
     }
-    Ok(places)
+    places.sort_unstable_by_key(|place| place.number);
+    // Each number below 1,024 gets a place, also one that no callback has, so that it is found
+    // without a search. Most bundles have no larger numbers.
+    let mut all = Vec::with_capacity(alloc, 1_024)?;
+    let mut next = 0;
+    for number in 0..1_024 {
+        let mut place = CallbackPlace {
+            number,
+            plugin: usize::MAX,
+            callback: usize::MAX,
+        };
+        if let Some(known) = places.get(next) {
+            if known.number == number {
+                place = *known;
+                next += 1;
+            }
+        }
+        all.push(place)?;
+    }
+    for at in next..places.len() {
+        all.push(places[at])?;
+    }
+    Ok(all)
 }
 
 fn with_places<S: Stated>(alloc: Global, list: Listed<Plugin<S>>) -> Result<Plugins<S>, PluginFault>

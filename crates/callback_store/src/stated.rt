@@ -4,9 +4,10 @@ ghost use Rattle.std.specs.Prelude.{◌≡◌, ℕ, IfOk};
 use hook_changes::{Call, CallbackId, Reply};
 use std::alloc::{AllocError, Global};
 
-/// A stored callback, whose replies are stated: `says` is the one reply of each number to each call, and whatever the
-/// callback answers is that reply. Each bundle of plugins has a type of its own that keeps this fact beside the
-/// closure, so what a page means is known without running anything.
+/// A stored callback, whose replies are stated: `says` is the one reply of each number to each
+/// call, and whatever the callback answers is that reply. Each bundle of plugins has a type of its
+/// own that keeps this fact beside the closure, so what a page means is known without running
+/// anything.
 pub trait Stated: Drop {
     ghost use Rattle.hook_changes.specs.declared.reply.Call.{Call};
     ghost use Rattle.hook_changes.specs.declared.reply.Reply.{Reply};

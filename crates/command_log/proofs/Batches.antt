@@ -1,5 +1,6 @@
 -- What a batch leaves: the lines after its last one are those that it did not return.
-use Rattle.std.proofs.Common.{◌≡◌, ℕ, zero, suc, ℤ, List, [], ◌∷◌, map, filter, take, drop, fold, true, false, Bool, Option, None, Some, cond, Ordering, Less, Equal, Greater, refl, sym, ap, subst, subst₂, ◌∙◌}
+use Rattle.std.proofs.Common.{◌≡◌, ℕ, zero, suc, ℤ, List, [], ◌∷◌, map, filter, take, drop, fold, true, false, Bool, Option, None, Some, cond, Ordering, Less}
+use Rattle.std.proofs.Common.{Equal, Greater, refl, sym, ap, subst, subst₂, ◌∙◌}
 use Rattle.std.specs.Prelude.{IsTrue}
 use Rattle.std.specs.List.{AllByRecursion}
 use Rattle.std.specs.Ordering.{is_lt, int_cmp, ordering_reverse}
@@ -14,7 +15,7 @@ use Rattle.sqlite_trees.specs.View.{is_int}
 use Rattle.sqlite_rules.specs.Edit.{id_in}
 use Rattle.sqlite_rules.proofs.TableLemmas.{int_is}
 use Rattle.command_log.proofs.Reading.{every}
-use Rattle.command_log.specs.Lines.{IsRising, is_past, rows_after, shown, text_in, line_in, place_after}
+use Rattle.command_log.specs.Lines.{IsRising, is_past, rows_after, row_of_query, text_in, line_in, place_after}
 
 abbrev number : Row → ℤ
 number r = id_in (rowid r)
@@ -36,7 +37,8 @@ lt_is Less h = refl
 lt_is Equal h = absurd cc
 lt_is Greater h = absurd cc
 
-all_above : (r : Row) → IsTrue (is_int (rowid r)) → (rows : List Row) → AllByRecursion (λ y. value_cmp (rowid r) (rowid y) ≡ Less) rows → AllByRecursion (λ y. IsTrue (is_int (rowid y))) rows
+all_above : (r : Row) → IsTrue (is_int (rowid r)) → (rows : List Row) → AllByRecursion (λ y. value_cmp (rowid r) (rowid y) ≡ Less) rows
+    → AllByRecursion (λ y. IsTrue (is_int (rowid y))) rows
     → AreAbove r rows
 all_above r keyed [] low each = tt
 all_above r keyed (y ∷ rows) low each = (
@@ -51,7 +53,8 @@ further (Some n) r y held low = ap is_lt (int_cmp_total.trans n (number r) (numb
 keeps : (place : Option ℤ) (r : Row) (rows : List Row) → after place r ≡ true → AreAbove r rows → filter (after place) rows ≡ rows
 keeps place r [] held low = refl
 keeps place r (y ∷ rows) held low =
-    ap (λ b. cond b (y ∷ filter (after place) rows) (filter (after place) rows)) (further place r y held low.0) ∙ ap (λ l. y ∷ l) (keeps place r rows held low.1)
+    ap (λ b. cond b (y ∷ filter (after place) rows) (filter (after place) rows)) (further place r y held low.0)
+    ∙ ap (λ l. y ∷ l) (keeps place r rows held low.1)
 
 past_all : (r : Row) (rows : List Row) → AreAbove r rows → filter (is_past (number r)) rows ≡ rows
 past_all r [] low = refl
@@ -73,7 +76,8 @@ all_taken P (suc k) (r ∷ rows) all = (all.0, all_taken P k rows all.1)
 pub all_kept : (P : Row → Type 0) (f : Row → Bool) (rows : List Row) → AllByRecursion P rows → AllByRecursion P (filter f rows)
 all_kept P f [] all = tt
 all_kept P f (r ∷ rows) all =
-    let later = all_kept P f rows all.1 in elim (f r) as (λ b. AllByRecursion P (cond b (r ∷ filter f rows) (filter f rows))) [ true ↦ (all.0, later) | false ↦ later ]
+    let later = all_kept P f rows all.1 in elim (f r) as (λ b. AllByRecursion P (cond b (r ∷ filter f rows) (filter f rows)))
+    [ true ↦ (all.0, later) | false ↦ later ]
 
 -- ---- what is left
 
@@ -81,7 +85,8 @@ none_left : (place : Option ℤ) (k : ℕ) → filter (after (last place (take k
 none_left place zero = refl
 none_left place (suc k) = refl
 
-left_over : (place : Option ℤ) (rows : List Row) → IsRising rows → (k : ℕ) → filter (after (last place (take k (filter (after place) rows)))) rows ≡ drop k (filter (after place) rows)
+left_over : (place : Option ℤ) (rows : List Row) → IsRising rows → (k : ℕ) → filter (after (last place (take k (filter (after place) rows)))) rows
+    ≡ drop k (filter (after place) rows)
 left_over place [] up k = none_left place k
 left_over place (r ∷ rows) up k = go (after place r) refl k (left_over place rows (up.0.1, up.1.1)) (left_over (Some (number r)) rows (up.0.1, up.1.1))
   where
@@ -100,38 +105,42 @@ left_over place (r ∷ rows) up k = go (after place r) refl k (left_over place r
     Leaves : Option ℤ → Type 0
     Leaves q = (n : ℕ) → filter (after (last q (take n (filter (after q) rows)))) rows ≡ drop n (filter (after q) rows)
 
-    go : (b : Bool) → after place r ≡ b → (n : ℕ) → Leaves place → Leaves (Some (number r)) → filter (after (last place (take n (cond b (r ∷ kept) kept)))) (r ∷ rows) ≡ drop n (cond b (r ∷ kept) kept)
+    go : (b : Bool) → after place r ≡ b → (n : ℕ) → Leaves place → Leaves (Some (number r)) → filter (after (last place (take n (cond b (r ∷ kept) kept))))
+        (r ∷ rows) ≡ drop n (cond b (r ∷ kept) kept)
     go false not_yet n here next =
         let rest : List Row = filter (after (last place (take n kept))) rows in
         ap (λ b. cond b (r ∷ rest) rest) (not_past place r (take n kept) not_yet (above_kept n)) ∙ here n
     go true held zero here next = ap (λ b. cond b (r ∷ kept) kept) held
     go true held (suc m) here next =
         let rest : List Row = filter (after (last (Some (number r)) (take m kept))) rows in
-        let step : rest ≡ drop m kept = subst (λ l. filter (after (last (Some (number r)) (take m l))) rows ≡ drop m l) (past_all r rows above ∙ sym (keeps place r rows held above)) (next m) in
+        let step : rest ≡ drop m kept = subst (λ l. filter (after (last (Some (number r)) (take m l))) rows ≡ drop m l) (past_all r rows above
+        ∙ sym (keeps place r rows held above)) (next m) in
         ap (λ b. cond b (r ∷ rest) rest) (not_past (Some (number r)) r (take m kept) itself (above_kept m)) ∙ step
 
 after_is : (place : Option ℤ) (rows : List Row) → filter (after place) rows ≡ rows_after place rows
 after_is None rows = every rows
 after_is (Some n) rows = refl
 
-last_shown : (place : Option ℤ) (rows : List Row) → place_after place (map shown rows) ≡ last place rows
+last_shown : (place : Option ℤ) (rows : List Row) → place_after place (map row_of_query rows) ≡ last place rows
 last_shown place [] = refl
 last_shown place (r ∷ rows) = last_shown (Some (number r)) rows
 
 -- ---- what a query shows
 
 module _ (place : Option ℤ) (rows : List Row) (up : IsRising rows) where
-  pub left : (n : ℕ) → map line_in (rows_after (place_after place (take n (map shown (rows_after place rows)))) rows) ≡ drop n (map line_in (rows_after place rows))
+  pub left : (n : ℕ) → map line_in (rows_after (place_after place (take n (map row_of_query (rows_after place rows)))) rows)
+      ≡ drop n (map line_in (rows_after place rows))
   left n =
       let all : List Row = rows_after place rows in
-      let next : place_after place (take n (map shown all)) ≡ last place (take n all) = ap (place_after place) (take-map shown n all) ∙ last_shown place (take n all) in
+      let next : place_after place (take n (map row_of_query all)) ≡ last place (take n all) = ap (place_after place) (take-map row_of_query n all)
+      ∙ last_shown place (take n all) in
       ap (λ q. map line_in (rows_after q rows)) next ∙ ap (map line_in) (sym (after_is (last place (take n all)) rows)
       ∙ subst (λ l. filter (after (last place (take n l))) rows ≡ drop n l) (after_is place rows) (left_over place rows up n)) ∙ sym (drop-map line_in n all)
 
-  texts_of : (xs : List Row) → map text_in (map shown xs) ≡ map line_in xs
+  texts_of : (xs : List Row) → map text_in (map row_of_query xs) ≡ map line_in xs
   texts_of [] = refl
   texts_of (r ∷ xs) = ap (λ l. line_in r ∷ l) (texts_of xs)
 
-  pub texts : (count : Option ℕ) → map text_in (limited count (map shown (rows_after place rows))) ≡ limited count (map line_in (rows_after place rows))
+  pub texts : (count : Option ℕ) → map text_in (limited count (map row_of_query (rows_after place rows))) ≡ limited count (map line_in (rows_after place rows))
   texts None = texts_of (rows_after place rows)
-  texts (Some n) = sym (take-map text_in n (map shown (rows_after place rows))) ∙ ap (take n) (texts_of (rows_after place rows))
+  texts (Some n) = sym (take-map text_in n (map row_of_query (rows_after place rows))) ∙ ap (take n) (texts_of (rows_after place rows))

@@ -1,5 +1,6 @@
 -- Why a statement of the log fails, by what the database says of it.
-use Rattle.std.proofs.Common.{◌≡◌, ◌⊎◌, inl, inr, ℕ, ◌≤◌, List, [], true, false, ◌&&◌, ◌||◌, Ok, Err, Some, None, length, append-nil, sym, ap, subst, subst₂, ◌∙◌, arith}
+use Rattle.std.proofs.Common.{◌≡◌, ◌⊎◌, inl, inr, ℕ, ◌≤◌, List, [], true, false, ◌&&◌, ◌||◌, Ok, Err, Some, None, length, append-nil, sym, ap, subst, subst₂}
+use Rattle.std.proofs.Common.{◌∙◌, arith}
 use Rattle.std.proofs.Common.{true≢false}
 use Rattle.std.specs.Prelude.{IsSome, IsTrue}
 use Rattle.std.proofs.lemmas.Bool.{leb-true}
@@ -17,7 +18,8 @@ use Rattle.sqlite_sql.specs.Program.{QueryOverflows}
 use Rattle.sqlite_typing.specs.Types.{accepts_program}
 use Rattle.sqlite.specs.Does.{Does}
 use Rattle.sqlite.specs.Listing.{understood, reads_listing, IsSourceOf}
-use Rattle.sqlite.specs.State.{State, Fails, HasCause, IsNotRun, IsNoStatement, IsMisplaced, IsUnchanged, MayChange, FailsToQuery, IsTooLate, EndsScope, Escapes, ExecutesIn, ExecutesInside, mode_of, shows_rows, is_pragma, store_error}
+use Rattle.sqlite.specs.State.{State, Fails, HasCause, IsNotRun, IsNoStatement, IsMisplaced, IsUnchanged, MayChange, FailsToQuery, IsTooLate, EndsScope}
+use Rattle.sqlite.specs.State.{Escapes, ExecutesIn, ExecutesInside, mode_of, shows_rows, is_pragma, store_error}
 use Rattle.sqlite.specs.Effect.{is_query}
 use Rattle.sqlite.specs.Steps.{FailsToCommit}
 use Rattle.sqlite.proofs.Callers.{IsPlain, command_of, statement_of}
@@ -33,7 +35,8 @@ Own = LogFault → Type 0
 -- ---- what holds of any call
 
 -- a failure of the store, if only the call's own row can be too big
-pub store_fault : (old new : State) → IsTrue old.is_open → (P : Own) (too_big : Type 0) → (too_big → P fault.TooBig) → (e : Error) → Fails old new too_big e → IsCaused old new P (fault_of e)
+pub store_fault : (old new : State) → IsTrue old.is_open → (P : Own) (too_big : Type 0) → (too_big → P fault.TooBig) → (e : Error) → Fails old new too_big e
+    → IsCaused old new P (fault_of e)
 store_fault old new up P too_big big e h = subst (λ x. IsCaused old new P (fault_of x)) (sym h.1) (by h.0 h.2)
   where
     by : (cause : StoreError) → HasCause old new too_big cause → IsCaused old new P (fault_of (store_error cause))
@@ -45,7 +48,8 @@ store_fault old new up P too_big big e h = subst (λ x. IsCaused old new P (faul
     by Unstorable h = big h
 
 -- the same cause over a longer time
-pub caused_longer : (first old new last : State) (P Q : Own) → ((f : LogFault) → P f → Q f) → first.faults ≤ old.faults → new.faults ≤ last.faults → first.step_limit ≡ old.step_limit → (f : LogFault) → IsCaused old new P f → IsCaused first last Q f
+pub caused_longer : (first old new last : State) (P Q : Own) → ((f : LogFault) → P f → Q f) → first.faults ≤ old.faults → new.faults ≤ last.faults
+    → first.step_limit ≡ old.step_limit → (f : LogFault) → IsCaused old new P f → IsCaused first last Q f
 caused_longer first old new last P Q own low high limit fault.OutOfMemory h = tt
 caused_longer first old new last P Q own low high limit fault.Damaged h = omega arith
 caused_longer first old new last P Q own low high limit fault.DiskFull h = omega arith
@@ -61,13 +65,15 @@ caused_longer first old new last P Q own low high limit fault.NotText h = own fa
 caused_longer first old new last P Q own low high limit fault.Store h = own fault.Store h
 
 -- a commit
-pub commit_fault : (old new : State) → IsTrue old.is_open → (P : Own) (e : Error) → old.in_transaction ≡ true → FailsToCommit old new e → IsCaused old new P (fault_of e)
+pub commit_fault : (old new : State) → IsTrue old.is_open → (P : Own) (e : Error) → old.in_transaction ≡ true → FailsToCommit old new e
+    → IsCaused old new P (fault_of e)
 commit_fault old new up P e inside (inl broke) = store_fault old new up P ⊥ (λ h. absurd h) e broke
 commit_fault old new up P e inside (inr late) = absurd (true≢false (sym inside ∙ late.1))
 
 -- ---- a statement over the table of a log
 
-module _ (sql : List ℕ) (given : Row) (plain : IsPlain (understood log_schema sql)) (whole : IsWhole sql (length given) (understood log_schema sql)) (old new : State) (up : IsTrue old.is_open)
+module _ (sql : List ℕ) (given : Row) (plain : IsPlain (understood log_schema sql)) (whole : IsWhole sql (length given) (understood log_schema sql))
+    (old new : State) (up : IsTrue old.is_open)
     (has : old.now.schema ≡ log_schema) where
   understood_is : understood old.now.schema sql ≡ understood log_schema sql
   understood_is = ap (λ s. understood s sql) has
@@ -90,9 +96,11 @@ module _ (sql : List ℕ) (given : Row) (plain : IsPlain (understood log_schema 
 
   -- ---- a query
 
-  module _ (query : Query) (names : List (List ℕ)) (is : command_of (understood log_schema sql) ≡ Select (record { lets = []; body = query }) names) (unlisted : reads_listing log_schema sql ≡ false)
+  module _ (query : Query) (names : List (List ℕ)) (is : command_of (understood log_schema sql) ≡ Select (record { lets = []; body = query }) names)
+      (unlisted : reads_listing log_schema sql ≡ false)
       (typed : accepts_program log_schema [] query given ≡ true) (sums : (db : _) → ¬ QueryOverflows query db given) (P : Own) where
-    reads : (e : Error) (db : Database) → db.schema ≡ log_schema → RefusesToRead old.step_limit (Select (record { lets = []; body = query }) names) db given e → IsCaused old new P (fault_of e)
+    reads : (e : Error) (db : Database) → db.schema ≡ log_schema → RefusesToRead old.step_limit (Select (record { lets = []; body = query }) names) db given e
+        → IsCaused old new P (fault_of e)
     reads e db schema (inl mismatch) = absurd (true≢false (sym typed ∙ ap (λ s. accepts_program s [] query given) (sym schema) ∙ mismatch.1))
     reads e db schema (inr (inl sum)) = absurd (sums _ sum.1)
     reads e db schema (inr (inr late)) = subst (λ x. IsCaused old new P (fault_of x)) (sym late.0) late.1
@@ -108,7 +116,8 @@ module _ (sql : List ℕ) (given : Row) (plain : IsPlain (understood log_schema 
         reads e it.0 (ap (λ (d : Database). d.schema) db ∙ has) (subst (λ k. RefusesToRead old.step_limit k it.0 given e) (ap command_of known ∙ is) it.2)
 
     -- within a transaction
-    pub query_failed : (e : Error) → old.in_transaction ≡ true → FailsToQuery sql given old new e ⊎ IsTooLate sql given old new e → IsCaused old new P (fault_of e)
+    pub query_failed : (e : Error) → old.in_transaction ≡ true → FailsToQuery sql given old new e ⊎ IsTooLate sql given old new e
+        → IsCaused old new P (fault_of e)
     query_failed e inside (inl failed) = query_fault e failed
     query_failed e inside (inr late) = absurd (true≢false (sym inside ∙ late.3))
 
@@ -156,7 +165,8 @@ module _ (sql : List ℕ) (given : Row) (plain : IsPlain (understood log_schema 
   stays k (inr it) h = cut_stays it.0 it.1 (subst (Escapes 0 old) it.2 h)
 
   module _ (command : Command) (edit : IsEdit command) (is : command_of (understood log_schema sql) ≡ command) (P : Own)
-      (refused : (e : Error) → Does old.step_limit (mode_of old) given old.now (statement_of sql (understood log_schema sql)) None command (Err (Some e)) → IsCaused old new P (fault_of e))
+      (refused : (e : Error) → Does old.step_limit (mode_of old) given old.now (statement_of sql (understood log_schema sql)) None command (Err (Some e))
+      → IsCaused old new P (fault_of e))
       (too_big : Does old.step_limit (mode_of old) given old.now (statement_of sql (understood log_schema sql)) None command (Err None) → P fault.TooBig) where
     abbrev Ends : Type 0 → Error → Command → List ℕ → Type 0
     Ends change e k text = ((IsMisplaced old k e ⊎ (change × Does old.step_limit (mode_of old) given old.now text None k (Err (Some e)))) × IsUnchanged old new)
@@ -175,7 +185,8 @@ module _ (sql : List ℕ) (given : Row) (plain : IsPlain (understood log_schema 
         let bare = subst IsPlain (sym known) plain in
         let command_is = ap command_of known ∙ is in
         let shows : shows_rows false h.0 ≡ false = rw (bare.0, command_is) (shows_none command edit) in
-        ended (MayChange (record h.0 { returning = None })) e (subst₂ (Ends (MayChange (record h.0 { returning = None })) e) command_is (ap (statement_of sql) known) (rw (bare.0, bare.1, append-nil given) at (rw shows at h.2)))
+        ended (MayChange (record h.0 { returning = None })) e (subst₂ (Ends (MayChange (record h.0 { returning = None })) e) command_is
+        (ap (statement_of sql) known) (rw (bare.0, bare.1, append-nil given) at (rw shows at h.2)))
 
     pub write_failed : (e : Error) → ExecutesInside 0 sql given old new (Err e) → IsCaused old new P (fault_of e)
     unfolding EndsScope

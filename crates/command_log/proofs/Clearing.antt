@@ -40,7 +40,8 @@ module _ (old new : State) (holds : HoldsLog old.now) (count : ℕ) where
   clears h =
       let text = statement_of clear_text (understood log_schema clear_text) in
       let w = runs_as clear_text [] old new log_schema holds.schema_is clear_command clear_is clear_plain count h in
-      let done = went (subst (λ x. Does old.step_limit (mode_of old) [] (record old.now { schema = x }) text None clear_command (Ok (w.tally, new.now))) holds.schema_is w.changed) in
+      let done = went (subst (λ x. Does old.step_limit (mode_of old) [] (record old.now { schema = x }) text None clear_command (Ok (w.tally, new.now)))
+      holds.schema_is w.changed) in
       let now = ap (λ (x : Tally × Database). x.1) (same_value (went (went done.2).2).2) in
       let asked = went done.1 in
       let edit = went asked.2 in
@@ -64,9 +65,11 @@ module _ {S : Type 0} (g : Ghosts S) (old new : Held S) (holds : IsOpen g old �
       record { was_open = h.1.was_open; is_open = h.1.is_open; inside = h.1.mode; holds = it.holds; sound = it.sound; lines = it.lines }
 
 module _ {S : Type 0} (g : Ghosts S) (old new : Held S) (up : IsOpen g old) (holds : HoldsLog (state g old).now) where
-  pub clear_failed : (r : Result ℕ Error) → ExecutesInside 0 clear_text [] (state g old) (state g new) r → IfErr r (λ e. IsCaused (state g old) (state g new) Nothing (fault_of e))
+  pub clear_failed : (r : Result ℕ Error) → ExecutesInside 0 clear_text [] (state g old) (state g new) r
+      → IfErr r (λ e. IsCaused (state g old) (state g new) Nothing (fault_of e))
   clear_failed (Ok count) h = tt
   clear_failed (Err e) h =
       write_failed clear_text [] clear_plain clear_whole (state g old) (state g new) up holds.schema_is clear_command (inr (0, _, refl)) clear_is Nothing
-      (λ x does. let it = clear_stops (state g old) holds (Some x) does in subst (λ y. IsCaused (state g old) (state g new) Nothing (fault_of y)) (sym it.0) it.1)
+      (λ x does. let it = clear_stops (state g old) holds (Some x) does in subst (λ y. IsCaused (state g old) (state g new) Nothing (fault_of y))
+      (sym it.0) it.1)
       (λ does. clear_stops (state g old) holds None does) e h

@@ -24,7 +24,8 @@ pub record IsNewLog (new : Database) : Type 0 where
 module _ (old new : State) (bare : old.now.schema ≡ no_schema) (count : ℕ) where
   creates : Executes create_text [] old new (Ok count) → IsNewLog new.now
   creates h =
-      let w = subst (λ t. Writes old new None CreateTable t [] count) create_is.1 (runs_as create_text [] old new no_schema bare CreateTable create_is.0 create_plain count h) in
+      let w = subst (λ t. Writes old new None CreateTable t [] count) create_is.1 (runs_as create_text [] old new no_schema bare CreateTable create_is.0
+      create_plain count h) in
       let all = went w.changed in
       let first = went all.1 in
       let made = first.1 in

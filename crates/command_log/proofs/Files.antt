@@ -30,25 +30,28 @@ use Rattle.command_log.specs.Lines.{IsRising, IsOrderly, HoldsLines, IsOpen, IsI
 use Rattle.command_log.proofs.States.{ShutsIfDirty, clean_of}
 use Rattle.command_log.specs.Found.{FindsLines, ReadsLines, RefusesOther}
 use Rattle.sqlite.specs.declared.error.Error.{Error}
-use Rattle.sqlite.specs.declared.error.Error.TheVariants.{SqliteFailure, SqlInputError, InvalidParameterCount, ExecuteReturnedResults, InvalidQuery, MultipleStatement, QueryReturnedNoRows, InvalidColumnIndex, InvalidColumnType, IntegralValueOutOfRange, Utf8Error}
+use Rattle.sqlite.specs.declared.error.Error.TheVariants.{SqliteFailure, SqlInputError, InvalidParameterCount, ExecuteReturnedResults, InvalidQuery}
+use Rattle.sqlite.specs.declared.error.Error.TheVariants.{MultipleStatement, QueryReturnedNoRows, InvalidColumnIndex, InvalidColumnType}
+use Rattle.sqlite.specs.declared.error.Error.TheVariants.{IntegralValueOutOfRange, Utf8Error}
 use Rattle.sqlite.specs.declared.error.ErrorCode.TheVariants as code
 use Rattle.sqlite.specs.Opening.{is_open_error}
 use Rattle.command_log.specs.declared.fault.LogFault.{LogFault}
 use Rattle.command_log.specs.declared.fault.LogFault.TheVariants.{NotALog}
 use Rattle.command_log.specs.Faults.{fault_of}
 
-module _ (size : ℕ) (wanted : List Wanted) (pages : PageMap) (ours : IsOurs size true wanted pages) (sound : IsSound log_schema (file_trees size wanted pages)) where
-  ordered : IsOrdered (all_shapes wanted) (file_trees size wanted pages)
-  ordered = all_ordered ours.file.db (version_in pages)
+module _ (size : ℕ) (wanted : List Wanted) (pages : PageMap) (ours : IsOurs size true wanted pages) (sound : IsSound log_schema (file_trees size wanted pages))
+  where
+    ordered : IsOrdered (all_shapes wanted) (file_trees size wanted pages)
+    ordered = all_ordered ours.file.db (version_in pages)
 
-  listed : IsListed (file_trees size wanted pages catalog_tree) (all_shapes wanted) (all_reals wanted)
-  listed = subst (λ rows. IsListed rows (all_shapes wanted) (all_reals wanted)) (sym (catalog_rows size wanted (in_use size pages))) (is_listed wanted)
+    listed : IsListed (file_trees size wanted pages catalog_tree) (all_shapes wanted) (all_reals wanted)
+    listed = subst (λ rows. IsListed rows (all_shapes wanted) (all_reals wanted)) (sym (catalog_rows size wanted (in_use size pages))) (is_listed wanted)
 
-  pub rows_rise : IsRising (file_trees size wanted pages 0)
-  rows_rise =
-      let objects = subst (λ s. IsShaped s (file_trees size wanted pages catalog_tree)) listed.itself.0 (ordered catalog_tree) in
-      let table : all_shapes wanted 0 ≡ Table = (laid_out listed objects sound.lists.listed).tables.0 in
-      subst (λ s. IsShaped s (file_trees size wanted pages 0)) table (ordered 0)
+    pub rows_rise : IsRising (file_trees size wanted pages 0)
+    rows_rise =
+        let objects = subst (λ s. IsShaped s (file_trees size wanted pages catalog_tree)) listed.itself.0 (ordered catalog_tree) in
+        let table : all_shapes wanted 0 ≡ Table = (laid_out listed objects sound.lists.listed).tables.0 in
+        subst (λ s. IsShaped s (file_trees size wanted pages 0)) table (ordered 0)
 
 found_rise : (image : Image) (db : Trees) → AreFoundIn image db → IsSound log_schema db → IsRising (db 0)
 found_rise image db (inl f) sound = ∥∥₁_elim f.4 (IsShaped-prop Table (db 0)) (λ ours.
@@ -74,7 +77,12 @@ module _ {D : Type 0} {g : Ghosts D} (c : Held (FileStore D g)) (image : Image) 
       )
 
   pub reads_lines : IsTrue (file_state c).is_open → (lines : List (List ℕ)) → HoldsLines (file_state c).now lines → ReadsLines image lines
-  reads_lines up lines holds = ((file_state c).now, subst (AreFoundIn image) (sym (ap (λ (d : Database). d.trees) opened.0.clean)) found.reads, (opened.1 up).0, holds)
+  reads_lines up lines holds = (
+    (file_state c).now,
+    subst (AreFoundIn image) (sym (ap (λ (d : Database). d.trees) opened.0.clean)) found.reads,
+    (opened.1 up).0,
+    holds,
+  )
 
 module _ {D : Type 0} {g : Ghosts D} (c : Held (FileStore D g)) (image : Image) where
   shuts : ShutsIfDirty (over_files {D = D} {g = g})
@@ -105,10 +113,12 @@ module _ {D : Type 0} {g : Ghosts D} (c : Held (FileStore D g)) (image : Image) 
       reads_lines c image (found clean) (opened clean) (opened clean).0.is_open (lines_of over_files log) (lines up)
 
   pub opened_over : {E : Type 0} (P : Trees → Type 0) → (HasCleanDisk (file_state c) → IsOpened c) → (r : Result (Held (FileStore D g)) E)
-      → IfOk r (λ log. HasCleanDisk (state over_files log) → IsOpen over_files c → IsOpen over_files log) → IfOk r (λ log. Survives (file_state c) (state over_files log) P)
+      → IfOk r (λ log. HasCleanDisk (state over_files log) → IsOpen over_files c → IsOpen over_files log)
+      → IfOk r (λ log. Survives (file_state c) (state over_files log) P)
       → IfOk r (λ log. HasCleanDisk (state over_files log) → IsOpen over_files log)
   opened_over P opened (Err e) stays survives = tt
-  opened_over P opened (Ok log) stays survives = λ after. let clean : HasCleanDisk (file_state c) = omega (arith, survives.clean, after) in stays after (opened clean).0.is_open
+  opened_over P opened (Ok log) stays survives = λ after. let clean : HasCleanDisk (file_state c) = omega (arith, survives.clean, after) in
+      stays after (opened clean).0.is_open
 
 -- an open fails by an error that says nothing of the schema
 never_other : (e : Error) → IsTrue (is_open_error e) → fault_of e ≢ NotALog
@@ -147,7 +157,8 @@ never_other (InvalidColumnType at type) named h = absurd (true≢false (sym name
 never_other (IntegralValueOutOfRange at) named h = absurd (true≢false (sym named))
 never_other (Utf8Error at) named h = absurd (true≢false (sym named))
 
-pub fails_to_open : {D : Type 0} {g : Ghosts D} (image : Image) (e : Error) (f : LogFault) → IsTrue (is_open_error e) → f ≡ fault_of e → RefusesOther {D = D} {g = g} image (Err f)
+pub fails_to_open : {D : Type 0} {g : Ghosts D} (image : Image) (e : Error) (f : LogFault) → IsTrue (is_open_error e) → f ≡ fault_of e
+    → RefusesOther {D = D} {g = g} image (Err f)
 fails_to_open {D} {g} image e f named is none = absurd (never_other e named (sym is ∙ fault_in none))
   where
     fault_in : ◌≡◌ {A = Result (Held (FileStore D g)) LogFault} (Err f) (Err NotALog) → f ≡ NotALog

@@ -31,7 +31,8 @@ pub record Adds (line : List ℕ) (old new : Database) : Type 0 where
   pub number : next_rowid (new.trees 0) ≡ next_rowid (old.trees 0) +ℤ pos 1
 
 module _ (old new : State) (holds : HoldsLog old.now) (line : List ℕ) (count : ℕ) where
-  pub wrote_line : Executes insert_text (Text line ∷ []) old new (Ok count) → Writes old new None insert_command (statement_of insert_text (understood log_schema insert_text)) (Text line ∷ []) count
+  pub wrote_line : Executes insert_text (Text line ∷ []) old new (Ok count) → Writes old new None insert_command
+      (statement_of insert_text (understood log_schema insert_text)) (Text line ∷ []) count
   wrote_line h = runs_as insert_text (Text line ∷ []) old new log_schema holds.schema_is insert_command insert_is insert_plain count h
 
   pub adds_line : Executes insert_text (Text line ∷ []) old new (Ok count) → Adds line old.now new.now
@@ -40,7 +41,8 @@ module _ (old new : State) (holds : HoldsLog old.now) (line : List ℕ) (count :
       let db = old.now.trees in
       let w = wrote_line h in
       let text = statement_of insert_text (understood log_schema insert_text) in
-      let done = went (subst (λ s. Does old.step_limit (mode_of old) params (record old.now { schema = s }) text None insert_command (Ok (w.tally, new.now))) holds.schema_is w.changed) in
+      let done = went (subst (λ s. Does old.step_limit (mode_of old) params (record old.now { schema = s }) text None insert_command (Ok (w.tally, new.now)))
+      holds.schema_is w.changed) in
       let now = ap (λ (p : Tally × Database). p.1) (same_value (went (went done.2).2).2) in
       let given = went done.1 in
       let written = went (went given.2).2 in
@@ -49,9 +51,14 @@ module _ (old new : State) (holds : HoldsLog old.now) (line : List ℕ) (count :
       let rows = (one_step log_schema _ db written.0 (edit_of db command_table [] Chosen 0 given.0) refl written.1).rows in
       let edit : edited db (edit_of db command_table [] Chosen 0 given.0) ≡ put_row (Int (next_rowid (db 0)) ∷ rest_of line) (db 0) =
       ap (λ all. edited db (edit_of db command_table [] Chosen 0 all)) given.1.1 ∙ rw cast_null refl in
-      let table : new.now.trees 0 ≡ put_row (Int (next_rowid (db 0)) ∷ rest_of line) (db 0) = ap (λ (d : Database). d.trees 0) now ∙ ap (λ (t : Trees). t 0) trees ∙ rows ∙ edit in
+      let table : new.now.trees 0 ≡ put_row (Int (next_rowid (db 0)) ∷ rest_of line) (db 0) = ap (λ (d : Database). d.trees 0) now
+      ∙ ap (λ (t : Trees). t 0) trees ∙ rows ∙ edit in
       record {
-        holds = record { schema_is = ap (λ (d : Database). d.schema) now; rising = subst IsRising (sym table) (still_rises (db 0) (rest_of line) holds.rising) };
+        holds = record {
+          schema_is = ap (λ (d : Database). d.schema) now;
+          rising = subst IsRising (sym table)
+              (still_rises (db 0) (rest_of line) holds.rising);
+        };
         lines = ap (map line_in) (table ∙ put_last (db 0) (rest_of line) holds.rising) ∙ map_last line_in (db 0) (Int (next_rowid (db 0)) ∷ rest_of line);
         sound = w.sound;
         number = ap next_rowid (table ∙ put_last (db 0) (rest_of line) holds.rising) ∙ next_after (db 0) (Int (next_rowid (db 0)) ∷ rest_of line);

@@ -29,7 +29,8 @@ before_next r keyed =
     (value_cmp-Int (id_in (rowid r)) (id_in (rowid r) +ℤ pos 1) ∙ one_more (id_in (rowid r)))
 
 -- each number is below the next one
-pub all_before : (n : ℤ) (r : Row) (rows : List Row) → IsRising (r ∷ rows) → AllByRecursion (λ x. value_cmp (rowid x) (Int (number_after n (r ∷ rows))) ≡ Less) (r ∷ rows)
+pub all_before : (n : ℤ) (r : Row) (rows : List Row) → IsRising (r ∷ rows) → AllByRecursion (λ x. value_cmp (rowid x) (Int (number_after n (r ∷ rows))) ≡ Less)
+    (r ∷ rows)
 all_before n r [] up = (before_next r up.1.0, tt)
 all_before n r (y ∷ rows) up =
     let later = all_before (id_in (rowid r) +ℤ pos 1) y rows (up.0.1, up.1.1) in

@@ -35,7 +35,16 @@ module _ {S : Type 0} (g : Ghosts S) (old new : Held S) (line : List ℕ) (holds
   puts_line (Err e) h = tt
   puts_line (Ok count) h =
       let adds = adds_line (state g old) (state g new) (holds h.1.was_open) line count h.0 in
-      record { was_open = h.1.was_open; is_open = h.1.is_open; inside = h.1.mode; holds = adds.holds; sound = adds.sound; lines = adds.lines; number = adds.number }
+      record {
+        was_open = h.1.was_open;
+        is_open = h.1.is_open;
+        inside = h.1.mode;
+        holds = adds.holds;
+        sound = adds.sound;
+        lines = adds.lines;
+        number =
+            adds.number;
+      }
 
 module _ {S : Type 0} (g : Ghosts S) (old new : Held S) (line : List ℕ) (up : IsOpen g old) (holds : HoldsLog (state g old).now) where
   -- why a line is not put
@@ -43,11 +52,18 @@ module _ {S : Type 0} (g : Ghosts S) (old new : Held S) (line : List ℕ) (up : 
   stops e (inl late) = subst (λ x. IsCaused (state g old) (state g new) (Unstorable (rows_of g old) (line ∷ [])) (fault_of x)) (sym late.0) late.1
   stops e (inr used) =
       let same : next_rowid (rows_of g old) +ℤ pos 0 ≡ next_rowid (rows_of g old) = omega (arith, ints) in
-      subst (λ x. IsCaused (state g old) (state g new) (Unstorable (rows_of g old) (line ∷ [])) (fault_of x)) (sym used.0) (0, lit< tt, ap fits_i64 same ∙ used.1)
+      subst (λ x. IsCaused (state g old) (state g new) (Unstorable (rows_of g old) (line ∷ [])) (fault_of x)) (sym used.0) (
+        0,
+        lit< tt,
+        ap fits_i64 same
+            ∙ used.1,
+      )
 
   pub put_failed : (r : Result ℕ Error) → ExecutesInside 0 insert_text (Text line ∷ []) (state g old) (state g new) r
       → IfErr r (λ e. IsCaused (state g old) (state g new) (Unstorable (rows_of g old) (line ∷ [])) (fault_of e))
   put_failed (Ok count) h = tt
   put_failed (Err e) h =
-      write_failed insert_text (Text line ∷ []) insert_plain insert_whole (state g old) (state g new) up holds.schema_is insert_command (inl (0, _, refl)) insert_is (Unstorable (rows_of g old) (line ∷ []))
-      (λ x does. stops x (put_stops (state g old) holds line (Some x) does)) (λ does. (line, (0, lit< tt, refl), put_stops (state g old) holds line None does)) e h
+      write_failed insert_text (Text line ∷ []) insert_plain insert_whole (state g old) (state g new) up holds.schema_is insert_command
+      (inl (0, _, refl)) insert_is (Unstorable (rows_of g old) (line ∷ []))
+      (λ x does. stops x (put_stops (state g old) holds line (Some x) does)) (λ does. (line, (0, lit< tt, refl), put_stops (state g old) holds line None does))
+      e h

@@ -26,7 +26,8 @@ module _ (old new : State) (inside : old.in_transaction ≡ true) where
   unanswered sql params e (inl none) = not_run sql params e none
   unanswered sql params e (inr ran) = showing sql ran.0 _ e ran.0.returning ran.2
 
-  answers : (sql : List ℕ) (c : Compiled) (params : Row) (rows : List Row) (what : Option Returning) → ShowsRows old new sql c params rows what → KeepsCommit old new
+  answers : (sql : List ℕ) (c : Compiled) (params : Row) (rows : List Row) (what : Option Returning) → ShowsRows old new sql c params rows what
+      → KeepsCommit old new
   answers sql c params rows None h = same_commit old new h.3
   answers sql c params rows (Some what) h = record {
     was_open = λ up. h.1.shown.was_open;
@@ -37,7 +38,8 @@ module _ (old new : State) (inside : old.in_transaction ≡ true) where
   unfolding Shown
   answered sql params rows h = answers sql h.0 _ rows h.0.returning h.2
 
-  was_open : (sql : List ℕ) (c : Compiled) (params : Row) (rows : List Row) (what : Option Returning) → ShowsRows old new sql c params rows what → old.is_open ≡ true
+  was_open : (sql : List ℕ) (c : Compiled) (params : Row) (rows : List Row) (what : Option Returning) → ShowsRows old new sql c params rows what → old.is_open
+      ≡ true
   was_open sql c params rows None h = h.3.0.was_open
   was_open sql c params rows (Some what) h = h.1.shown.was_open
 
@@ -46,7 +48,8 @@ module _ (old new : State) (inside : old.in_transaction ≡ true) where
   answered_open sql params rows h = was_open sql h.0 _ rows h.0.returning h.2
 
 -- a query that returns rows changes nothing
-pub unchanged : (schema : Schema) (sql : List ℕ) (params : Row) → IsPlain (understood schema sql) → (old new : State) → old.now.schema ≡ schema → (rows : List Row) → Shown sql params old new rows
+pub unchanged : (schema : Schema) (sql : List ℕ) (params : Row) → IsPlain (understood schema sql) → (old new : State) → old.now.schema ≡ schema
+    → (rows : List Row) → Shown sql params old new rows
     → IsUnchanged old new
 unfolding Shown
 unchanged schema sql params plain old new has rows h =

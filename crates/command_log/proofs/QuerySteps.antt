@@ -1,5 +1,6 @@
 -- The queries of lines, however they end.
-use Rattle.std.proofs.Common.{◌≡◌, ◌⊎◌, inl, inr, ℕ, ℤ, pos, List, [], ◌∷◌, map, drop, true, Option, None, Some, Ok, Err, Result, IfOk, OnOk, IfErr, Vec, refl, sym, ap, subst, ◌∙◌}
+use Rattle.std.proofs.Common.{◌≡◌, ◌⊎◌, inl, inr, ℕ, ℤ, pos, List, [], ◌∷◌, map, drop, true, Option, None, Some, Ok, Err, Result, IfOk, OnOk, IfErr, Vec, refl}
+use Rattle.std.proofs.Common.{sym, ap, subst, ◌∙◌}
 use Rattle.std.specs.declared.alloc.Global.{Global}
 use Rattle.sqlite.specs.Order.{Row}
 use Rattle.sqlite.specs.Query.{as_count, limited}
@@ -9,14 +10,15 @@ use Rattle.sqlite.specs.Store.{Ghosts}
 use Rattle.sqlite.specs.Held.{Held, state}
 use Rattle.sqlite.specs.Effect.{Database}
 use Rattle.sqlite.specs.State.{State, IsUnchanged, KeepsCommit, FailsToQuery, Shown, IsTooLate}
-use Rattle.command_log.specs.Lines.{HoldsLog, IsOpen, IsLog, GivesRows, lines_left, lines_after, IsLineRow, shown, rows_after, text_in, place_after}
+use Rattle.command_log.specs.Lines.{HoldsLog, IsOpen, IsLog, GivesRows, lines_left, lines_after, IsLineRow, row_of_query, rows_after, text_in, place_after}
 use Rattle.command_log.proofs.Putting.{same_commit}
 use Rattle.command_log.proofs.Queries.{answered, unanswered, answered_open, unchanged}
 use Rattle.sqlite.specs.Term.{lit, col}
 use Rattle.table_rows.proofs.Answering as answering
 use Rattle.command_log.specs.Faults.{fault_of, IsCaused, Nothing, Unreadable, AreText}
 use Rattle.command_log.proofs.Causes.{query_failed}
-use Rattle.command_log.proofs.Texts.{first_text, later_text, query, projects, orders, wheres, names, first_is, first_plain, first_whole, later_is, later_plain, later_whole}
+use Rattle.command_log.proofs.Texts.{first_text, later_text, query, projects, orders, wheres, names, first_is, first_plain, first_whole, later_is, later_plain}
+use Rattle.command_log.proofs.Texts.{later_whole}
 use Rattle.command_log.proofs.Reading.{reads_first, reads_later}
 use Rattle.std.specs.Prelude.{IsUtf8, All}
 use Rattle.std.proofs.lemmas.List.Elements.{All-take}
@@ -28,7 +30,8 @@ use Rattle.command_log.specs.Table.{log_schema}
 use Rattle.command_log.proofs.Typed.{all_lines}
 use Rattle.command_log.proofs.Batches.{texts, left}
 
-pub keeps_commit : (sql : List ℕ) (params : Row) (old new : State) → old.in_transaction ≡ true → (r : Result (Vec Row Global) Error) → IfOk r (λ rows. Shown sql params old new rows.items)
+pub keeps_commit : (sql : List ℕ) (params : Row) (old new : State) → old.in_transaction ≡ true → (r : Result (Vec Row Global) Error)
+    → IfOk r (λ rows. Shown sql params old new rows.items)
     → IfErr r (λ e. FailsToQuery sql params old new e ⊎ IsTooLate sql params old new e) → KeepsCommit old new
 keeps_commit sql params old new inside (Ok rows) ok err = answered old new inside sql params rows.items ok
 keeps_commit sql params old new inside (Err e) ok (inl failed) = unanswered old new inside sql params e failed
@@ -42,7 +45,8 @@ module _ {S : Type 0} (g : Ghosts S) (old new : Held S) (inside : old.in_transac
       (up, reads_first (state g old) (state g new) limit rows.items (holds up) ok)
   gives_first limit (Err e) ok = tt
 
-  pub gives_later : (n limit : ℤ) (r : Result (Vec Row Global) Error) → IfOk r (λ rows. Shown later_text (Int n ∷ Int limit ∷ []) (state g old) (state g new) rows.items)
+  pub gives_later : (n limit : ℤ) (r : Result (Vec Row Global) Error)
+      → IfOk r (λ rows. Shown later_text (Int n ∷ Int limit ∷ []) (state g old) (state g new) rows.items)
       → IfOk r (λ rows. GivesRows g old (Some n) limit rows.items)
   gives_later n limit (Ok rows) ok =
       let up = answered_open (state g old) (state g new) inside later_text (Int n ∷ Int limit ∷ []) rows.items ok in
@@ -56,7 +60,8 @@ module _ {S : Type 0} (g : Ghosts S) (old new : Held S) (inside : old.in_transac
       unchanged log_schema first_text (Int limit ∷ []) first_plain (state g old) (state g new) (holds up).schema_is rows.items ok
   same_first limit (Err e) ok = tt
 
-  pub same_later : (n limit : ℤ) (r : Result (Vec Row Global) Error) → IfOk r (λ rows. Shown later_text (Int n ∷ Int limit ∷ []) (state g old) (state g new) rows.items)
+  pub same_later : (n limit : ℤ) (r : Result (Vec Row Global) Error)
+      → IfOk r (λ rows. Shown later_text (Int n ∷ Int limit ∷ []) (state g old) (state g new) rows.items)
       → OnOk r (IsUnchanged (state g old) (state g new))
   same_later n limit (Ok rows) ok =
       let up = answered_open (state g old) (state g new) inside later_text (Int n ∷ Int limit ∷ []) rows.items ok in
@@ -65,34 +70,40 @@ module _ {S : Type 0} (g : Ghosts S) (old new : Held S) (inside : old.in_transac
 
 module _ {S : Type 0} (g : Ghosts S) (old new : Held S) (inside : old.in_transaction ≡ true) (up : IsOpen g old) (holds : HoldsLog (state g old).now) where
   pub first_failed : (limit : ℤ) (r : Result (Vec Row Global) Error)
-      → IfErr r (λ e. FailsToQuery first_text (Int limit ∷ []) (state g old) (state g new) e ⊎ IsTooLate first_text (Int limit ∷ []) (state g old) (state g new) e)
+      → IfErr r (λ e. FailsToQuery first_text (Int limit ∷ []) (state g old) (state g new) e ⊎ IsTooLate first_text (Int limit ∷ []) (state g old)
+      (state g new) e)
       → IfErr r (λ e. IsCaused (state g old) (state g new) Nothing (fault_of e))
   first_failed limit (Ok rows) err = tt
   first_failed limit (Err e) err =
-      query_failed first_text (Int limit ∷ []) first_plain first_whole (state g old) (state g new) up holds.schema_is (query [] (col 0 0)) names first_is.0 first_is.1 refl
+      query_failed first_text (Int limit ∷ []) first_plain first_whole (state g old) (state g new) up holds.schema_is (query [] (col 0 0)) names first_is.0
+      first_is.1 refl
       (λ db. answering.never_sums 0 [] projects [] orders (col 0 0) (lit (Int (pos 0))) db (Int limit ∷ [])) Nothing e inside err
 
   pub later_failed : (n limit : ℤ) (r : Result (Vec Row Global) Error)
-      → IfErr r (λ e. FailsToQuery later_text (Int n ∷ Int limit ∷ []) (state g old) (state g new) e ⊎ IsTooLate later_text (Int n ∷ Int limit ∷ []) (state g old) (state g new) e)
+      → IfErr r (λ e. FailsToQuery later_text (Int n ∷ Int limit ∷ []) (state g old) (state g new) e ⊎ IsTooLate later_text (Int n ∷ Int limit ∷ [])
+      (state g old) (state g new) e)
       → IfErr r (λ e. IsCaused (state g old) (state g new) Nothing (fault_of e))
   later_failed n limit (Ok rows) err = tt
   later_failed n limit (Err e) err =
-      query_failed later_text (Int n ∷ Int limit ∷ []) later_plain later_whole (state g old) (state g new) up holds.schema_is (query wheres (col 0 1)) names later_is.0 later_is.1 refl
+      query_failed later_text (Int n ∷ Int limit ∷ []) later_plain later_whole (state g old) (state g new) up holds.schema_is (query wheres (col 0 1)) names
+      later_is.0 later_is.1 refl
       (λ db. answering.never_sums 0 wheres projects [] orders (col 0 1) (lit (Int (pos 0))) db (Int n ∷ Int limit ∷ [])) Nothing e inside err
 
 -- what the rows say of a log
-module _ {S : Type 0} (g : Ghosts S) (old : Held S) (log : IsLog g old) (place : Option ℤ) (limit : ℤ) (rows : List Row) (gives : GivesRows g old place limit rows) where
+module _ {S : Type 0} (g : Ghosts S) (old : Held S) (log : IsLog g old) (place : Option ℤ) (limit : ℤ) (rows : List Row)
+    (gives : GivesRows g old place limit rows) where
   settled : (after : Option ℤ) → lines_after after (state g old).now.trees ≡ lines_left g old after
   settled after = ap (λ (d : Database). lines_after after d.trees) (sym (log.idle.settled gives.0))
 
   pub lines_read : map text_in rows ≡ limited (as_count (Int limit)) (lines_left g old place)
   lines_read =
-      ap (map text_in) gives.1 ∙ texts place ((state g old).now.trees 0) (log.holds gives.0).rising (as_count (Int limit)) ∙ ap (limited (as_count (Int limit))) (settled place)
+      ap (map text_in) gives.1 ∙ texts place ((state g old).now.trees 0) (log.holds gives.0).rising (as_count (Int limit)) ∙ ap (limited (as_count (Int limit)))
+      (settled place)
 
   pub lines_unread : (n : ℕ) → limit ≡ pos n → lines_left g old (place_after place rows) ≡ drop n (lines_left g old place)
   lines_unread n is =
-      let all : rows ≡ limited (as_count (Int (pos n))) (map shown (rows_after place ((state g old).now.trees 0)))
-      = subst (λ k. rows ≡ limited (as_count (Int k)) (map shown (rows_after place ((state g old).now.trees 0)))) is gives.1 in
+      let all : rows ≡ limited (as_count (Int (pos n))) (map row_of_query (rows_after place ((state g old).now.trees 0)))
+      = subst (λ k. rows ≡ limited (as_count (Int k)) (map row_of_query (rows_after place ((state g old).now.trees 0)))) is gives.1 in
       sym (settled (place_after place rows)) ∙ ap (λ l. lines_after (place_after place l) (state g old).now.trees) all
       ∙ left place ((state g old).now.trees 0) (log.holds gives.0).rising n ∙ ap (drop n) (settled place)
 

@@ -1,5 +1,6 @@
 -- What the queries of lines return.
-use Rattle.std.proofs.Common.{◌≡◌, ◌⊎◌, ◌<◌, inl, inr, ℕ, ℤ, pos, length, get_or, All, List, [], ◌∷◌, map, filter, true, false, Bool, ◌&&◌, Some, cond, Ordering, Less, Equal, Greater, refl, sym, ap, subst, ◌∙◌}
+use Rattle.std.proofs.Common.{◌≡◌, ◌⊎◌, ◌<◌, inl, inr, ℕ, ℤ, pos, length, get_or, All, List, [], ◌∷◌, map, filter, true, false, Bool, ◌&&◌, Some, cond}
+use Rattle.std.proofs.Common.{Ordering, Less, Equal, Greater, refl, sym, ap, subst, ◌∙◌}
 use Rattle.std.specs.Prelude.{IsTrue, IsUtf8}
 use Rattle.std.proofs.lemmas.List.{get_or-map, length-map}
 use Rattle.std.proofs.lemmas.List.Elements.{All-get_or}
@@ -29,15 +30,16 @@ use Rattle.sqlite_rules.proofs.TableLemmas.{int_is}
 use Rattle.sqlite_rules.proofs.ListLemmas.{all_has, all_from, has_filtered}
 use Rattle.sqlite.specs.State.{State, Shown}
 use Rattle.sqlite.proofs.Callers.{reads_as}
-use Rattle.table_rows.specs.Sorting.{sorted, put_sorted}
+use Rattle.table_rows.specs.Sorting.{in_order, put_sorted}
 use Rattle.table_rows.proofs.Answering as answering
 use Rattle.command_log.specs.Table.{log_schema}
-use Rattle.command_log.specs.Lines.{HoldsLog, IsLineRow, is_past, rows_after, shown, text_in}
+use Rattle.command_log.specs.Lines.{HoldsLog, IsLineRow, is_past, rows_after, row_of_query, text_in}
 use Rattle.command_log.proofs.Texts.{first_text, later_text, query, projects, orders, wheres, names, first_is, first_plain, later_is, later_plain}
 
 -- a list that rises is in order
-sorted_is : {X : Type 0} (R : X → X → Ordering) (f : Row → X) (rows : List Row) → IsTable rows → ((a b : Row) → value_cmp (rowid a) (rowid b) ≡ Less → R (f a) (f b) ≡ Less)
-    → sorted R (map f rows) ≡ map f rows
+sorted_is : {X : Type 0} (R : X → X → Ordering) (f : Row → X) (rows : List Row) → IsTable rows → ((a b : Row) → value_cmp (rowid a) (rowid b) ≡ Less
+    → R (f a) (f b) ≡ Less)
+    → in_order R (map f rows) ≡ map f rows
 sorted_is R f [] up less = refl
 sorted_is R f (r ∷ []) up less = refl
 sorted_is R f (r ∷ y ∷ rows) up less =
@@ -71,16 +73,18 @@ module _ (tests : List Term) (limit : Term) (params : Row) where
   apart [] up = tt
   apart (r ∷ rows) up = (each rows up.0, apart rows up.1)
     where
-      each : (xs : List Row) → AllByRecursion (λ b. value_cmp (rowid r) (rowid b) ≡ Less) xs → AllByRecursion (λ o. eq_by_cmp (output_cmp (query tests limit)) (out r) o ≡ false) (map out xs)
+      each : (xs : List Row) → AllByRecursion (λ b. value_cmp (rowid r) (rowid b) ≡ Less) xs
+          → AllByRecursion (λ o. eq_by_cmp (output_cmp (query tests limit)) (out r) o ≡ false) (map out xs)
       each [] all = tt
       each (b ∷ xs) all = (ap is_eq (by_number r b all.0), each xs all.1)
 
-  shown_are : (rows : List Row) → map (λ (o : Output). o.1) (map out rows) ≡ map shown rows
+  shown_are : (rows : List Row) → map (λ (o : Output). o.1) (map out rows) ≡ map row_of_query rows
   shown_are [] = refl
-  shown_are (r ∷ rows) = ap (λ l. shown r ∷ l) (shown_are rows)
+  shown_are (r ∷ rows) = ap (λ l. row_of_query r ∷ l) (shown_are rows)
 
   -- the rows that pass, in order, up to the limit
-  shows : (db : Trees) (rows : List Row) → IsTable (db 0) → IsAnswer (query tests limit) db params rows → rows ≡ page (query tests limit) params (map shown (filter passes (db 0)))
+  shows : (db : Trees) (rows : List Row) → IsTable (db 0) → IsAnswer (query tests limit) db params rows → rows
+      ≡ page (query tests limit) params (map row_of_query (filter passes (db 0)))
   shows db rows up a =
       let kept : List Row = filter passes (db 0) in
       let rising : IsTable kept = table_filter passes (db 0) up in
@@ -89,12 +93,14 @@ module _ (tests : List Term) (limit : Term) (params : Row) where
       ∙ ap (page (query tests limit) params) (shown_are kept)
 
 pub reads_first : (old new : State) (limit : ℤ) (rows : List Row) → HoldsLog old.now → Shown first_text (Int limit ∷ []) old new rows
-    → rows ≡ limited (as_count (Int limit)) (map shown (old.now.trees 0))
+    → rows ≡ limited (as_count (Int limit)) (map row_of_query (old.now.trees 0))
 reads_first old new limit rows holds h =
     let params : Row = Int limit ∷ [] in
     let db = old.now.trees in
-    let read = reads_as first_text params old new log_schema holds.schema_is (Select (record { lets = []; body = query [] (col 0 0) }) names) first_is.0 first_plain first_is.1 rows h in
-    shows [] (col 0 0) params (overlay db []) rows holds.rising.0 (read.answer Null) ∙ ap (λ l. limited (as_count (Int limit)) (map shown l)) (every (db 0))
+    let read = reads_as first_text params old new log_schema holds.schema_is (Select (record { lets = []; body = query [] (col 0 0) }) names) first_is.0
+    first_plain first_is.1 rows h in
+    shows [] (col 0 0) params (overlay db []) rows holds.rising.0 (read.answer Null) ∙ ap (λ l. limited (as_count (Int limit)) (map row_of_query l))
+    (every (db 0))
 
 -- ---- the test of WHERE
 
@@ -108,21 +114,26 @@ unfolding binary
 number_above n m = ap (λ o. is_true (from_truth (Some (test Gt o))) && true) (value_cmp-Int m n ∙ int_cmp_total.antisymm m n) ∙ above (int_cmp n m)
 
 past_is : (n : ℤ) (r : Row) → IsTrue (is_int (rowid r)) → (is_true (binary (Compare Gt Binary) (rowid r) (Int n)) && true) ≡ is_past n r
-past_is n r keyed = subst (λ v. (is_true (binary (Compare Gt Binary) v (Int n)) && true) ≡ is_past n r) (sym (int_is (rowid r) keyed)) (number_above n (id_in (rowid r)))
+past_is n r keyed = subst (λ v. (is_true (binary (Compare Gt Binary) v (Int n)) && true) ≡ is_past n r) (sym (int_is (rowid r) keyed))
+    (number_above n (id_in (rowid r)))
 
-past_are : (n limit : ℤ) (rows : List Row) → AllByRecursion (λ r. IsTrue (is_int (rowid r))) rows → filter (passes wheres (col 0 1) (Int n ∷ Int limit ∷ [])) rows ≡ filter (is_past n) rows
+past_are : (n limit : ℤ) (rows : List Row) → AllByRecursion (λ r. IsTrue (is_int (rowid r))) rows → filter (passes wheres (col 0 1) (Int n ∷ Int limit ∷ []))
+    rows ≡ filter (is_past n) rows
 past_are n limit [] keyed = refl
 past_are n limit (r ∷ rows) keyed =
     let later = past_are n limit rows keyed.1 in
-    ap (λ l. cond (passes wheres (col 0 1) (Int n ∷ Int limit ∷ []) r) (r ∷ l) l) later ∙ ap (λ b. cond b (r ∷ filter (is_past n) rows) (filter (is_past n) rows)) (past_is n r keyed.0)
+    ap (λ l. cond (passes wheres (col 0 1) (Int n ∷ Int limit ∷ []) r) (r ∷ l) l) later
+    ∙ ap (λ b. cond b (r ∷ filter (is_past n) rows) (filter (is_past n) rows)) (past_is n r keyed.0)
 
 pub reads_later : (old new : State) (n limit : ℤ) (rows : List Row) → HoldsLog old.now → Shown later_text (Int n ∷ Int limit ∷ []) old new rows
-    → rows ≡ limited (as_count (Int limit)) (map shown (rows_after (Some n) (old.now.trees 0)))
+    → rows ≡ limited (as_count (Int limit)) (map row_of_query (rows_after (Some n) (old.now.trees 0)))
 reads_later old new n limit rows holds h =
     let params : Row = Int n ∷ Int limit ∷ [] in
     let db = old.now.trees in
-    let read = reads_as later_text params old new log_schema holds.schema_is (Select (record { lets = []; body = query wheres (col 0 1) }) names) later_is.0 later_plain later_is.1 rows h in
-    shows wheres (col 0 1) params (overlay db []) rows holds.rising.0 (read.answer Null) ∙ ap (λ l. limited (as_count (Int limit)) (map shown l)) (past_are n limit (db 0) holds.rising.1)
+    let read = reads_as later_text params old new log_schema holds.schema_is (Select (record { lets = []; body = query wheres (col 0 1) }) names) later_is.0
+    later_plain later_is.1 rows h in
+    shows wheres (col 0 1) params (overlay db []) rows holds.rising.0 (read.answer Null) ∙ ap (λ l. limited (as_count (Int limit)) (map row_of_query l))
+    (past_are n limit (db 0) holds.rising.1)
 
 -- ---- the rows as lines
 
@@ -131,9 +142,11 @@ line_at rows i row low is all = subst IsLineRow (sym is) (All-get_or IsLineRow r
 
 not_all : (rows : List Row) (i : ℕ) (row : Row) → i < length rows → row ≡ get_or rows i row → ¬ IsUtf8 (text_in row) → ¬ AreText (map text_in rows)
 not_all rows i row low is bad all =
-    bad (subst IsUtf8 (get_or-map text_in rows i row (text_in row) low ∙ ap text_in (sym is)) (All-get_or IsUtf8 (map text_in rows) i (text_in row) (subst (λ n. i < n) (sym (length-map rows text_in)) low) all))
+    bad (subst IsUtf8 (get_or-map text_in rows i row (text_in row) low ∙ ap text_in (sym is)) (All-get_or IsUtf8 (map text_in rows) i (text_in row)
+    (subst (λ n. i < n) (sym (length-map rows text_in)) low) all))
 
-pub no_text : (rows : List Row) (i : ℕ) (row : Row) → i < length rows → row ≡ get_or rows i row → (e : Error) → (e ≡ SqliteFailure OutOfMemory) ⊎ ((e ≡ Utf8Error 1) × ¬ IsUtf8 (text_in row))
+pub no_text : (rows : List Row) (i : ℕ) (row : Row) → i < length rows → row ≡ get_or rows i row → (e : Error) → (e ≡ SqliteFailure OutOfMemory)
+    ⊎ ((e ≡ Utf8Error 1) × ¬ IsUtf8 (text_in row))
     → (e ≡ SqliteFailure OutOfMemory) ⊎ ((e ≡ Utf8Error 1) × ¬ AreText (map text_in rows))
 no_text rows i row low is e (inl memory) = inl memory
 no_text rows i row low is e (inr bad) = inr (bad.0, not_all rows i row low is bad.1)

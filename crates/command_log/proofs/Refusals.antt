@@ -1,5 +1,6 @@
 -- Why INSERT of a line, and DELETE of all, are refused.
-use Rattle.std.proofs.Common.{◌≡◌, ◌⊎◌, inl, inr, ℕ, zero, suc, ◌+◌, ◌^◌, ◌≤◌, ℤ, List, [], ◌∷◌, true, false, Bool, not, ◌&&◌, Err, Result, Option, Some, None, option_map, length, length-append, lit<, lit≤, refl, sym, ap, subst, ◌∙◌, arith}
+use Rattle.std.proofs.Common.{◌≡◌, ◌⊎◌, inl, inr, ℕ, zero, suc, ◌+◌, ◌^◌, ◌≤◌, ℤ, List, [], ◌∷◌, true, false, Bool, not, ◌&&◌, Err, Result, Option, Some, None}
+use Rattle.std.proofs.Common.{option_map, length, length-append, lit<, lit≤, refl, sym, ap, subst, ◌∙◌, arith}
 use Rattle.std.proofs.Common.{true≢false, Less, pos, negsuc}
 use Rattle.std.specs.Prelude.{IsSome, nat_lt}
 use Rattle.std.specs.List.{AllByRecursion, list_all, list_any}
@@ -127,7 +128,8 @@ module _ (old : State) (holds : HoldsLog old.now) (line : List ℕ) where
   -- why it stops: the row is too large, the numbers are used up, or a limit on steps was met
   abbrev pub PutStops : Option Error → Type 0
   PutStops None = IsTooLong line
-  PutStops (Some e) = ((e ≡ SqliteFailure code.OperationInterrupted) × IsSome old.step_limit) ⊎ ((e ≡ SqliteFailure code.NoRowid) × (fits_i64 (next_rowid rows) ≡ false))
+  PutStops (Some e) = ((e ≡ SqliteFailure code.OperationInterrupted) × IsSome old.step_limit)
+      ⊎ ((e ≡ SqliteFailure code.NoRowid) × (fits_i64 (next_rowid rows) ≡ false))
 
   abbrev put : List Row → Edit
   put sources = edit_of old.now.trees command_table [] Chosen 0 sources
@@ -153,7 +155,8 @@ module _ (old : State) (holds : HoldsLog old.now) (line : List ℕ) where
       | inl is ↦ elim (cases_order (10 ^ 9) (54 + length line)) [
         | inl same ↦ absurd (unstorable (subst (IsStorableRow (table_reals command_table)) (sym is) (storable (next_rowid rows) line (omega (arith, same)))))
         | inr (inl big) ↦ big
-        | inr (inr small) ↦ absurd (unstorable (subst (IsStorableRow (table_reals command_table)) (sym is) (storable (next_rowid rows) line (omega (arith, small)))))
+        | inr (inr small) ↦ absurd
+            (unstorable (subst (IsStorableRow (table_reals command_table)) (sym is) (storable (next_rowid rows) line (omega (arith, small)))))
       ]
       | inr none ↦ absurd none
     ]
@@ -178,12 +181,16 @@ module _ (old : State) (holds : HoldsLog old.now) (line : List ℕ) where
   inserts stop (inl (s, h, same)) = subst PutStops (sym (stopped_by same)) (sourced s h)
   inserts stop (inr (sources, h, inl (s, counted, same))) = absurd (let e = counted in cc)
   inserts stop (inr (sources, h, inr (c, counted, inl (s, it, same)))) =
-      let news : (put sources).news ≡ new ∷ [] = ap (λ all. (put all).news) h.1 ∙ rw cast_null refl in subst PutStops (sym (stopped_by same)) (edited sources news s it)
+      let news : (put sources).news ≡ new ∷ [] = ap (λ all. (put all).news) h.1 ∙ rw cast_null refl in subst PutStops (sym (stopped_by same))
+      (edited sources news s it)
   inserts stop (inr (sources, h, inr (c, counted, inr (mid, it, inl (s, counts, same))))) = absurd (let e = counts in cc)
   inserts stop (inr (sources, h, inr (c, counted, inr (mid, it, inr (next, counts, gives))))) = absurd (let e = gives in cc)
 
-  pub put_stops : (stop : Option Error) → Does old.step_limit (mode_of old) given old.now (statement_of insert_text (understood log_schema insert_text)) None insert_command (Err stop) → PutStops stop
-  put_stops stop h = go (subst (λ s. Does old.step_limit (mode_of old) given (record old.now { schema = s }) (statement_of insert_text (understood log_schema insert_text)) None insert_command (Err stop)) holds.schema_is h)
+  pub put_stops : (stop : Option Error) → Does old.step_limit (mode_of old) given old.now (statement_of insert_text (understood log_schema insert_text)) None
+      insert_command (Err stop) → PutStops stop
+  put_stops stop h = go
+      (subst (λ s. Does old.step_limit (mode_of old) given (record old.now { schema = s }) (statement_of insert_text (understood log_schema insert_text)) None
+      insert_command (Err stop)) holds.schema_is h)
     where
       go : Then (Inserts (task old given) source old.now.trees) (Concludes (task old given) (mode_of old) None) (Err stop) → PutStops stop
       go (inl (s, it, same)) = subst PutStops (sym (stopped_by same)) (inserts s it)
@@ -230,7 +237,8 @@ module _ (old : State) (holds : HoldsLog old.now) where
   queried : (stop : Option Error) → Queried old.step_limit (record { schema = log_schema; trees = old.now.trees }) program [] (Err stop) → ClearStops stop
   queried None h = absurd h
   queried (Some e) (inl mismatch) = absurd (true≢false (sym typed ∙ mismatch.1))
-  queried (Some e) (inr (inl sum)) = absurd (answering.never_sums 0 [] (col 1 0 ∷ []) [] [] (lit (Int (negsuc 0))) (lit (Int (pos 0))) (overlay old.now.trees []) [] sum.1)
+  queried (Some e) (inr (inl sum)) = absurd (answering.never_sums 0 [] (col 1 0 ∷ []) [] [] (lit (Int (negsuc 0))) (lit (Int (pos 0)))
+      (overlay old.now.trees []) [] sum.1)
   queried (Some e) (inr (inr late)) = late
 
   deletes : (stop : Option Error) → Deletes (task old []) program old.now.trees (Err stop) → ClearStops stop
@@ -238,8 +246,11 @@ module _ (old : State) (holds : HoldsLog old.now) where
   deletes stop (inr (found, h, inl (s, it, same))) = absurd (cut_edited found s it)
   deletes stop (inr (found, h, inr (next, it, gives))) = absurd (let e = gives in cc)
 
-  pub clear_stops : (stop : Option Error) → Does old.step_limit (mode_of old) [] old.now (statement_of clear_text (understood log_schema clear_text)) None clear_command (Err stop) → ClearStops stop
-  clear_stops stop h = go (subst (λ s. Does old.step_limit (mode_of old) [] (record old.now { schema = s }) (statement_of clear_text (understood log_schema clear_text)) None clear_command (Err stop)) holds.schema_is h)
+  pub clear_stops : (stop : Option Error) → Does old.step_limit (mode_of old) [] old.now (statement_of clear_text (understood log_schema clear_text)) None
+      clear_command (Err stop) → ClearStops stop
+  clear_stops stop h = go
+      (subst (λ s. Does old.step_limit (mode_of old) [] (record old.now { schema = s }) (statement_of clear_text (understood log_schema clear_text)) None
+      clear_command (Err stop)) holds.schema_is h)
     where
       go : Then (Deletes (task old []) program old.now.trees) (Concludes (task old []) (mode_of old) None) (Err stop) → ClearStops stop
       go (inl (s, it, same)) = subst ClearStops (sym (stopped_by same)) (deletes s it)

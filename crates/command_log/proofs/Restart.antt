@@ -38,18 +38,22 @@ not_nothing : (db : Trees) → IsSound log_schema db → IsSound no_schema db �
 not_nothing db log none = no_zip _ _ _ _ none.lists.listed.tables log.lists.listed.tables
 
 -- what trees hold as a log is told by the trees
-pub same_lines : (db : Trees) (lines : List (List ℕ)) → IsSound log_schema db → (d : Database) → IsDatabase d → d.trees ≡ db → HoldsLines d lines → lines ≡ lines_in db
+pub same_lines : (db : Trees) (lines : List (List ℕ)) → IsSound log_schema db → (d : Database) → IsDatabase d → d.trees ≡ db → HoldsLines d lines → lines
+    ≡ lines_in db
 same_lines db lines log d sound is (inl table) = table.1 ∙ ap lines_in is
 same_lines db lines log d sound is (inr none) = absurd (not_nothing db log (subst (IsSound no_schema) is (subst (λ s. IsSound s d.trees) none.0 sound)))
 
 only_these : (image : Image) (db : Trees) → IsSound log_schema db → ∥ HoldsDatabase image db ∥₁ → FindsOnly image (lines_in db)
 only_these image db sound held found finds = ∥∥₁_elim held (lists_set found (lines_in db)) (λ h. let f = finds db h in same_lines db found sound _ f.1 refl f.2)
 
-module _ {D : Type 0} {g : Ghosts D} (log : Held (FileStore D g)) (is : IsLog over_files log) (live : IsOpen over_files log → IsDatabase (file_state log).committed) where
+module _ {D : Type 0} {g : Ghosts D} (log : Held (FileStore D g)) (is : IsLog over_files log) (live : IsOpen over_files log
+    → IsDatabase (file_state log).committed) where
   sound_log : IsOpen over_files log → IsSound log_schema (file_state log).committed.trees
-  sound_log up = subst (λ s. IsSound s (file_state log).committed.trees) (ap (λ (d : Database). d.schema) (is.idle.settled up) ∙ (is.holds up).schema_is) (live up)
+  sound_log up = subst (λ s. IsSound s (file_state log).committed.trees) (ap (λ (d : Database). d.schema) (is.idle.settled up) ∙ (is.holds up).schema_is)
+      (live up)
 
-  pub found_again : IsTrue (store.view log.store).is_numbered → ((db : Trees) → IsOpen over_files log → store.recovers log.store db → db ≡ (store.view log.store).committed) → IsFoundAgain log
+  pub found_again : IsTrue (store.view log.store).is_numbered → ((db : Trees) → IsOpen over_files log → store.recovers log.store db → db
+      ≡ (store.view log.store).committed) → IsFoundAgain log
   found_again numbered settled up image may =
       let sound = sound_log up in
       let databases : AreDatabases (store.recovers log.store) = λ t r. (log_schema, subst (IsSound log_schema) (sym (settled t up r)) sound) in

@@ -1,5 +1,6 @@
 -- What a log is left as, however its calls end.
-use Rattle.std.proofs.Common.{◌≡◌, ◌≤◌, inl, inr, ℕ, List, [], ◌∷◌, ◌++◌, true, false, Ok, Err, Result, OnOk, OnErr, IfErr, map, length, ◌<◌, refl, sym, ap, subst, ◌∙◌, true≢false, length-append, arith}
+use Rattle.std.proofs.Common.{◌≡◌, ◌≤◌, inl, inr, ℕ, List, [], ◌∷◌, ◌++◌, true, false, Ok, Err, Result, OnOk, OnErr, IfErr, map, length, ◌<◌, refl, sym, ap}
+use Rattle.std.proofs.Common.{subst, ◌∙◌, true≢false, length-append, arith}
 use Rattle.std.proofs.Common.{zero, suc, pos, ◌+ℤ◌, take, Contains}
 use Rattle.std.proofs.Common.{get_or}
 use Rattle.std.proofs.lemmas.List.Elements.{Contains-get_or}
@@ -76,7 +77,8 @@ module _ {S : Type 0} (g : Ghosts S) where
       }
 
   -- a commit that fails
-  pub not_committed : (last end : Held S) (e : Error) → last.in_transaction ≡ true → FailsToCommit (state g last) (state g end) e → IsRolledBack (state g last) (state g end)
+  pub not_committed : (last end : Held S) (e : Error) → last.in_transaction ≡ true → FailsToCommit (state g last) (state g end) e
+      → IsRolledBack (state g last) (state g end)
   not_committed last end e inside (inl broke) = broke.3
   not_committed last end e inside (inr late) = absurd (let no_more = late.1 in cc)
 
@@ -86,7 +88,8 @@ module _ {S : Type 0} (g : Ghosts S) where
     pub log : IsLog g end
     pub lines : IsOpen g end → lines_of g end ≡ lines_of g old ++ more
 
-  pub committed : ShutsIfDirty → (old last end : Held S) (more : List (List ℕ)) → IsLog g old → doubt (g.view last.store).is_clean ≤ doubt (g.view end.store).is_clean
+  pub committed : ShutsIfDirty → (old last end : Held S) (more : List (List ℕ)) → IsLog g old → doubt (g.view last.store).is_clean ≤ doubt
+      (g.view end.store).is_clean
       → (HasCleanDisk (state g last) → Puts g (begun old) last more) → end.in_transaction ≡ false
       → (HasCleanDisk (state g end) → Shows (state g last) (state g end) (state g last).now (state g last).now false) → IsCommitted old end more
   committed law old last end more log falls puts ended shows =
@@ -102,7 +105,8 @@ module _ {S : Type 0} (g : Ghosts S) where
       }
 
   -- what a commit may leave
-  pub appended : (old last : Held S) (more : List (List ℕ)) → IsLog g old → Puts g (begun old) last more → (db : Trees) → db ≡ (state g last).now.trees → IsAppended g old more db
+  pub appended : (old last : Held S) (more : List (List ℕ)) → IsLog g old → Puts g (begun old) last more → (db : Trees) → db ≡ (state g last).now.trees
+      → IsAppended g old more db
   appended old last more log put db is = (
     put.was_open,
     record {
@@ -114,7 +118,8 @@ module _ {S : Type 0} (g : Ghosts S) where
 
   -- ---- one more line
 
-  pub puts_more : (old mid new : Held S) (more : List (List ℕ)) (line : List ℕ) → PutsAny g old mid more → Puts g mid new (line ∷ []) → Puts g old new (more ++ line ∷ [])
+  pub puts_more : (old mid new : Held S) (more : List (List ℕ)) (line : List ℕ) → PutsAny g old mid more → Puts g mid new (line ∷ [])
+      → Puts g old new (more ++ line ∷ [])
   puts_more old mid new more line (inl none) one =
       subst (λ l. Puts g old new (l ++ line ∷ [])) (sym none.0) (subst (λ h. Puts g h new (line ∷ [])) none.1 one)
   puts_more old mid new more line (inr put) one = record {
@@ -127,7 +132,8 @@ module _ {S : Type 0} (g : Ghosts S) where
     number = omega (arith, ints, one.number, put.number, length-append more (line ∷ []));
   }
 
-  pub puts_hold : ShutsIfDirty → (old now : Held S) (more : List (List ℕ)) → (IsOpen g old → HoldsLog (state g old).now) → (HasCleanDisk (state g now) → PutsAny g old now more)
+  pub puts_hold : ShutsIfDirty → (old now : Held S) (more : List (List ℕ)) → (IsOpen g old → HoldsLog (state g old).now)
+      → (HasCleanDisk (state g now) → PutsAny g old now more)
       → IsOpen g now → HoldsLog (state g now).now
   puts_hold law old now more holds puts up = elim (puts (clean_of law now up)) [
     | inl none ↦ subst (λ h. IsOpen g h → HoldsLog (state g h).now) (sym none.1) holds up
@@ -151,11 +157,14 @@ module _ {S : Type 0} (g : Ghosts S) where
     pub err : IsOpen g end → OnErr r (lines_of g end ≡ lines_of g old)
     pub shut : IsOpen g end → IsOpen g old
 
-  module _ (law : ShutsIfDirty) (old last end : Held S) (more : List (List ℕ)) (log : IsLog g old) (falls : doubt (g.view last.store).is_clean ≤ doubt (g.view end.store).is_clean)
-      (kept : HasCleanDisk (state g last) → KeepsCommit (state g (begun old)) (state g last)) (puts : HasCleanDisk (state g last) → Puts g (begun old) last more)
+  module _ (law : ShutsIfDirty) (old last end : Held S) (more : List (List ℕ)) (log : IsLog g old) (falls : doubt (g.view last.store).is_clean ≤ doubt
+      (g.view end.store).is_clean)
+      (kept : HasCleanDisk (state g last) → KeepsCommit (state g (begun old)) (state g last)) (puts : HasCleanDisk (state g last)
+      → Puts g (begun old) last more)
       (ended : end.in_transaction ≡ false) where
     pub ends : (r : Result (Unit {0}) Error)
-        → (HasCleanDisk (state g end) → OnOk r (IsTrue (state g last).in_transaction × Shows (state g last) (state g end) (state g last).now (state g last).now false
+        → (HasCleanDisk (state g end) → OnOk r (IsTrue (state g last).in_transaction × Shows (state g last) (state g end) (state g last).now
+        (state g last).now false
         × KeepsCounts (state g last) (state g end) × ((state g end).marks ≡ [])))
         → (HasCleanDisk (state g end) → IfErr r (FailsToCommit (state g last) (state g end))) → IsEnded old end more r
     ends (Ok u) ok err =
@@ -177,10 +186,12 @@ module _ {S : Type 0} (g : Ghosts S) (old mid : Held S) (lines : List (List ℕ)
       let len : i ≡ 0 = omega (arith, low, length-take i lines, ap length none.0) in
       let same : next_rowid (rows_of g mid) ≡ next_rowid (rows_of g old) = ap (λ h. next_rowid (rows_of g h)) none.1 in
       omega (arith, ints, len, same)
-  number_of (inr put) = let len : length (take i lines) ≡ i = omega (arith, low, length-take i lines) in put.number ∙ ap (λ n. next_rowid (rows_of g old) +ℤ pos n) len
+  number_of (inr put) = let len : length (take i lines) ≡ i = omega (arith, low, length-take i lines) in put.number
+      ∙ ap (λ n. next_rowid (rows_of g old) +ℤ pos n) len
 
   -- why one more line is not put, in the words of all of them
-  pub more_stops : (line : List ℕ) → Contains lines line → PutsAny g old mid (take i lines) → (f : LogFault) → Unstorable (rows_of g mid) (line ∷ []) f → Unstorable (rows_of g old) lines f
+  pub more_stops : (line : List ℕ) → Contains lines line → PutsAny g old mid (take i lines) → (f : LogFault) → Unstorable (rows_of g mid) (line ∷ []) f
+      → Unstorable (rows_of g old) lines f
   more_stops line there puts fault.TooBig h = (line, there, subst IsTooLong (alone h.0 line h.1) h.2)
     where
       alone : (x y : List ℕ) → Contains (y ∷ []) x → x ≡ y
@@ -208,7 +219,8 @@ no_rows (r ∷ rows) none = cc
 
 pub contains_at : {X Y : Type 0} (xs : List X) (f : X → Y) (i : ℕ) (x : X) → i < length xs → x ≡ get_or xs i x → Contains (map f xs) (f x)
 contains_at xs f i x low is =
-    subst (Contains (map f xs)) (get_or-map f xs i x (f x) low ∙ ap f (sym is)) (Contains-get_or (map f xs) i (f x) (subst (λ n. i < n) (sym (length-map xs f)) low))
+    subst (Contains (map f xs)) (get_or-map f xs i x (f x) low ∙ ap f (sym is))
+    (Contains-get_or (map f xs) i (f x) (subst (λ n. i < n) (sym (length-map xs f)) low))
 
 pub err_and : {A E : Type 0} (r : Result A E) (P Q : E → Type 0) → ((e : E) → P e → Q e) → IsErrAnd r P → IfErr r Q
 err_and (Ok a) P Q each h = tt
@@ -219,7 +231,8 @@ commits_then a b c one two = record { was_open = λ up. one.was_open (two.was_op
 
 module _ {S : Type 0} (g : Ghosts S) where
   -- a commit of a log, whatever it was before
-  pub settles : ShutsIfDirty g → (last end : Held S) → doubt (g.view last.store).is_clean ≤ doubt (g.view end.store).is_clean → (HasCleanDisk (state g last) → HoldsLog (state g last).now)
+  pub settles : ShutsIfDirty g → (last end : Held S) → doubt (g.view last.store).is_clean ≤ doubt (g.view end.store).is_clean
+      → (HasCleanDisk (state g last) → HoldsLog (state g last).now)
       → end.in_transaction ≡ false → (HasCleanDisk (state g end) → Shows (state g last) (state g end) (state g last).now (state g last).now false) → IsLog g end
   settles law last end falls holds ended shows =
       let it = λ (up : IsOpen g end). shows (clean_of g law end up) in
@@ -237,21 +250,27 @@ module _ {S : Type 0} (g : Ghosts S) where
       let early : HasCleanDisk (state g last) = omega (arith, falls, clean) in
       ap (λ (d : Database). lines_in d.trees) (shows clean).committed_is ∙ are early
 
-  pub kept_by : (d : Database) (lines : List (List ℕ)) → HoldsLog d → IsDatabase d → lines_in d.trees ≡ lines → (db : Trees) → db ≡ d.trees → KeepsLines lines db
+  pub kept_by : (d : Database) (lines : List (List ℕ)) → HoldsLog d → IsDatabase d → lines_in d.trees ≡ lines → (db : Trees) → db ≡ d.trees
+      → KeepsLines lines db
   kept_by d lines holds sound are db is = record {
-    sound = subst (λ t. IsDatabase (record { schema = log_schema; trees = t })) (sym is) (subst (λ s. IsDatabase (record { schema = s; trees = d.trees })) holds.schema_is sound);
+    sound = subst (λ t. IsDatabase (record { schema = log_schema; trees = t })) (sym is)
+        (subst (λ s. IsDatabase (record { schema = s; trees = d.trees })) holds.schema_is sound);
     are = ap lines_in is ∙ are;
   }
 
-  pub log_if_ok : {X : Type 0} → ShutsIfDirty g → (last end : Held S) → doubt (g.view last.store).is_clean ≤ doubt (g.view end.store).is_clean → (HasCleanDisk (state g last) → HoldsLog (state g last).now)
+  pub log_if_ok : {X : Type 0} → ShutsIfDirty g → (last end : Held S) → doubt (g.view last.store).is_clean ≤ doubt (g.view end.store).is_clean
+      → (HasCleanDisk (state g last) → HoldsLog (state g last).now)
       → end.in_transaction ≡ false → (r : Result X Error)
-      → (HasCleanDisk (state g end) → OnOk r (IsTrue (state g last).in_transaction × Shows (state g last) (state g end) (state g last).now (state g last).now false × KeepsCounts (state g last) (state g end) × ((state g end).marks ≡ []))) → OnOk r (IsLog g end)
+      → (HasCleanDisk (state g end) → OnOk r (IsTrue (state g last).in_transaction × Shows (state g last) (state g end) (state g last).now
+      (state g last).now false × KeepsCounts (state g last) (state g end) × ((state g end).marks ≡ []))) → OnOk r (IsLog g end)
   log_if_ok law last end falls holds ended (Ok x) shows = settles law last end falls holds ended (λ clean. (shows clean).1)
   log_if_ok law last end falls holds ended (Err e) shows = tt
 
-  pub lines_if_ok : {X : Type 0} → ShutsIfDirty g → (last end : Held S) (lines : List (List ℕ)) → doubt (g.view last.store).is_clean ≤ doubt (g.view end.store).is_clean
+  pub lines_if_ok : {X : Type 0} → ShutsIfDirty g → (last end : Held S) (lines : List (List ℕ)) → doubt (g.view last.store).is_clean ≤ doubt
+      (g.view end.store).is_clean
       → (HasCleanDisk (state g last) → lines_in (state g last).now.trees ≡ lines) → (r : Result X Error)
-      → (HasCleanDisk (state g end) → OnOk r (IsTrue (state g last).in_transaction × Shows (state g last) (state g end) (state g last).now (state g last).now false × KeepsCounts (state g last) (state g end) × ((state g end).marks ≡ [])))
+      → (HasCleanDisk (state g end) → OnOk r (IsTrue (state g last).in_transaction × Shows (state g last) (state g end) (state g last).now
+      (state g last).now false × KeepsCounts (state g last) (state g end) × ((state g end).marks ≡ [])))
       → IsOpen g end → OnOk r (lines_of g end ≡ lines)
   lines_if_ok law last end lines falls are (Ok x) shows up = settled_lines law last end lines falls are (λ clean. (shows clean).1) up
   lines_if_ok law last end lines falls are (Err e) shows up = tt
@@ -268,11 +287,14 @@ module _ {S : Type 0} (g : Ghosts S) where
     pub ok : IsOpen g end → OnOk r (lines_of g end ≡ lines)
     pub err : IsOpen g end → OnErr r (lines_of g end ≡ lines_of g old)
 
-  module _ (law : ShutsIfDirty g) (old last end : Held S) (lines : List (List ℕ)) (log : IsLog g old) (falls : doubt (g.view last.store).is_clean ≤ doubt (g.view end.store).is_clean)
-      (kept : HasCleanDisk (state g last) → KeepsCommit (state g (begun g old)) (state g last)) (filled : HasCleanDisk (state g last) → Fills g (begun g old) last lines)
+  module _ (law : ShutsIfDirty g) (old last end : Held S) (lines : List (List ℕ)) (log : IsLog g old) (falls : doubt (g.view last.store).is_clean ≤ doubt
+      (g.view end.store).is_clean)
+      (kept : HasCleanDisk (state g last) → KeepsCommit (state g (begun g old)) (state g last)) (filled : HasCleanDisk (state g last)
+      → Fills g (begun g old) last lines)
       (ended : end.in_transaction ≡ false) where
     pub ends_as : (r : Result (Unit {0}) Error)
-        → (HasCleanDisk (state g end) → OnOk r (IsTrue (state g last).in_transaction × Shows (state g last) (state g end) (state g last).now (state g last).now false
+        → (HasCleanDisk (state g end) → OnOk r (IsTrue (state g last).in_transaction × Shows (state g last) (state g end) (state g last).now
+        (state g last).now false
         × KeepsCounts (state g last) (state g end) × ((state g end).marks ≡ [])))
         → (HasCleanDisk (state g end) → IfErr r (FailsToCommit (state g last) (state g end))) → IsEndedAs old end lines r
     ends_as (Ok u) ok err = record {
@@ -287,13 +309,15 @@ module _ {S : Type 0} (g : Ghosts S) where
 
 -- ---- how a read ends: the transaction has changed nothing, and is committed
 
-module _ {S : Type 0} (g : Ghosts S) (law : ShutsIfDirty g) (old last end : Held S) (log : IsLog g old) (falls : doubt (g.view last.store).is_clean ≤ doubt (g.view end.store).is_clean)
+module _ {S : Type 0} (g : Ghosts S) (law : ShutsIfDirty g) (old last end : Held S) (log : IsLog g old) (falls : doubt (g.view last.store).is_clean ≤ doubt
+    (g.view end.store).is_clean)
     (same : HasCleanDisk (state g last) → IsUnchanged (state g (begun g old)) (state g last)) where
   early : HasCleanDisk (state g end) → HasCleanDisk (state g last)
   early clean = omega (arith, falls, clean)
 
   pub read_ends : end.in_transaction ≡ false → (r : Result (Unit {0}) Error)
-      → (HasCleanDisk (state g end) → OnOk r (IsTrue (state g last).in_transaction × Shows (state g last) (state g end) (state g last).now (state g last).now false
+      → (HasCleanDisk (state g end) → OnOk r (IsTrue (state g last).in_transaction × Shows (state g last) (state g end) (state g last).now
+      (state g last).now false
       × KeepsCounts (state g last) (state g end) × ((state g end).marks ≡ [])))
       → (HasCleanDisk (state g end) → IfErr r (FailsToCommit (state g last) (state g end))) → IsKept g old end
   read_ends ended (Ok u) ok err =
@@ -306,7 +330,8 @@ module _ {S : Type 0} (g : Ghosts S) (law : ShutsIfDirty g) (old last end : Held
         autocommit = ended;
       }
   read_ends ended (Err e) ok err =
-      rolled_back g law old last end log falls (λ clean. kept_commit (same clean)) ended (λ clean. not_committed g last end e (same (early clean)).0.mode (err clean))
+      rolled_back g law old last end log falls (λ clean. kept_commit (same clean)) ended (λ clean. not_committed g last end e (same (early clean)).0.mode
+      (err clean))
     where
       kept_commit : IsUnchanged (state g (begun g old)) (state g last) → KeepsCommit (state g (begun g old)) (state g last)
       kept_commit h = record { was_open = λ up. h.0.was_open; committed = λ up. h.0.committed_is }
@@ -326,6 +351,7 @@ module _ {S : Type 0} (g : Ghosts S) (law : ShutsIfDirty g) (old last end : Held
         crash = λ clean db may. elim (whole.crash clean db may) [
           | inl was ↦ inl was
           | inr is ↦ inl (let it = (same (early clean)).0 in
-              subst (state g old).may_leave (sym (is ∙ ap (λ (d : Database). d.trees) (it.now_is ∙ sym (log.idle.settled it.was_open)))) (stays old.store it.was_open))
+              subst (state g old).may_leave (sym (is ∙ ap (λ (d : Database). d.trees) (it.now_is ∙ sym (log.idle.settled it.was_open))))
+              (stays old.store it.was_open))
         ];
       }

@@ -62,7 +62,8 @@ pub insert_whole : IsWhole insert_text 1 (understood log_schema insert_text)
 unfolding understood everything
 insert_whole = (refl, refl)
 
-pub create_is : (command_of (understood no_schema create_text) ≡ CreateTable) × (statement_of create_text (understood no_schema create_text) ≡ create_text) × (table_defined_by create_text ≡ Ok command_table)
+pub create_is : (command_of (understood no_schema create_text) ≡ CreateTable) × (statement_of create_text (understood no_schema create_text) ≡ create_text)
+    × (table_defined_by create_text ≡ Ok command_table)
 unfolding understood everything
 create_is = (refl, refl, refl)
 
@@ -82,7 +83,8 @@ pub insert_plain : IsPlain (understood log_schema insert_text)
 unfolding understood everything
 insert_plain = (refl, refl)
 
-pub first_is : (command_of (understood log_schema first_text) ≡ Select (record { lets = []; body = query [] (col 0 0) }) names) × (reads_listing log_schema first_text ≡ false)
+pub first_is : (command_of (understood log_schema first_text) ≡ Select (record { lets = []; body = query [] (col 0 0) }) names)
+    × (reads_listing log_schema first_text ≡ false)
 unfolding understood everything
 first_is = (refl, refl)
 
@@ -94,7 +96,8 @@ pub first_whole : IsWhole first_text 1 (understood log_schema first_text)
 unfolding understood everything
 first_whole = (refl, refl)
 
-pub later_is : (command_of (understood log_schema later_text) ≡ Select (record { lets = []; body = query wheres (col 0 1) }) names) × (reads_listing log_schema later_text ≡ false)
+pub later_is : (command_of (understood log_schema later_text) ≡ Select (record { lets = []; body = query wheres (col 0 1) }) names)
+    × (reads_listing log_schema later_text ≡ false)
 unfolding understood everything
 later_is = (refl, refl)
 

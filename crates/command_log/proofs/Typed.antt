@@ -17,7 +17,7 @@ use Rattle.sqlite_schema.specs.declared.schema.Constraint.TheVariants.{Datatype,
 use Rattle.sqlite_schema.specs.Rules.{passes}
 use Rattle.sqlite_catalog.specs.Listing.{IsSound}
 use Rattle.command_log.specs.Table.{log_schema, command_table}
-use Rattle.command_log.specs.Lines.{IsRising, IsLineRow, rows_after, is_past, shown}
+use Rattle.command_log.specs.Lines.{IsRising, IsLineRow, rows_after, is_past, row_of_query}
 use Rattle.command_log.proofs.Batches.{all_kept, all_taken}
 
 abbrev HasText : Row → Type 0
@@ -34,8 +34,9 @@ module _ (db : Trees) where
   text_at (a ∷ b ∷ Blob x ∷ rest) typed present = absurd (true≢false (sym (and_parts _ _ (and_parts _ _ typed).0).1))
   text_at (a ∷ b ∷ Text t ∷ rest) typed present = (t, refl)
 
-  line_rows : (rows : List Row) → AllByRecursion (λ r. passes Datatype log_schema db command_table r ≡ true) rows → AllByRecursion (λ r. passes NotNull log_schema db command_table r ≡ true) rows
-      → AllByRecursion (λ r. IsTrue (is_int (rowid r))) rows → AllByRecursion (λ r. IsLineRow (shown r)) rows
+  line_rows : (rows : List Row) → AllByRecursion (λ r. passes Datatype log_schema db command_table r ≡ true) rows
+      → AllByRecursion (λ r. passes NotNull log_schema db command_table r ≡ true) rows
+      → AllByRecursion (λ r. IsTrue (is_int (rowid r))) rows → AllByRecursion (λ r. IsLineRow (row_of_query r)) rows
   line_rows [] typed present keyed = tt
   line_rows (r ∷ rows) typed present keyed = (
     record { width = refl; number = (id_in (rowid r), int_is (rowid r) keyed.0); text = text_at r typed.0 present.0 },
@@ -46,7 +47,7 @@ all_after : (P : Row → Type 0) (place : Option ℤ) (rows : List Row) → AllB
 all_after P None rows all = all
 all_after P (Some n) rows all = all_kept P (is_past n) rows all
 
-all_shown : (rows : List Row) → AllByRecursion (λ r. IsLineRow (shown r)) rows → AllByRecursion IsLineRow (map shown rows)
+all_shown : (rows : List Row) → AllByRecursion (λ r. IsLineRow (row_of_query r)) rows → AllByRecursion IsLineRow (map row_of_query rows)
 all_shown [] all = tt
 all_shown (r ∷ rows) all = (all.0, all_shown rows all.1)
 
@@ -54,7 +55,8 @@ all_limited : (P : Row → Type 0) (count : Option ℕ) (rows : List Row) → Al
 all_limited P None rows all = all
 all_limited P (Some n) rows all = all_taken P n rows all
 
-pub all_lines : (db : Trees) → IsSound log_schema db → IsRising (db 0) → (place : Option ℤ) (count : Option ℕ) → All IsLineRow (limited count (map shown (rows_after place (db 0))))
+pub all_lines : (db : Trees) → IsSound log_schema db → IsRising (db 0) → (place : Option ℤ) (count : Option ℕ)
+    → All IsLineRow (limited count (map row_of_query (rows_after place (db 0))))
 all_lines db sound up place count =
     let rows = line_rows db (db 0) (sound.obeys.rules Datatype).0 (sound.obeys.rules NotNull).0 up.1 in
     All-from_recursion IsLineRow _ (all_limited IsLineRow count _ (all_shown (rows_after place (db 0)) (all_after _ place (db 0) rows)))

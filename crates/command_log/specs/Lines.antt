@@ -37,8 +37,8 @@ abbrev pub lines_after : Option ℤ → Trees → List (List ℕ)
 lines_after place db = map line_in (rows_after place (db 0))
 
 -- what a query shows of a row: its number and its line
-abbrev pub shown : Row → Row
-shown r = rowid r ∷ column r 2 ∷ []
+abbrev pub row_of_query : Row → Row
+row_of_query r = rowid r ∷ column r 2 ∷ []
 
 abbrev pub text_in : Row → List ℕ
 text_in r = bytes (column r 1)
@@ -119,7 +119,7 @@ module _ {S : Type 0} (g : Ghosts S) where
 
   -- the rows that a query shows of the lines after a place
   abbrev pub GivesRows : Held S → Option ℤ → ℤ → List Row → Type 0
-  GivesRows h place limit rows = IsOpen h × (rows ≡ limited (as_count (Int limit)) (map shown (rows_after place ((state g h).now.trees 0))))
+  GivesRows h place limit rows = IsOpen h × (rows ≡ limited (as_count (Int limit)) (map row_of_query (rows_after place ((state g h).now.trees 0))))
 
   -- the trees that a commit of the new lines leaves
   abbrev pub IsAppended : Held S → List (List ℕ) → Trees → Type 0

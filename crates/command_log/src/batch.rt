@@ -5,11 +5,11 @@ use std::marker::Model;
 
 /// A place in a log: the start, or after a line. Contracts see the number of that line.
 #[derive(Clone, Copy)]
-pub struct Place {
+pub struct LogPlace {
     last: Option<i64>,
 }
 
-impl Model for Place {
+impl Model for LogPlace {
     ghost Value = { Option ℤ };
 
     ghost view = { λ p. p.last };
@@ -17,18 +17,18 @@ impl Model for Place {
     ghost inverse = { λ last. record { last = last } };
 }
 
-impl Place {
+impl LogPlace {
     /// The place before all lines.
-    pub fn start() -> Place
+    pub fn start() -> LogPlace
         ensures { result ≡ None }
     {
-        Place { last: None }
+        LogPlace { last: None }
     }
 
-    pub(crate) fn after(last: Option<i64>) -> Place
+    pub(crate) fn after(last: Option<i64>) -> LogPlace
         ensures { result ≡ last }
     {
-        Place { last }
+        LogPlace { last }
     }
 
     pub(crate) fn last(self) -> Option<i64>
@@ -43,6 +43,7 @@ impl Place {
 pub struct Batch {
     /// The lines, in order.
     pub lines: Vec<String>,
-    /// Where the next batch goes on. It is the place that the batch was read at if there are no lines.
-    pub next: Place,
+    /// Where the next batch goes on. It is the place that the batch was read at if there are no
+    /// lines.
+    pub next: LogPlace,
 }

@@ -46,7 +46,8 @@ pub enum LogFault {
     /// [`over`](crate::CommandLog::over) can have set one.
     #[error("interrupted")]
     Interrupted,
-    /// The database refused for a reason of its own. The clauses `cause` rule that out for an open log.
+    /// The database refused for a reason of its own. The clauses `cause` rule that out for an open
+    /// log.
     #[error("the database refused")]
     Store,
 }

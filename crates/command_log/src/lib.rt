@@ -9,6 +9,6 @@ mod table;
 #[cfg(test)]
 mod tests;
 
-pub use batch::{Batch, Place};
+pub use batch::{Batch, LogPlace};
 pub use fault::LogFault;
 pub use log::CommandLog;

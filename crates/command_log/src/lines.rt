@@ -27,7 +27,8 @@ ghost use Rattle.sqlite_value.specs.Order.{column};
 ghost use Rattle.sqlite.specs.Query.{as_count, limited};
 ghost use Rattle.sqlite.specs.Held.{state};
 ghost use Rattle.sqlite.specs.State.{HasCleanDisk, IsUnchanged, KeepsCommit, Survives};
-ghost use Rattle.command_log.specs.Faults.{fault_of, IsCaused, Nothing, Unreadable, Unstorable, AreText};
+ghost use Rattle.command_log.specs.Faults.{fault_of, IsCaused, Nothing, Unreadable, Unstorable};
+ghost use Rattle.command_log.specs.Faults.{AreText};
 ghost use Rattle.command_log.specs.Lines.{
   IsLineRow,
   text_in,
@@ -81,7 +82,8 @@ fn put_line<S: Alter>(tx: &mut Transaction<'_, S>, line: &str) -> Result<usize, 
     ensures put { HasCleanDisk (state S.Store tx.new.conn.now)
         → OnOk result (Puts S.Store tx.old.conn.now tx.new.conn.now (line.now ∷ [])) }
     ensures cause { HasCleanDisk (state S.Store tx.new.conn.now) → IsOpen S.Store tx.old.conn.now
-        → IfErr result (λ e. IsCaused (state S.Store tx.old.conn.now) (state S.Store tx.new.conn.now)
+        → IfErr result (λ e. IsCaused (state S.Store tx.old.conn.now)
+        (state S.Store tx.new.conn.now)
         (Unstorable (rows_of S.Store tx.old.conn.now) (line.now ∷ [])) (fault_of e)) }
 {
     tx.execute(INSERT, params![line])
@@ -102,7 +104,8 @@ fn put_lines<S: Alter>(tx: &mut Transaction<'_, S>, lines: &[String]) -> Result<
         → OnOk result (PutsAny S.Store tx.old.conn.now tx.new.conn.now
         (map string_bytes lines.now)) }
     ensures cause { HasCleanDisk (state S.Store tx.new.conn.now) → IsOpen S.Store tx.old.conn.now
-        → IfErr result (λ e. IsCaused (state S.Store tx.old.conn.now) (state S.Store tx.new.conn.now)
+        → IfErr result (λ e. IsCaused (state S.Store tx.old.conn.now)
+        (state S.Store tx.new.conn.now)
         (Unstorable (rows_of S.Store tx.old.conn.now) (map string_bytes lines.now)) (fault_of e)) }
 {
     for line in lines {
@@ -147,7 +150,8 @@ fn clear<S: Alter>(tx: &mut Transaction<'_, S>) -> Result<usize, Error>
     ensures made { HasCleanDisk (state S.Store tx.new.conn.now)
         → OnOk result (Makes S.Store tx.old.conn.now tx.new.conn.now) }
     ensures cause { HasCleanDisk (state S.Store tx.new.conn.now) → IsOpen S.Store tx.old.conn.now
-        → IfErr result (λ e. IsCaused (state S.Store tx.old.conn.now) (state S.Store tx.new.conn.now)
+        → IfErr result (λ e. IsCaused (state S.Store tx.old.conn.now)
+        (state S.Store tx.new.conn.now)
         Nothing (fault_of e)) }
 {
     tx.execute(CLEAR, &[])
@@ -186,11 +190,13 @@ fn first_rows<S: Alter>(tx: &mut Transaction<'_, S>, limit: i64) -> Result<Vec<R
     ensures commit { HasCleanDisk (state S.Store tx.new.conn.now)
         → KeepsCommit (state S.Store tx.old.conn.now) (state S.Store tx.new.conn.now) }
     ensures same { HasCleanDisk (state S.Store tx.new.conn.now)
-        → OnOk result (IsUnchanged (state S.Store tx.old.conn.now) (state S.Store tx.new.conn.now)) }
+        → OnOk result (IsUnchanged (state S.Store tx.old.conn.now)
+        (state S.Store tx.new.conn.now)) }
     ensures rows { HasCleanDisk (state S.Store tx.new.conn.now)
         → IfOk result (λ rows. GivesRows S.Store tx.old.conn.now None limit rows.items) }
     ensures cause { HasCleanDisk (state S.Store tx.new.conn.now) → IsOpen S.Store tx.old.conn.now
-        → IfErr result (λ e. IsCaused (state S.Store tx.old.conn.now) (state S.Store tx.new.conn.now)
+        → IfErr result (λ e. IsCaused (state S.Store tx.old.conn.now)
+        (state S.Store tx.new.conn.now)
         Nothing (fault_of e)) }
 {
     tx.query_all(FIRST, params![limit])
@@ -212,11 +218,13 @@ fn later_rows<S: Alter>(
     ensures commit { HasCleanDisk (state S.Store tx.new.conn.now)
         → KeepsCommit (state S.Store tx.old.conn.now) (state S.Store tx.new.conn.now) }
     ensures same { HasCleanDisk (state S.Store tx.new.conn.now)
-        → OnOk result (IsUnchanged (state S.Store tx.old.conn.now) (state S.Store tx.new.conn.now)) }
+        → OnOk result (IsUnchanged (state S.Store tx.old.conn.now)
+        (state S.Store tx.new.conn.now)) }
     ensures rows { HasCleanDisk (state S.Store tx.new.conn.now)
         → IfOk result (λ rows. GivesRows S.Store tx.old.conn.now (Some number) limit rows.items) }
     ensures cause { HasCleanDisk (state S.Store tx.new.conn.now) → IsOpen S.Store tx.old.conn.now
-        → IfErr result (λ e. IsCaused (state S.Store tx.old.conn.now) (state S.Store tx.new.conn.now)
+        → IfErr result (λ e. IsCaused (state S.Store tx.old.conn.now)
+        (state S.Store tx.new.conn.now)
         Nothing (fault_of e)) }
 {
     tx.query_all(LATER, params![number, limit])
@@ -238,11 +246,13 @@ fn rows_after<S: Alter>(
     ensures commit { HasCleanDisk (state S.Store tx.new.conn.now)
         → KeepsCommit (state S.Store tx.old.conn.now) (state S.Store tx.new.conn.now) }
     ensures same { HasCleanDisk (state S.Store tx.new.conn.now)
-        → OnOk result (IsUnchanged (state S.Store tx.old.conn.now) (state S.Store tx.new.conn.now)) }
+        → OnOk result (IsUnchanged (state S.Store tx.old.conn.now)
+        (state S.Store tx.new.conn.now)) }
     ensures rows { HasCleanDisk (state S.Store tx.new.conn.now)
         → IfOk result (λ rows. GivesRows S.Store tx.old.conn.now place limit rows.items) }
     ensures cause { HasCleanDisk (state S.Store tx.new.conn.now) → IsOpen S.Store tx.old.conn.now
-        → IfErr result (λ e. IsCaused (state S.Store tx.old.conn.now) (state S.Store tx.new.conn.now)
+        → IfErr result (λ e. IsCaused (state S.Store tx.old.conn.now)
+        (state S.Store tx.new.conn.now)
         Nothing (fault_of e)) }
 {
     match place {
@@ -251,8 +261,8 @@ fn rows_after<S: Alter>(
     }
 }
 
-/// Reads the rows of the lines after a place. The transaction commits nothing: a commit returns an error if a fault has
-/// shut the connection, and a rollback does not.
+/// Reads the rows of the lines after a place. The transaction commits nothing: a commit returns an
+/// error if a fault has shut the connection, and a rollback does not.
 fn read_rows<S: Alter>(
     conn: &mut Connection<S>,
     place: Option<i64>,
@@ -278,14 +288,16 @@ fn read_rows<S: Alter>(
 
 fn number_of(row: &Row) -> Result<i64, Error>
     ensures ok { IfOk result (λ number. column row.now 0 ≡ Int number) }
-    ensures err { IsLineRow row.now → IfErr result (λ e. e ≡ Error.SqliteFailure ErrorCode.OutOfMemory) }
+    ensures err { IsLineRow row.now
+        → IfErr result (λ e. e ≡ Error.SqliteFailure ErrorCode.OutOfMemory) }
 {
     row.get(0)
 }
 
 fn text_of(row: &Row) -> Result<String, Error>
     ensures ok { IfOk result (λ text. string_bytes text ≡ text_in row.now) }
-    ensures err { IsLineRow row.now → IfErr result (λ e. (e ≡ Error.SqliteFailure ErrorCode.OutOfMemory)
+    ensures err { IsLineRow row.now
+        → IfErr result (λ e. (e ≡ Error.SqliteFailure ErrorCode.OutOfMemory)
         ⊎ ((e ≡ Error.Utf8Error 1) × ¬ IsUtf8 (text_in row.now))) }
 {
     row.get(1)
@@ -295,7 +307,8 @@ fn text_of(row: &Row) -> Result<String, Error>
 fn lines_from(alloc: Global, rows: &[Row], place: Option<i64>) -> Result<ReadLines, Error>
     ensures lines { IfOk result (λ read. map string_bytes read.lines.items ≡ map text_in rows.now) }
     ensures next { IfOk result (λ read. read.next ≡ place_after place rows.now) }
-    ensures err { All IsLineRow rows.now → IfErr result (λ e. (e ≡ Error.SqliteFailure ErrorCode.OutOfMemory)
+    ensures err { All IsLineRow rows.now
+        → IfErr result (λ e. (e ≡ Error.SqliteFailure ErrorCode.OutOfMemory)
         ⊎ ((e ≡ Error.Utf8Error 1) × ¬ AreText (map text_in rows.now))) }
 {
     let mut lines = Vec::new(alloc);
@@ -320,8 +333,10 @@ pub(crate) fn read_after<S: Alter>(
         → (state S.Store conn.new).committed ≡ (state S.Store conn.old).committed }
     ensures stays { HasCleanDisk (state S.Store conn.new) → OnOk result (IsOpen S.Store conn.new) }
     ensures lines { HasCleanDisk (state S.Store conn.new) → IfOk result (λ read.
-        map string_bytes read.lines.items ≡ limited (as_count (Int limit)) (lines_left S.Store conn.old place)) }
-    ensures left { HasCleanDisk (state S.Store conn.new) → IfOk result (λ read. (n : ℕ) → limit ≡ pos n
+        map string_bytes read.lines.items
+        ≡ limited (as_count (Int limit)) (lines_left S.Store conn.old place)) }
+    ensures left { HasCleanDisk (state S.Store conn.new)
+        → IfOk result (λ read. (n : ℕ) → limit ≡ pos n
         → lines_left S.Store conn.old read.next ≡ drop n (lines_left S.Store conn.old place)) }
     ensures survives { Survives (state S.Store conn.old) (state S.Store conn.new) (λ _. ⊥) }
     ensures cause { HasCleanDisk (state S.Store conn.new) → IsOpen S.Store conn.old

@@ -50,7 +50,7 @@ ghost use Rattle.command_log.specs.Found.{
   IsKeptAlone,
 };
 
-use crate::batch::{Batch, Place};
+use crate::batch::{Batch, LogPlace};
 use crate::fault::LogFault;
 use crate::lines::{NO_LIMIT, ReadLines, put_all, read_after, replace_all};
 use crate::table::{Holds, held_by, make};
@@ -60,8 +60,8 @@ use sqlite_trees::store::Alter;
 use std::alloc::Global;
 use std::marker::Model;
 
-/// A log of text lines in a database. Contracts see the connection that it holds, and of it the lines that were
-/// committed, whether it is open, and what a crash may leave.
+/// A log of text lines in a database. Contracts see the connection that it holds, and of it the
+/// lines that were committed, whether it is open, and what a crash may leave.
 pub struct CommandLog<S: Alter> {
     conn: Connection<S>,
     alloc: Global,
@@ -89,7 +89,8 @@ impl<S: Alter + Drop> Drop for CommandLog<S> {
 impl CommandLog<MemStore> {
     /// Makes a new log in memory.
     pub fn open_in_memory(alloc: Global) -> Result<CommandLog<MemStore>, LogFault>
-        ensures empty { IfOk result (λ log. IsOpen over_memory log → lines_of over_memory log ≡ []) }
+        ensures empty { IfOk result (λ log. IsOpen over_memory log → lines_of over_memory log
+            ≡ []) }
     {
         let conn = Connection::open_in_memory(alloc)?;
         CommandLog::over(alloc, conn)
@@ -97,8 +98,9 @@ impl CommandLog<MemStore> {
 }
 
 impl<S: Start> CommandLog<FileStore<FileFrom<S>>> {
-    /// Opens the log in a file, or makes it. What the files held as they were opened is `S`, and so is what a torn
-    /// write may leave of them: [`Unknown`](sqlite_disk::Unknown) or [`Wary`](sqlite_disk::Wary).
+    /// Opens the log in a file, or makes it. What the files held as they were opened is `S`, and so
+    /// is what a torn write may leave of them: [`Unknown`](sqlite_disk::Unknown) or
+    /// [`Wary`](sqlite_disk::Wary).
     pub fn open(
         rt: &HostRuntime,
         path: &str,
@@ -111,7 +113,8 @@ impl<S: Start> CommandLog<FileStore<FileFrom<S>>> {
         ensures other { RefusesOther (image_at S.Start) result }
 
         // It is open, as long as the disk returns what was written.
-        ensures opened { IfOk result (λ log. HasCleanDisk (state over_files log) → IsOpen over_files log) }
+        ensures opened { IfOk result (λ log. HasCleanDisk (state over_files log)
+            → IsOpen over_files log) }
     {
         let conn = match Connection::open_from(rt, path, false, start) {
             Ok(conn) => conn,
@@ -135,7 +138,8 @@ impl<S: Alter + Drop> CommandLog<S> {
         ensures survives { IfOk result (λ log. Survives (state S.Store conn) (state S.Store log)
             (IsMade S.Store conn)) }
 
-        // A database with another schema is refused as that, and no other is. A log is never refused.
+        // A database with another schema is refused as that, and no other is. A log is never
+        // refused.
         ensures other { IsErrOf result LogFault.NotALog ↔ IsOther (state S.Store conn).now.schema }
         ensures taken { (state S.Store conn).now.schema ≡ log_schema → IsOk result }
 
@@ -155,10 +159,12 @@ impl<S: Alter + Drop> CommandLog<S> {
 }
 
 impl<D: Disk + Drop> CommandLog<FileStore<D>> {
-    /// Copies the last commit into the database file, and returns both files. From then on the database file alone
-    /// has the lines, as it is and after a crash. A file beside it, SQLite's log, stays. An error comes with the store.
+    /// Copies the last commit into the database file, and returns both files. From then on the
+    /// database file alone has the lines, as it is and after a crash. A file beside it, SQLite's
+    /// log, stays. An error comes with the store.
     pub fn close(self) -> Result<Files<D>, (LogFault, FileStore<D>)>
-        ensures alone { IfOk result (λ files. AreClean D.Disk files.log files.db → IsKeptAlone self files) }
+        ensures alone { IfOk result (λ files. AreClean D.Disk files.log files.db
+            → IsKeptAlone self files) }
         ensures usable { IfOk result (λ files. IsTrue (D.Disk.is_usable files.log)
             × IsTrue (D.Disk.is_usable files.db)) }
         ensures cause { IfErr result (λ e. IsClean (view e.1) → IsCloseFault self e.1 e.0) }
@@ -171,8 +177,8 @@ impl<D: Disk + Drop> CommandLog<FileStore<D>> {
         }
     }
 
-    /// A law: whatever a crash leaves of the files of an open log, an open of them as a log finds its lines. The call
-    /// does no IO: it returns the store, and carries this fact.
+    /// A law: whatever a crash leaves of the files of an open log, an open of them as a log finds
+    /// its lines. The call does no IO: it returns the store, and carries this fact.
     pub fn found_after_a_crash(self) -> FileStore<D>
         ensures { IsClean (view result) → IsFoundAgain self }
     {
@@ -195,7 +201,8 @@ impl<S: Alter> CommandLog<S> {
             (IsOpen S.Store self.old → IsOpen S.Store self.new) }
         ensures shut { IsOpen S.Store self.new → IsOpen S.Store self.old }
 
-        // An open log fails if memory runs out, by a fault of the disk, or if a line cannot be stored after the others.
+        // An open log fails if memory runs out, by a fault of the disk, or if a line cannot be
+        // stored after the others.
         ensures cause { HasCleanDisk (state S.Store self.new) → IsOpen S.Store self.old
             → IfErr result (IsCaused (state S.Store self.old) (state S.Store self.new)
             (Unstorable (rows_of S.Store self.old) (map string_bytes lines.now))) }
@@ -232,11 +239,13 @@ impl<S: Alter> CommandLog<S> {
         Ok(())
     }
 
-    /// Reads all lines in order, and holds them all in memory. [`read_batch`](CommandLog::read_batch) reads in steps.
+    /// Reads all lines in order, and holds them all in memory.
+    /// [`read_batch`](CommandLog::read_batch) reads in steps.
     pub fn read(&mut self) -> Result<Vec<String>, LogFault>
         ensures ok { HasCleanDisk (state S.Store self.new) → IfOk result (λ read.
             map string_bytes read.items ≡ lines_of S.Store self.old) }
-        ensures same { IsOpen S.Store self.new → lines_of S.Store self.new ≡ lines_of S.Store self.old }
+        ensures same { IsOpen S.Store self.new → lines_of S.Store self.new
+            ≡ lines_of S.Store self.old }
         ensures committed { IsOpen S.Store self.new
             → (state S.Store self.new).committed ≡ (state S.Store self.old).committed }
         ensures stays { HasCleanDisk (state S.Store self.new)
@@ -250,17 +259,20 @@ impl<S: Alter> CommandLog<S> {
         Ok(lines)
     }
 
-    /// Reads the first lines after the place, `limit` of them at most, and returns them with the place after them. If
-    /// they are fewer than the limit, they are the last ones. A place is the number of a line, so a `replace` since is
-    /// not noticed.
-    pub fn read_batch(&mut self, place: Place, limit: u32) -> Result<Batch, LogFault>
+    /// Reads the first lines after the place, `limit` of them at most, and returns them with the
+    /// place after them. If they are fewer than the limit, they are the last ones. A place is the
+    /// number of a line, so a `replace` since is not noticed.
+    pub fn read_batch(&mut self, place: LogPlace, limit: u32) -> Result<Batch, LogFault>
         ensures ok { HasCleanDisk (state S.Store self.new) → IfOk result (λ batch.
             map string_bytes batch.lines.items ≡ take limit (lines_left S.Store self.old place)) }
 
-        // What is left after it is all that it did not return, so batches read one after the other are the lines.
+        // What is left after it is all that it did not return, so batches read one after the other
+        // are the lines.
         ensures left { HasCleanDisk (state S.Store self.new) → IfOk result (λ batch.
-            lines_left S.Store self.old batch.next ≡ drop limit (lines_left S.Store self.old place)) }
-        ensures same { IsOpen S.Store self.new → lines_of S.Store self.new ≡ lines_of S.Store self.old }
+            lines_left S.Store self.old batch.next
+            ≡ drop limit (lines_left S.Store self.old place)) }
+        ensures same { IsOpen S.Store self.new → lines_of S.Store self.new
+            ≡ lines_of S.Store self.old }
         ensures committed { IsOpen S.Store self.new
             → (state S.Store self.new).committed ≡ (state S.Store self.old).committed }
         ensures stays { HasCleanDisk (state S.Store self.new)
@@ -278,12 +290,12 @@ impl<S: Alter> CommandLog<S> {
         )?;
         Ok(Batch {
             lines,
-            next: Place::after(next),
+            next: LogPlace::after(next),
         })
     }
 
-    /// A law: while the log is open, a crash leaves its lines and nothing else. The call changes nothing: it carries
-    /// this fact.
+    /// A law: while the log is open, a crash leaves its lines and nothing else. The call changes
+    /// nothing: it carries this fact.
     pub fn left_by_a_crash(&self)
         ensures { IsOpen S.Store self.now → (db : Trees) → MayLeave S.Store self.now db
             → KeepsLines (lines_of S.Store self.now) db }

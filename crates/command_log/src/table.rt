@@ -2,7 +2,8 @@
 ghost use Rattle.std.specs.Prelude.{◌≡◌, ◌↔◌, true, [], ◌∷◌, IsTrue, OnOk, Some};
 ghost use Rattle.sqlite.specs.Held.{state};
 ghost use Rattle.sqlite.specs.State.{HasCleanDisk, Survives};
-ghost use Rattle.command_log.specs.Table.{log_schema, no_schema, command_table, command_columns, plain_column};
+ghost use Rattle.command_log.specs.Table.{log_schema, no_schema, command_table, command_columns};
+ghost use Rattle.command_log.specs.Table.{plain_column};
 ghost use Rattle.command_log.specs.Lines.{IsOpen, IsIdle, IsLog, Makes, KeepsLines, lines_of};
 
 use sqlite::{Connection, Error, Transaction};

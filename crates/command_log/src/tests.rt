@@ -1,5 +1,6 @@
-//! That calls succeed on a log in memory, which no clause can say, and what the database answers to a log of another.
-use crate::batch::Place;
+//! That calls succeed on a log in memory, which no clause can say, and what the database answers to
+//! a log of another.
+use crate::batch::LogPlace;
 use crate::fault::LogFault;
 use crate::log::CommandLog;
 use sqlite::{Connection, MemStore};
@@ -52,7 +53,7 @@ fn replaces(rt: HostRuntime) -> Result<(), Fail> {
 fn reads_in_steps(rt: HostRuntime) -> Result<(), Fail> {
     let alloc = rt.alloc();
     let mut log = log_of(alloc, &["one", "two", "three"])?;
-    let first = log.read_batch(Place::start(), 2)?;
+    let first = log.read_batch(LogPlace::start(), 2)?;
     assert_eq!(rt; first.lines.len(), 2);
     assert_eq!(rt; first.lines[1].as_str(), "two");
     let second = log.read_batch(first.next, 2)?;

@@ -4,7 +4,7 @@ use Rattle.hook_changes.specs.Names.{is_tag_name}
 use Rattle.shortcode_scan.specs.declared.Piece.{Piece}
 use Rattle.shortcode_scan.specs.Live.{is_live, is_one_of}
 use Rattle.shortcode_scan.specs.Pieces.{pieces_of}
-use Rattle.content_cache.specs.declared.kept.OpenedName.{OpenedName}
+use Rattle.content_cache.specs.declared.cut_text.OpenedName.{OpenedName}
 
 abbrev pub names_of : List OpenedName → List (List ℕ)
 names_of opened = map (λ o. o.name) opened

@@ -5,8 +5,8 @@ ghost use Rattle.shortcode_scan.specs.Pieces.{IsPieces, pieces_of};
 ghost use Rattle.shortcode_scan.specs.Spans.{HasSpansOf};
 ghost use Rattle.content_cache.specs.Opened.{tags_in, IsOpenedBy, IsCutOf};
 
-use crate::kept::{Kept, Known, OpenedName, SharedNames, SharedPieces, are_same};
-use hook_changes::TagName;
+use crate::cut_text::{CutText, Known, OpenedName, are_same};
+use hook_changes::{SharedList, TagName};
 use lru::LruCache;
 use shortcode_scan::{Piece, pieces};
 use std::alloc::{AllocError, Global};
@@ -15,11 +15,12 @@ use std::num::NonZeroUsize;
 
 /// The pieces of the texts that were asked for last, each with the live names that it was cut by.
 ///
-/// Contracts see the maximum number of texts that it keeps, and not which these are: no result depends on that.
+/// Contracts see the maximum number of texts that it keeps, and not which these are: no result
+/// depends on that.
 #[derive(Drop)]
 pub struct PieceCache {
     alloc: Global,
-    kept: LruCache<String, Kept>,
+    kept: LruCache<String, CutText>,
 }
 
 impl Model for PieceCache {
@@ -49,8 +50,8 @@ impl PieceCache {
         }
     }
 
-    /// Returns the pieces of the text by the names in `live`, as `shortcode_scan::pieces` does. They are kept for the
-    /// next time, unless memory for that runs out.
+    /// Returns the pieces of the text by the names in `live`, as `shortcode_scan::pieces` does.
+    /// They are kept for the next time, unless memory for that runs out.
     pub fn pieces(&mut self, live: &[TagName], text: &str) -> Result<Vec<Piece>, AllocError>
         ensures pieces { IfOk result (λ pieces. IsPieces live.now text.now pieces.items) }
         ensures value { IfOk result (λ pieces. pieces.items ≡ pieces_of live.now text.now) }
@@ -62,7 +63,7 @@ impl PieceCache {
     }
 
     /// Returns the same pieces, shared with the cache and not copied.
-    pub fn shared(&mut self, live: &[TagName], text: &str) -> Result<SharedPieces, AllocError>
+    pub fn shared(&mut self, live: &[TagName], text: &str) -> Result<SharedList<Piece>, AllocError>
         ensures pieces { IfOk result (λ pieces. IsPieces live.now text.now pieces) }
         ensures value { IfOk result (λ pieces. pieces ≡ pieces_of live.now text.now) }
         ensures spans { IfOk result (λ pieces. AllByRecursion (HasSpansOf text.now) pieces) }
@@ -70,7 +71,7 @@ impl PieceCache {
     {
         // With no live name the text is one plain piece, which is made faster than it is looked up.
         if live.is_empty() {
-            return SharedPieces::new(pieces(self.alloc, live, text)?);
+            return SharedList::new(pieces(self.alloc, live, text)?);
         }
         if let Some(kept) = self.kept.get(text) {
             if are_same(kept.live.as_slice(), live) {
@@ -82,7 +83,8 @@ impl PieceCache {
 
     /// Returns how a text was cut by [`PieceCache::cut`], if that is kept.
     pub fn known(&mut self, text: &str) -> Result<Option<Known>, AllocError>
-        ensures known { IfOk result (λ found. IfSome found (λ known. IsCutOf text.now known.opened known.pieces)) }
+        ensures known { IfOk result
+            (λ found. IfSome found (λ known. IsCutOf text.now known.opened known.pieces)) }
         ensures spans { IfOk result (λ found. IfSome found (λ known.
             AllByRecursion (HasSpansOf text.now) known.pieces)) }
         ensures capacity { self.new ≡ self.old }
@@ -93,21 +95,21 @@ impl PieceCache {
         Ok(None)
     }
 
-    /// Cuts a text by the tags among the names that it opens. The pieces are kept for the next time with these names,
-    /// unless memory for that runs out.
+    /// Cuts a text by the tags among the names that it opens. The pieces are kept for the next time
+    /// with these names, unless memory for that runs out.
     pub fn cut(
         &mut self,
         opened: Vec<OpenedName>,
         live: &[TagName],
         text: &str,
-    ) -> Result<SharedPieces, AllocError>
+    ) -> Result<SharedList<Piece>, AllocError>
         requires opened { IsOpenedBy text.now opened.items }
         requires live { live.now ≡ tags_in opened.items }
         ensures value { IfOk result (λ pieces. pieces ≡ pieces_of live.now text.now) }
         ensures spans { IfOk result (λ pieces. AllByRecursion (HasSpansOf text.now) pieces) }
         ensures capacity { self.new ≡ self.old }
     {
-        let opened = SharedNames::new(opened)?;
+        let opened = SharedList::new(opened)?;
         self.cut_anew(live, Some(opened), text)
     }
 
@@ -122,15 +124,16 @@ impl PieceCache {
     fn cut_anew(
         &mut self,
         live: &[TagName],
-        opened: Option<SharedNames>,
+        opened: Option<SharedList<OpenedName>>,
         text: &str,
-    ) -> Result<SharedPieces, AllocError>
-        requires { IfSome opened (λ opened. (live.now ≡ tags_in opened) × IsOpenedBy text.now opened) }
+    ) -> Result<SharedList<Piece>, AllocError>
+        requires { IfSome opened (λ opened. (live.now ≡ tags_in opened)
+            × IsOpenedBy text.now opened) }
         ensures value { IfOk result (λ pieces. pieces ≡ pieces_of live.now text.now) }
         ensures spans { IfOk result (λ pieces. AllByRecursion (HasSpansOf text.now) pieces) }
         ensures capacity { self.new ≡ self.old }
     {
-        let found = SharedPieces::new(pieces(self.alloc, live, text)?)?;
+        let found = SharedList::new(pieces(self.alloc, live, text)?)?;
         self.keep(live, opened, text, &found);
         Ok(found)
     }
@@ -139,16 +142,16 @@ impl PieceCache {
     fn keep(
         &mut self,
         live: &[TagName],
-        opened: Option<SharedNames>,
+        opened: Option<SharedList<OpenedName>>,
         text: &str,
-        pieces: &SharedPieces,
+        pieces: &SharedList<Piece>,
     )
         requires pieces { pieces.now ≡ pieces_of live.now text.now }
         requires opened { IfSome opened (λ opened. IsCutOf text.now opened pieces.now) }
         ensures { self.new ≡ self.old }
     {
         if let Ok(key) = String::from_str(self.alloc, text) {
-            if let Ok(kept) = Kept::of(self.alloc, live, opened, pieces) {
+            if let Ok(kept) = CutText::of(self.alloc, live, opened, pieces) {
                 let _ = self.kept.put(key, kept);
             }
         }

@@ -1,8 +1,9 @@
-//! A cache of the pieces that shortcodes cut texts into. If it is full, the least recently used text is dropped.
+//! A cache of the pieces that shortcodes cut texts into. If it is full, the least recently used
+//! text is dropped.
 #![tactic(auto)]
 
 mod cache;
-mod kept;
+mod cut_text;
 
 pub use cache::PieceCache;
-pub use kept::{Known, OpenedName, SharedNames, SharedPieces};
+pub use cut_text::{Known, OpenedName};

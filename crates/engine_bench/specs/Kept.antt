@@ -6,5 +6,5 @@ use Rattle.hook_changes.specs.declared.reply.Then.TheVariants as next
 use Rattle.hook_machine.specs.Meaning.{first_or_empty}
 
 -- the value as it came
-abbrev pub kept : ℕ → Call → Reply
-kept callback call = record { changes = []; echo = []; next = next.Answer (first_or_empty call.args) }
+abbrev pub keeps_value : ℕ → Call → Reply
+keeps_value callback call = record { changes = []; echo = []; next = next.Answer (first_or_empty call.args) }

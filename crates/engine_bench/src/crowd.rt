@@ -48,8 +48,8 @@ pub fn crowd(
     Ok(list)
 }
 
-/// Makes the plugin with the callbacks from `first` up to but not including `end`. A function of its own, so that few
-/// exits of `crowd` drop a list.
+/// Makes the plugin with the callbacks from `first` up to but not including `end`. A function of
+/// its own, so that few exits of `crowd` drop a list.
 fn plugin(
     alloc: Global,
     spread: Spread,

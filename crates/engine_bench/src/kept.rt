@@ -1,5 +1,5 @@
 //! The callbacks that are timed.
-ghost use Rattle.engine_bench.specs.Kept.{kept};
+ghost use Rattle.engine_bench.specs.Kept.{keeps_value};
 
 use callback_store::Stated;
 use hook_changes::{Call, CallbackId, Listed, Reply, Text, Then};
@@ -18,7 +18,7 @@ impl Kept {
 }
 
 impl Stated for Kept {
-    ghost says = { kept };
+    ghost says = { keeps_value };
 
     ghost number = { λ stored. stored.id };
 

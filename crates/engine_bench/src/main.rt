@@ -1,7 +1,8 @@
 //! Makes passes of a filter over many callbacks, so that a script can time them.
 //!
-//! `engine_bench COUNT TIMES [many]` registers COUNT callbacks (0 to 1,000), all at one priority or each at its own,
-//! makes TIMES passes over them and prints the value after the last one. A number that is left out is 3.
+//! `engine_bench COUNT TIMES [many]` registers COUNT callbacks (0 to 1,000), all at one priority or
+//! each at its own, makes TIMES passes over them and prints the value after the last one. A number
+//! that is left out is 3.
 #![tactic(auto)]
 
 ghost use Rattle.hook_machine.specs.Runs.{IsReady};

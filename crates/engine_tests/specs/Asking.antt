@@ -20,12 +20,12 @@ after_one [] = []
 after_one (x ∷ xs) = xs
 
 -- an answer as it is shown: a flag as 1 or 0, and the answer to an action as -
-abbrev pub shown : Answer → Text
-shown (answer.Text text) = text
-shown (answer.Number number) = signed_decimal number
-shown (answer.Flag true) = codes "1"
-shown (answer.Flag false) = codes "0"
-shown answer.Nothing = codes "-"
+abbrev pub text_of_answer : Answer → Text
+text_of_answer (answer.Text text) = text
+text_of_answer (answer.Number number) = signed_decimal number
+text_of_answer (answer.Flag true) = codes "1"
+text_of_answer (answer.Flag false) = codes "0"
+text_of_answer answer.Nothing = codes "-"
 
 -- the title's own hook while the value is shorter than 32 bytes, and then the hook that is named
 abbrev pub deeper_hook : Text → Text → Text
@@ -52,15 +52,15 @@ first_ask number args =
 -- asks, 208 then also whether the hook still runs, and then answers what it was told last
 abbrev pub asks_or_shows : ℕ → List Text → List Answer → Reply
 asks_or_shows number args [] = asks (first_ask number args)
-asks_or_shows number args (told ∷ []) = if number == 208 then asks (Doing (second_or_empty args)) else answers_text (shown told)
-asks_or_shows number args (told ∷ again ∷ more) = answers_text (shown again)
+asks_or_shows number args (told ∷ []) = if number == 208 then asks (Doing (second_or_empty args)) else answers_text (text_of_answer told)
+asks_or_shows number args (told ∷ again ∷ more) = answers_text (text_of_answer again)
 
 -- the arguments, each with a semicolon after it
-abbrev pub listed : List Text → Text
-listed args = flat_map (λ arg. arg ++ codes ";") args
+abbrev pub text_of_args : List Text → Text
+text_of_args args = flat_map (λ arg. arg ++ codes ";") args
 
 abbrev pub shows : List Text → Reply
-shows args = prints_and_answers (listed args) (listed args)
+shows args = prints_and_answers (text_of_args args) (text_of_args args)
 
 -- 207 prints and answers its arguments
 abbrev pub asking : ℕ → Call → Reply

@@ -37,11 +37,11 @@ letter number =
     (if number == 104 || number == 107 then codes "x" else codes "r")))
 
 -- a reply that changes what is registered, and answers the value with a letter after it
-abbrev pub lettered : ℕ → Text → Reply
-lettered number value = changes_and_answers (changes number value) (value ++ letter number)
+abbrev pub letter_reply : ℕ → Text → Reply
+letter_reply number value = changes_and_answers (changes number value) (value ++ letter number)
 
 -- what the callback with that number replies; below 100 they are those of the bundle
 unfoldable pub tested : ℕ → Call → Reply
 tested number call =
     if nat_lt number 100 then says number call else
-    (if nat_lt 200 number then asking number call else lettered number (first_or_empty call.args))
+    (if nat_lt 200 number then asking number call else letter_reply number (first_or_empty call.args))

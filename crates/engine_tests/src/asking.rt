@@ -3,7 +3,8 @@ ghost use Rattle.std.specs.Prelude.{◌≡◌, ◌++◌, IfOk};
 ghost use Rattle.hook_changes.specs.declared.reply.Ask.{Ask};
 ghost use Rattle.hook_machine.specs.Meaning.{first_or_empty};
 ghost use Rattle.engine_tests.specs.Asking.{after_one, second_or_empty, deeper_hook, plain_ask};
-ghost use Rattle.engine_tests.specs.Asking.{shown, first_ask, listed, shows, asks_or_shows, asking};
+ghost use Rattle.engine_tests.specs.Asking.{text_of_answer, first_ask, text_of_args, shows};
+ghost use Rattle.engine_tests.specs.Asking.{asks_or_shows, asking};
 
 use crate::callbacks::first_argument;
 use hook_changes::{Answer, Ask, Call, CallbackId, Listed, Reply, Text};
@@ -30,7 +31,7 @@ fn shows(alloc: Global, args: &[Text]) -> Result<Reply, AllocError>
 
 /// Returns the arguments, each with a semicolon after it.
 fn listed(alloc: Global, args: &[Text]) -> Result<Text, AllocError>
-    ensures { IfOk result (λ text. text ≡ listed args.now) }
+    ensures { IfOk result (λ text. text ≡ text_of_args args.now) }
 {
     let mut text = Text::empty(alloc);
     for arg in args {
@@ -55,7 +56,7 @@ fn asks_or_shows(alloc: Global, number: u32, call: &Call) -> Result<Reply, Alloc
 }
 
 fn shown(alloc: Global, answer: &Answer) -> Result<Text, AllocError>
-    ensures { IfOk result (λ text. text ≡ shown answer.now) }
+    ensures { IfOk result (λ text. text ≡ text_of_answer answer.now) }
 {
     match answer {
         Answer::Text(text) => text.clone(),
@@ -66,7 +67,8 @@ fn shown(alloc: Global, answer: &Answer) -> Result<Text, AllocError>
     }
 }
 
-/// Returns what is asked first: of the hook that the second argument names, with the further arguments.
+/// Returns what is asked first: of the hook that the second argument names, with the further
+/// arguments.
 fn first_ask(alloc: Global, number: u32, call: &Call) -> Result<Ask, AllocError>
     ensures { IfOk result (λ ask. ask ≡ first_ask number call.now.args) }
 {
@@ -134,7 +136,8 @@ fn plain_ask(alloc: Global, number: u32, hook: &str, args: &[Text]) -> Result<As
     }
 }
 
-/// Returns the title's own hook while the value is shorter than 32 bytes, and then the hook that is named.
+/// Returns the title's own hook while the value is shorter than 32 bytes, and then the hook that is
+/// named.
 fn deeper_hook<'a>(value: &str, name: &'a str) -> &'a str
     ensures { result.now ≡ deeper_hook value.now name.now }
 {

@@ -1,5 +1,5 @@
-//! Asks with arguments, about hooks that have callbacks and about texts that aren't hook names, each worked out from
-//! the rules.
+//! Asks with arguments, about hooks that have callbacks and about texts that aren't hook names,
+//! each worked out from the rules.
 use crate::names::{LONGEST, TOO_LONG};
 use crate::plugins::{Given, Hook, Load};
 use crate::runs::{Setting, Step, are_answered};
@@ -7,9 +7,10 @@ use Load::{No, On};
 use hook_machine::RunFault;
 use std::alloc::Global;
 
-/// What the plugin's load list adds, the value and the further arguments of a pass of the filter `the_title`, what it
-/// answers, and what is printed meanwhile. A callback that asks does so of the hook that the first of these arguments
-/// names, and hands on those after it; callback 207 prints and answers what it is called with.
+/// What the plugin's load list adds, the value and the further arguments of a pass of the filter
+/// `the_title`, what it answers, and what is printed meanwhile. A callback that asks does so of the
+/// hook that the first of these arguments names, and hands on those after it; callback 207 prints
+/// and answers what it is called with.
 struct Case(
     [Load; 3],
     &'static str,
@@ -39,8 +40,8 @@ const DID: Load = On(Hook::Title, 20, 206, 16);
 /// Fires an action, and then asks whether its hook runs.
 const ACTS_THEN_DOING: Load = On(Hook::Title, 10, 208, 16);
 
-/// Asks what its own hook makes of the value with one byte more while it is shorter than 32 bytes, and then what the
-/// named one makes of it with one byte more.
+/// Asks what its own hook makes of the value with one byte more while it is shorter than 32 bytes,
+/// and then what the named one makes of it with one byte more.
 const DEEPER: Load = On(Hook::Title, 10, 209, 16);
 
 /// The callbacks that ask, and the one that shows.
@@ -194,8 +195,8 @@ static QUESTIONS: [Case; 12] = [
     Case([DID, No, No], "v", &["in"], Ok("0"), ""),
 ];
 
-/// Asks about a text that isn't a hook name: nothing is registered, run or counted, and a filter answers the value
-/// unchanged.
+/// Asks about a text that isn't a hook name: nothing is registered, run or counted, and a filter
+/// answers the value unchanged.
 static NAMES: [Case; 16] = [
     Case(
         [APPLIES, On(Hook::TooLong, 10, 207, 1), No],
@@ -320,8 +321,9 @@ fn bad_names_name_no_hook(rt: HostRuntime) {
     }
 }
 
-/// Names, what a filter of that name makes of `v` beside the argument `p`, and what it and an action of that name with
-/// the same argument print: the longest name has callback 207, and a longer one can have none.
+/// Names, what a filter of that name makes of `v` beside the argument `p`, and what it and an
+/// action of that name with the same argument print: the longest name has callback 207, and a
+/// longer one can have none.
 static PAGES: [(&str, &str, &str); 3] = [
     (LONGEST, "v;p;", "v;p;p;"),
     (TOO_LONG, "v", ""),

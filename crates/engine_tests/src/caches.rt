@@ -5,8 +5,8 @@ use hook_changes::TagName;
 use shortcode_scan::Piece;
 use std::alloc::Global;
 
-/// Whether `b` is a live name, the text that is looked up, whether all of it is one shortcode, and how many texts are
-/// kept after it.
+/// Whether `b` is a live name, the text that is looked up, whether all of it is one shortcode, and
+/// how many texts are kept after it.
 struct LookUp(bool, &'static str, bool, usize);
 
 /// The capacity of a cache, and what is looked up in it in turn.

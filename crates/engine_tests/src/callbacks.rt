@@ -1,7 +1,8 @@
 //! The test callbacks.
 ghost use Rattle.std.specs.Prelude.{◌≡◌, IfOk};
 ghost use Rattle.hook_machine.specs.Meaning.{first_or_empty};
-ghost use Rattle.engine_tests.specs.Tested.{tested, lettered, changes, climbs, next_priority, letter};
+ghost use Rattle.engine_tests.specs.Tested.{tested, letter_reply, changes, climbs, next_priority};
+ghost use Rattle.engine_tests.specs.Tested.{letter};
 
 use crate::asking::asking;
 use bundled_plugins::bundled_reply;
@@ -42,7 +43,7 @@ impl Stated for Tested {
 }
 
 fn lettered(alloc: Global, number: u32, value: &str) -> Result<Reply, AllocError>
-    ensures { IfOk result (λ reply. reply ≡ lettered number value.now) }
+    ensures { IfOk result (λ reply. reply ≡ letter_reply number value.now) }
 {
     let changes = changes(alloc, number, value)?;
     let letter = letter(number);

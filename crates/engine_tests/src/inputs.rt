@@ -20,8 +20,8 @@ impl<'a> Read for FailsOnce<'a> {
     }
 }
 
-// A failed read is reported as a fault at once, even if the next read would return bytes: what is read before a fault
-// never has a gap.
+// A failed read is reported as a fault at once, even if the next read would return bytes: what is
+// read before a fault never has a gap.
 #[test]
 fn a_fault_is_told_at_once(rt: HostRuntime) {
     let mut source = Reading::new(FailsOnce {

@@ -1,5 +1,6 @@
-//! Two pages and a run that go on in turn with each other, over one cache: each makes as many turns as it does alone
-//! and comes to the same end, in whatever order their turns are made and however much the cache keeps.
+//! Two pages and a run that go on in turn with each other, over one cache: each makes as many turns
+//! as it does alone and comes to the same end, in whatever order their turns are made and however
+//! much the cache keeps.
 ghost use Rattle.std.specs.Prelude.{◌≤◌};
 ghost use Rattle.template_parts.specs.Page.{CanGoOn};
 
@@ -13,8 +14,8 @@ use hook_machine::{Job, Run, RunFault, Turn};
 use std::alloc::{AllocError, Global};
 use template_parts::{Page, PageTurn};
 
-/// The job of a run: its active plugin, the value of the filter `the_title`, how many turns stop after a callback, and
-/// what the run answers.
+/// The job of a run: its active plugin, the value of the filter `the_title`, how many turns stop
+/// after a callback, and what the run answers.
 struct Work(&'static str, &'static str, u32, Answer);
 
 static WORKS: [Work; 4] = [
@@ -41,8 +42,8 @@ const BEGINNING: Place = Place {
     is_over: false,
 };
 
-/// Makes one turn of a page that isn't over. Returns false if the page comes to a wrong end, or not after as many turns
-/// as alone.
+/// Makes one turn of a page that isn't over. Returns false if the page comes to a wrong end, or not
+/// after as many turns as alone.
 fn page_steps(
     page: &mut Page<'_, Tested>,
     case: &Case,
@@ -67,8 +68,8 @@ fn page_steps(
     }
 }
 
-/// Makes one turn of a run that isn't over. Returns false if the run comes to a wrong end, or not after as many turns
-/// as alone.
+/// Makes one turn of a run that isn't over. Returns false if the run comes to a wrong end, or not
+/// after as many turns as alone.
 fn run_steps(
     run: &mut Run<'_, Tested>,
     work: &Work,
@@ -97,8 +98,9 @@ fn next_number(number: u64) -> u64 {
         .wrapping_add(1442695040888963407)
 }
 
-/// Returns whose turn a step is: 0 is the first page's, 1 the second's, 2 the run's. With a batch of 0 the number
-/// decides; otherwise the first page takes `batch` turns, and then the others take one each.
+/// Returns whose turn a step is: 0 is the first page's, 1 the second's, 2 the run's. With a batch
+/// of 0 the number decides; otherwise the first page takes `batch` turns, and then the others take
+/// one each.
 fn whose_turn(step: u32, batch: u32, number: u64) -> u32 {
     if batch == 0 {
         return ((number >> 40) % 3) as u32;
@@ -239,7 +241,8 @@ fn is_carried_out(
     }
 }
 
-/// Returns whether the scripts, one after another over one cache of that capacity, come to the right ends.
+/// Returns whether the scripts, one after another over one cache of that capacity, come to the
+/// right ends.
 fn are_carried_out(alloc: Global, plugins: &Plugins<Tested>, capacity: usize) -> bool
     requires { (1 ≤ capacity) × (capacity ≤ 4096) }
 {

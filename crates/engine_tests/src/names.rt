@@ -33,7 +33,8 @@ static TEXTS: [(&str, Option<NameFault>, Option<NameFault>); 12] = [
     ("the é [content]", None, NO),
 ];
 
-/// Returns whether a text is refused by that fault as the name of a hook, or else is read as one unchanged.
+/// Returns whether a text is refused by that fault as the name of a hook, or else is read as one
+/// unchanged.
 fn is_hook(alloc: Global, text: &str, fault: Option<NameFault>) -> bool {
     match HookName::read(alloc, text) {
         Ok(name) => fault.is_none() && name.as_str() == text,
@@ -41,7 +42,8 @@ fn is_hook(alloc: Global, text: &str, fault: Option<NameFault>) -> bool {
     }
 }
 
-/// Returns whether a text is refused by that fault as the name of a shortcode, or else is read as one unchanged.
+/// Returns whether a text is refused by that fault as the name of a shortcode, or else is read as
+/// one unchanged.
 fn is_tag(alloc: Global, text: &str, fault: Option<NameFault>) -> bool {
     match TagName::read(alloc, text) {
         Ok(name) => fault.is_none() && name.as_str() == text,

@@ -6,9 +6,9 @@ use Load::{No, On, Tag};
 use hook_machine::RunFault;
 use std::alloc::Global;
 
-/// What the load lists of the plugins `a-b` and `B` add, whether `B` is active beside `a-b`, how many calls a run has,
-/// and what is answered: two passes of the filter `the_title` over empty text, and `TEXT` with its shortcodes replaced.
-/// All callbacks but 103 are those of `a-b`.
+/// What the load lists of the plugins `a-b` and `B` add, whether `B` is active beside `a-b`, how
+/// many calls a run has, and what is answered: two passes of the filter `the_title` over empty
+/// text, and `TEXT` with its shortcodes replaced. All callbacks but 103 are those of `a-b`.
 struct Case([Load; 3], [Load; 2], bool, u32, Answer, Answer, Answer);
 
 const TEXT: &str = "x[t] [[t]";
@@ -22,7 +22,8 @@ const NO_MEMORY: Answer = Err(RunFault::OutOfMemory);
 const NONE: [Load; 2] = [No, No];
 
 static CASES: [Case; 23] = [
-    // A hook that is emptied: the list that the pass reached is run to its end, and the next pass has no callbacks.
+    // A hook that is emptied: the list that the pass reached is run to its end, and the next pass
+    // has no callbacks.
     Case(
         [
             On(Title, 10, 101, 1),
@@ -50,7 +51,8 @@ static CASES: [Case; 23] = [
         Ok("rb"),
         PLAIN,
     ),
-    // A load list adds the callback of another plugin while that one is active, and one that no plugin has never.
+    // A load list adds the callback of another plugin while that one is active, and one that no
+    // plugin has never.
     Case(
         [On(Title, 10, 103, 1), On(Title, 20, 999, 1), No],
         NONE,
@@ -126,8 +128,8 @@ static CASES: [Case; 23] = [
         TOO_MANY,
         TOO_MANY,
     ),
-    // A callback that removes itself is run to the end of this pass, and is in no later one: at a smaller priority than
-    // another, at the same one before and after it, and at a larger one.
+    // A callback that removes itself is run to the end of this pass, and is in no later one: at a
+    // smaller priority than another, at the same one before and after it, and at a larger one.
     Case(
         [On(Title, 10, 105, 1), On(Title, 20, 102, 1), No],
         NONE,
@@ -164,7 +166,8 @@ static CASES: [Case; 23] = [
         Ok("b"),
         PLAIN,
     ),
-    // Its registration at a larger priority is gone when the pass would reach it, and that at a smaller one stays.
+    // Its registration at a larger priority is gone when the pass would reach it, and that at a
+    // smaller one stays.
     Case(
         [On(Title, 5, 105, 1), On(Title, 10, 105, 1), No],
         NONE,
@@ -194,7 +197,8 @@ static CASES: [Case; 23] = [
         NO_MEMORY,
         NO_MEMORY,
     ),
-    // A handler has no arguments; a tag that is added again takes the later one; a handler takes a call.
+    // A handler has no arguments; a tag that is added again takes the later one; a handler takes a
+    // call.
     Case(
         [Tag(102), No, No],
         NONE,
@@ -214,7 +218,8 @@ static CASES: [Case; 23] = [
         Ok("xr [r"),
     ),
     Case([Tag(102), No, No], NONE, false, 1, Ok(""), Ok(""), TOO_MANY),
-    // The handler of a plugin that isn't active isn't registered, and its shortcode stays plain text.
+    // The handler of a plugin that isn't active isn't registered, and its shortcode stays plain
+    // text.
     Case([Tag(103), No, No], NONE, false, 2, Ok(""), Ok(""), PLAIN),
     Case(
         [Tag(103), No, No],

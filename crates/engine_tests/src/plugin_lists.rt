@@ -42,7 +42,8 @@ fn pairs_are_refused(rt: HostRuntime) {
     }
 }
 
-/// How many plugins of one name, how many callbacks of one number each has, how many changes, and how they are refused.
+/// How many plugins of one name, how many callbacks of one number each has, how many changes, and
+/// how they are refused.
 static SIZES: [(usize, usize, usize, Option<PluginFault>); 7] = [
     (0, 0, 0, None),
     (1, 1, 256, None),
@@ -54,8 +55,8 @@ static SIZES: [(usize, usize, usize, Option<PluginFault>); 7] = [
     (1, 0, 257, TOO_MANY),
 ];
 
-/// Returns the fault of a list of `count` plugins, each with `callbacks` callbacks and `changes` changes, if it has
-/// one.
+/// Returns the fault of a list of `count` plugins, each with `callbacks` callbacks and `changes`
+/// changes, if it has one.
 fn fault_of_many(
     alloc: Global,
     count: usize,

@@ -8,7 +8,8 @@ use callback_store::{Plugin, PluginFault, Plugins};
 use hook_changes::{CallbackId, Change, Listed, Text};
 use std::alloc::{AllocError, Global};
 
-/// A hook of a load list. A variant and not its name, since a table can't hold an array of a type that has references.
+/// A hook of a load list. A variant and not its name, since a table can't hold an array of a type
+/// that has references.
 #[derive(Clone, Copy)]
 pub enum Hook {
     Title,

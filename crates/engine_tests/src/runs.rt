@@ -13,8 +13,8 @@ use std::alloc::{AllocError, Global};
 /// What a run answers.
 pub type Answer = Result<&'static str, RunFault>;
 
-/// What a run is over: whether the bundle's plugins are there, other plugins, the names of the active ones, and how
-/// many calls it has.
+/// What a run is over: whether the bundle's plugins are there, other plugins, the names of the
+/// active ones, and how many calls it has.
 #[derive(Clone, Copy)]
 pub struct Setting<'a>(pub bool, pub &'a [Given<'a>], pub &'a [&'a str], pub u32);
 
@@ -33,7 +33,8 @@ pub enum Step {
     Keeps(usize),
 }
 
-/// Returns whether a new run in this setting, whose plugins are loaded first, answers each step as it says.
+/// Returns whether a new run in this setting, whose plugins are loaded first, answers each step as
+/// it says.
 pub fn are_answered(alloc: Global, setting: &Setting<'_>, steps: &[Step]) -> bool {
     match plugins(alloc, setting.0, setting.1) {
         Ok(plugins) => are_answered_over(alloc, &plugins, setting, steps),

@@ -1,5 +1,5 @@
-//! Site files that are given as bytes. The program reads them from a command's JSON tree, and its replies show
-//! everything but where the first fault is.
+//! Site files that are given as bytes. The program reads them from a command's JSON tree, and its
+//! replies show everything but where the first fault is.
 use site_import::{ImportFault, Place, Section, read_site};
 use site_records::SiteRecords;
 use std::alloc::Global;

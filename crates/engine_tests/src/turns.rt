@@ -7,16 +7,16 @@ use crate::plugins::{Given, Hook, Load, plugins};
 use crate::runs::{Answer, loaded};
 use callback_store::{PluginFault, Plugins};
 use content_cache::PieceCache;
-use hook_changes::{Listed, Text};
+use hook_changes::{Listed, Shared, Text};
 use hook_machine::RunFault;
 use site_records::{Found, FoundKind, Post, PostDate, PostKind, PostStatus};
 use std::alloc::{AllocError, Global};
-use template_parts::{Page, PageTurn, Settings, SharedFound};
-use template_trees::{SharedTemplate, default_index};
+use template_parts::{Page, PageTurn, Settings};
+use template_trees::default_index;
 
-/// The active plugin, or two with a space between them, the title and content of the one post if there is one, how many
-/// calls a page has, how many turns stop after a callback, and what the next turn returns: a page, or a fault that each
-/// later turn returns too.
+/// The active plugin, or two with a space between them, the title and content of the one post if
+/// there is one, how many calls a page has, how many turns stop after a callback, and what the next
+/// turn returns: a page, or a fault that each later turn returns too.
 pub struct Case(
     &'static str,
     Option<(&'static str, &'static str)>,
@@ -38,7 +38,8 @@ pub static CASES: [Case; 16] = [
         2,
         Ok("<h2></h2><b>x</b>"),
     ),
-    // Core's callback, a handler, and the callback of the filter on its answer; and one call too few.
+    // Core's callback, a handler, and the callback of the filter on its answer; and one call too
+    // few.
     Case(
         "bold tagmark",
         Some(("", "[b]x[/b]")),
@@ -47,7 +48,8 @@ pub static CASES: [Case; 16] = [
         Ok("<h2></h2><b>x</b>{b}"),
     ),
     Case("bold tagmark", Some(("", "[b]x[/b]")), 2, 2, TOO_MANY),
-    // Core's callback, a handler that asks for the text within, the handler in there, and the first again.
+    // Core's callback, a handler that asks for the text within, the handler in there, and the first
+    // again.
     Case(
         "bold",
         Some(("", "[i]a[b]c[/b][/i]")),
@@ -75,7 +77,8 @@ pub static CASES: [Case; 16] = [
     ),
     // No calls at all.
     Case("marks", Some(("T", "")), 0, 0, TOO_MANY),
-    // A callback that adds itself at a larger priority while the title is shorter than 3 bytes, and then core's.
+    // A callback that adds itself at a larger priority while the title is shorter than 3 bytes, and
+    // then core's.
     Case("climb", Some(("", "")), 5, 5, Ok("<h2>xxxx</h2>")),
     Case("climb", Some(("", "")), 4, 4, TOO_MANY),
     // One that always does.
@@ -134,7 +137,7 @@ fn found(alloc: Global, case: &Case) -> Result<Found, AllocError> {
 fn settings(alloc: Global) -> Result<Settings, AllocError> {
     Ok(Settings {
         site_name: Text::empty(alloc),
-        template: SharedTemplate::new(alloc, default_index(alloc)?)?,
+        template: Shared::new(alloc, default_index(alloc)?)?,
         header: None,
         footer: None,
         content: None,
@@ -152,7 +155,7 @@ pub fn begun<'p>(
     let settings = settings(alloc)?;
     let (first, second) = case.0.split_once(' ').unwrap_or((case.0, ""));
     let run = loaded(alloc, plugins, &[first, second], case.2)?;
-    Ok(Page::begin(alloc, SharedFound::new(alloc, found)?, settings, run))
+    Ok(Page::begin(alloc, Shared::new(alloc, found)?, settings, run))
 }
 
 /// Returns whether a turn returned that page, or that fault.
@@ -193,8 +196,8 @@ fn is_stopped(page: &mut Page<'_, Tested>, cache: &mut PieceCache, turns: u32) -
     true
 }
 
-/// Returns whether the case's page stops as often as the case says and then ends as it says, and each later call
-/// returns the fault of a refused one.
+/// Returns whether the case's page stops as often as the case says and then ends as it says, and
+/// each later call returns the fault of a refused one.
 fn is_case(alloc: Global, plugins: &Plugins<Tested>, case: &Case, cache: &mut PieceCache) -> bool {
     match begun(alloc, plugins, case) {
         Ok(mut page) => {

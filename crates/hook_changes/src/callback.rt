@@ -3,7 +3,8 @@ ghost use Rattle.std.specs.Prelude.{◌≡◌, ℕ};
 
 use std::marker::Model;
 
-/// The number by which a bundle of plugins names one of its callbacks, in place of WordPress's PHP callable.
+/// The number by which a bundle of plugins names one of its callbacks, in place of WordPress's PHP
+/// callable.
 ///
 /// Number 0 is core's own callback, `do_shortcode`; no plugin has it.
 #[derive(Clone, Copy, PartialEq, Eq)]

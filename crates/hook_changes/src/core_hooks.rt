@@ -2,8 +2,8 @@
 ghost use Rattle.std.specs.Prelude.{◌≡◌};
 ghost use Rattle.hook_changes.specs.Names.{core_name};
 
-/// A hook that the engine itself runs: an action of a request, or a filter on what a page shows (Plugin API, Action and
-/// Filter References).
+/// A hook that the engine itself runs: an action of a request, or a filter on what a page shows
+/// (Plugin API, Action and Filter References).
 #[derive(Clone, Copy, Debug)]
 pub enum CoreHook {
     PluginsLoaded,

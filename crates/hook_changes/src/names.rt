@@ -1,10 +1,11 @@
 //! The names of hooks and of shortcodes.
-ghost use Rattle.std.specs.Prelude.{◌≡◌, ◌↔◌, ℕ, List, IsTrue, IsFalse, IfOk, Err, MatchOption, bytes_eq};
+ghost use Rattle.std.specs.Prelude.{◌≡◌, ◌↔◌, ℕ, List, IsTrue, IsFalse, IfOk, Err, MatchOption};
+ghost use Rattle.std.specs.Prelude.{bytes_eq};
 ghost use Rattle.std.specs.List.{list_all};
 ghost use Rattle.shortcode_atts.specs.NameByte.{is_name_byte};
 ghost use Rattle.hook_changes.specs.Names.{has_name_length, is_hook_name, is_tag_name};
 
-use crate::kept::Text;
+use crate::texts::Text;
 use shortcode_atts::is_name_byte;
 use std::alloc::{AllocError, Global};
 use std::marker::Model;
@@ -13,7 +14,8 @@ use thiserror::Error;
 /// Why a text could not be read as a name.
 #[derive(Clone, Copy, Debug, PartialEq, Eq, Error)]
 pub enum NameFault {
-    /// The text is empty, longer than 64 bytes or, for a shortcode, has a byte outside the alphabet.
+    /// The text is empty, longer than 64 bytes or, for a shortcode, has a byte outside the
+    /// alphabet.
     #[error("not a name")]
     BadName,
     /// Memory for the copy ran out.
@@ -31,8 +33,8 @@ impl From<AllocError> for NameFault {
     }
 }
 
-/// The name of a hook, action or filter alike: 1 to 64 bytes of text (Plugin Handbook, Hooks; the lengths are this
-/// engine's own).
+/// The name of a hook, action or filter alike: 1 to 64 bytes of text (Plugin Handbook, Hooks; the
+/// lengths are this engine's own).
 #[derive(Drop)]
 pub struct HookName {
     name: Text,
@@ -91,6 +93,8 @@ impl HookName {
 }
 
 impl Clone for HookName {
+    ghost is_clone = { λ name copy. copy ≡ name };
+
     fn clone(&self) -> Result<Self, AllocError>
         ensures { IfOk result (λ name. name ≡ self.now) }
     {
@@ -100,8 +104,8 @@ impl Clone for HookName {
     }
 }
 
-/// The name of a shortcode: 1 to 64 ASCII letters, digits, `_` and `-` (Shortcode API; the alphabet is this
-/// engine's own). Names of plugins are of this form too.
+/// The name of a shortcode: 1 to 64 ASCII letters, digits, `_` and `-` (Shortcode API; the alphabet
+/// is this engine's own). Names of plugins are of this form too.
 #[derive(Drop)]
 pub struct TagName {
     name: String,
@@ -142,6 +146,8 @@ impl TagName {
 }
 
 impl Clone for TagName {
+    ghost is_clone = { λ name copy. copy ≡ name };
+
     fn clone(&self) -> Result<Self, AllocError>
         ensures { IfOk result (λ name. name ≡ self.now) }
     {

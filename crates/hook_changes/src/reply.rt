@@ -3,17 +3,19 @@ ghost use Rattle.std.specs.Prelude.{◌≡◌};
 ghost use Rattle.hook_changes.specs.Replies.{answers_text, asks};
 
 use crate::callback::CallbackId;
-use crate::kept::{Listed, Text};
+use crate::lists::Listed;
+use crate::texts::Text;
 use shortcode_atts::Atts;
 use std::alloc::Global;
 
 /// A change of the registrations or of the shortcodes.
 ///
-/// A change does nothing if it names no hook or no tag, or a callback of a plugin that isn't active, or has an accepted
-/// count above 16.
-#[derive(Drop)]
+/// A change does nothing if it names no hook or no tag, or a callback of a plugin that isn't
+/// active, or has an accepted count above 16.
+#[derive(Clone, PartialEq, Drop)]
 pub enum Change {
-    /// `add_filter` or `add_action`: hooks share one table. `accepted` is how many arguments the callback takes.
+    /// `add_filter` or `add_action`: hooks share one table. `accepted` is how many arguments the
+    /// callback takes.
     Add {
         hook: Text,
         priority: i32,
@@ -72,8 +74,9 @@ pub enum Ask {
     Doing {
         hook: Text,
     },
-    /// `has_filter`: without a callback whether the hook has any registration, answered by a flag; with one the
-    /// smallest priority of that callback there, answered by a number, or by the flag `false`.
+    /// `has_filter`: without a callback whether the hook has any registration, answered by a flag;
+    /// with one the smallest priority of that callback there, answered by a number, or by the flag
+    /// `false`.
     Has {
         hook: Text,
         callback: Option<CallbackId>,
@@ -102,9 +105,11 @@ pub enum Answer {
 pub struct Call {
     /// The hook that runs the callback; empty for the handler of a shortcode.
     pub hook: Text,
-    /// The first of the pass's arguments, as many as the callback accepts; in a filter the value comes first.
+    /// The first of the pass's arguments, as many as the callback accepts; in a filter the value
+    /// comes first.
     pub args: Listed<Text>,
-    /// The tag whose handler this is; empty for the callback of a hook, as `atts` and `content` are.
+    /// The tag whose handler this is; empty for the callback of a hook, as `atts` and `content`
+    /// are.
     pub tag: Text,
     /// The shortcode's attributes.
     pub atts: Atts,
@@ -117,7 +122,8 @@ pub struct Call {
 /// How a callback goes on.
 #[derive(Drop)]
 pub enum Then {
-    /// It is done. In a filter this is the next value, in a shortcode what replaces it; an action drops it.
+    /// It is done. In a filter this is the next value, in a shortcode what replaces it; an action
+    /// drops it.
     Answer(Text),
     /// It is called again, with the engine's answer after those that it was given before.
     Ask(Ask),

@@ -8,7 +8,7 @@ use Rattle.callback_store.specs.Shape.{Shape}
 use Rattle.hook_registry.specs.Table.{Table}
 use Rattle.hook_registry.specs.OneList as one_list
 use Rattle.hook_registry.specs.OneList.{TableChange, Added, Removed, RemovedAll}
-use Rattle.hook_machine.specs.World.{Text, World, is_active, changed, core_changes, load_changes, loaded, fresh}
+use Rattle.hook_machine.specs.World.{Text, World, is_active, world_after_change, core_changes, load_changes, loaded, fresh}
 use Rattle.hook_machine.specs.Tables.{table_changes, table_with, HasBuiltTable}
 use Rattle.hook_machine.specs.Throughout.{Throughout}
 use Rattle.hook_machine.specs.Meaning.{Engine, filtered, acted, replaced}
@@ -20,7 +20,7 @@ one_or_none : (b : Bool) (t : Table) (c : TableChange) → cond b (table_with t 
 one_or_none true t c = refl
 one_or_none false t c = refl
 
-pub table-changed : (plugins : List Shape) (w : World) (c : Change) → (changed plugins w c).table ≡ table_with w.table (table_changes plugins w c)
+pub table-changed : (plugins : List Shape) (w : World) (c : Change) → (world_after_change plugins w c).table ≡ table_with w.table (table_changes plugins w c)
 table-changed plugins w (Add hook priority callback accepted) =
     one_or_none (is_hook_name hook && is_active plugins w callback && nat_le accepted 16) w.table
     (Added hook (record { priority = priority; callback = callback; accepted = accepted }))
@@ -30,11 +30,11 @@ table-changed plugins w (AddTag tag callback) = refl
 table-changed plugins w (RemoveTag tag) = refl
 table-changed plugins w RemoveAllTags = refl
 
-pub built-kept : (plugins : List Shape) (w : World) (c : Change) → HasBuiltTable w → HasBuiltTable (changed plugins w c)
+pub built-kept : (plugins : List Shape) (w : World) (c : Change) → HasBuiltTable w → HasBuiltTable (world_after_change plugins w c)
 built-kept plugins w c built = record {
   changes = built.changes ++ table_changes plugins w c;
   is = table-changed plugins w c ∙ ap (λ t. table_with t (table_changes plugins w c)) built.is
-      ∙ sym (fold-append one_list.changed [] built.changes (table_changes plugins w c));
+      ∙ sym (fold-append one_list.with_change [] built.changes (table_changes plugins w c));
 }
 
 keeps_built : (plugins : List Shape) → Keeps plugins HasBuiltTable

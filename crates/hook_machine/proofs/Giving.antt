@@ -6,8 +6,8 @@ use Rattle.hook_registry.specs.Table.{group, after}
 use Rattle.hook_machine.specs.declared.fault.RunFault.{RunFault}
 use Rattle.hook_machine.specs.declared.run.calls.PassKind.TheVariants.{Action}
 use Rattle.hook_machine.specs.World.{Text, World}
-use Rattle.hook_machine.specs.Trace.{Trace, Done, Refused, Turn, and_then, chosen, Ended, outcome_of}
-use Rattle.hook_machine.specs.Meaning.{Invocation, group_pass, priorities_pass, pass, action_pass, fired}
+use Rattle.hook_machine.specs.Trace.{Trace, Done, Refused, Turn, and_then, work_if, Ended, outcome_of}
+use Rattle.hook_machine.specs.Meaning.{Invocation, group_pass, priorities_pass, pass, action_pass, with_firing}
 
 -- if the work has a result, it is this one
 pub data Gives {A : Type 0} (x : A) : Trace A → Type 0 where
@@ -46,8 +46,8 @@ pub action_gives : (inv : Invocation) (w : World) (hook : Text) (args : List Tex
 unfolding action_pass
 action_gives inv w hook args = by_name (is_hook_name hook)
   where
-    by_name : (b : Bool) → Gives [] (chosen b (λ v. pass inv Action (fired v hook) hook [] args) (λ v. Done v []) w)
-    by_name true = gives_pass inv hook args [] (fired w hook)
+    by_name : (b : Bool) → Gives [] (work_if b (λ v. pass inv Action (with_firing v hook) hook [] args) (λ v. Done v []) w)
+    by_name true = gives_pass inv hook args [] (with_firing w hook)
     by_name false = gives_done
 
 pub given_is : {A : Type 0} {x : A} {t : Trace A} (w : World) (y : A) → Gives x t → outcome_of t ≡ Ended w y → y ≡ x

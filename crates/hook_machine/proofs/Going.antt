@@ -130,6 +130,19 @@ module _ (engine : Engine) where
         → Moves pace engine t r w fs
     moves_then {t} {u} r w fs l m = record { leads = on_then pace t u _ r l m.leads }
 
+    -- work that waits at a frame, which was put before the others
+    pub moves_onto : (t u : Trace Text) (f : Frame) (fs fs' : List Frame) → t ≡ and_then u (λ later x. handed engine later f x) → fs' ≡ f ∷ fs
+        → (r : Result Move RunFault) (w : World) (gs : List Frame) → Moves pace engine (then_rest engine u fs') r w gs
+        → Moves pace engine (then_rest engine t fs) r w gs
+    moves_onto t u f fs fs' e q r w gs m =
+        moves_then r w gs
+        (leads_here (ap (λ (t : Trace Text). then_rest engine t fs) e ∙ onto_frame engine u f fs ∙ ap (λ (l : List Frame). then_rest engine u l) (sym q))) m
+
+    -- work that is done at once
+    pub moves_same : (t u : Trace Text) (fs : List Frame) → t ≡ u → (r : Result Move RunFault) (w : World) (gs : List Frame)
+        → Moves pace engine (then_rest engine u fs) r w gs → Moves pace engine (then_rest engine t fs) r w gs
+    moves_same t u fs e r w gs m = moves_then r w gs (leads_here (ap (λ (t : Trace Text). then_rest engine t fs) e)) m
+
     -- frames that were put, unless memory ran out
     pub put_moves : (t : Trace Text) (r : Result Move RunFault) (w : World) (fs fs' : List Frame) → IfOk r (λ move. (move ≡ Turned) × (fs' ≡ fs))
         → IfErr r (λ fault. fault ≡ OutOfMemory) → Moves pace engine t (Ok Turned) w fs → Moves pace engine t r w fs'

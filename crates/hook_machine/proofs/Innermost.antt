@@ -15,7 +15,8 @@ use Rattle.hook_machine.specs.Invocations.{invoked_in}
 -- what is left begins with what is left of an invocation
 abbrev Begins : Engine → World → Option Job → List Frame → Invoked → Type 0
 Begins engine world job frames i =
-    (pending : Pending) × (outer : List Frame) × (left_from engine world job frames ≡ then_rest engine (pending_left engine world i.callback i.call pending) outer)
+    (pending : Pending) × (outer : List Frame) × (left_from engine world job frames ≡ then_rest engine (pending_left engine world i.callback i.call pending)
+    outer)
 
 -- the frames begin with what is left of the innermost one, if that is an invocation
 pub innermost-left : (engine : Engine) (world : World) (job : Option Job) (frames : List Frame) (i : Invoked) → is_some job ≡ false

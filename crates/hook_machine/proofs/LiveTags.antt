@@ -14,7 +14,7 @@ use Rattle.callback_store.proofs.Mapped.{list_any-map}
 use Rattle.shortcode_scan.specs.Opened.{is_among}
 use Rattle.shortcode_scan.specs.Pieces.{pieces_of}
 use Rattle.shortcode_scan.proofs.PieceLemmas.{pieces_of-alike}
-use Rattle.content_cache.specs.declared.kept.OpenedName.{OpenedName}
+use Rattle.content_cache.specs.declared.cut_text.OpenedName.{OpenedName}
 use Rattle.content_cache.specs.Opened.{names_of, tags_in, IsOpenedBy}
 use Rattle.hook_machine.specs.Tagged.{is_tag, is_as_cut, opened_as}
 use Rattle.hook_registry.proofs.TagNames.{is_tag-named}

@@ -36,12 +36,12 @@ use Rattle.hook_machine.specs.Cuts.{CutText, PassOverText}
 use Rattle.hook_machine.specs.Handling.{handling_pass}
 use Rattle.hook_machine.specs.World.{Text, World}
 use Rattle.hook_machine.specs.Trace.{Trace, Done, Refused, and_then}
-use Rattle.hook_machine.specs.Meaning.{Engine, Invocation, hook_call, arguments, value_after, pass, filter_pass, action_pass, filtered, fired, text_at}
+use Rattle.hook_machine.specs.Meaning.{Engine, Invocation, hook_call, arguments, value_after, pass, filter_pass, action_pass, filtered, with_firing, text_at}
 use Rattle.hook_machine.specs.Meaning.{shortcode_filter, pieces_pass, shortcodes_pass, answered, invoke, first_or_empty, last_or_empty, has_answer}
 use Rattle.hook_machine.specs.Meaning.{text_or_false}
 use Rattle.call_plans.specs.Position.{first_of, reach, next_entry}
-use Rattle.hook_machine.specs.Works.{bracketed, answer_shown}
-use Rattle.hook_machine.specs.Rest.{in_place, left_hook, risen, with_answer, pass_left, text_left, text_handed, pending_left, pending_handed, goes_on}
+use Rattle.hook_machine.specs.Works.{between_brackets, answer_shown}
+use Rattle.hook_machine.specs.Rest.{in_place, left_hook, one_level_up, with_answer, pass_left, text_left, text_handed, pending_left, pending_handed, goes_on}
 use Rattle.hook_machine.specs.Rest.{handed, rest_with, then_rest, rest}
 use Rattle.hook_machine.specs.declared.run.jobs.Job.{Job}
 use Rattle.hook_machine.specs.Jobs.{job_left, left_from}
@@ -49,11 +49,11 @@ use Rattle.hook_machine.specs.declared.run.frames.Pace.{Pace}
 use Rattle.hook_machine.specs.declared.run.frames.Pace.TheVariants.{Through}
 use Rattle.hook_machine.specs.Moves.{Moves, Leads}
 use Rattle.hook_machine.specs.PassedOver.{left_by_core}
-use Rattle.hook_machine.proofs.Going.{leads_here, leads_over}
+use Rattle.hook_machine.proofs.Going.{leads_here, leads_over, moves_onto, moves_same}
 use Rattle.hook_machine.proofs.Walk.{then_under}
 use Rattle.hook_machine.proofs.Ending.{filter_named, filter_unnamed, filter_unhooked, unhooked, action_named, action_unnamed}
 use Rattle.hook_machine.proofs.Steps.{pass_goes, pass_ends, pass_begins, ask_plain, ask_apply, ask_act, ask_shortcodes, core_goes}
-use Rattle.hook_machine.proofs.Steps.{text_begins, moves_onto, moves_same, then_done}
+use Rattle.hook_machine.proofs.Steps.{text_begins, then_done}
 
 -- the position stays in its hook
 next_hook : (table : Table) (hook : Text) (at : Option ℤ) (es : List Entry)
@@ -71,7 +71,8 @@ next_hook table hook at (x ∷ es) = refl
 
 module _ (engine : Engine) where
   -- a frame that ends hands its result on
-  pub handed_moves : {pace : Pace} (t : Trace Text) (w : World) (x : Text) (fs : List Frame) → t ≡ Done w x → Moves pace engine (then_rest engine t fs) (Ok (Handed x)) w fs
+  pub handed_moves : {pace : Pace} (t : Trace Text) (w : World) (x : Text) (fs : List Frame) → t ≡ Done w x → Moves pace engine (then_rest engine t fs)
+      (Ok (Handed x)) w fs
   handed_moves t w x fs e = record { leads = leads_here (ap (λ (t : Trace Text). then_rest engine t fs) e) }
 
   -- a run that is refused, unless memory ran out
@@ -148,8 +149,9 @@ module _ (engine : Engine) where
   filter_back w hook v args fs h = handed_moves (filter_pass (invoke engine) w hook v args) w v fs (filter_unnamed (invoke engine) w hook v args h)
 
   pub action_moves : {pace : Pace} (w counted : World) (hook name nothing : Text) (args : List Text) (fs : List Frame) → name ≡ hook → is_hook_name hook ≡ true
-      → counted ≡ fired w name → nothing ≡ []
-      → (r : Result Move RunFault) (s : World) (gs : List Frame) → Moves pace engine (then_rest engine (pass (invoke engine) Action counted name nothing args) fs)
+      → counted ≡ with_firing w name → nothing ≡ []
+      → (r : Result Move RunFault) (s : World) (gs : List Frame)
+      → Moves pace engine (then_rest engine (pass (invoke engine) Action counted name nothing args) fs)
       r s gs → Moves pace engine (then_rest engine (action_pass (invoke engine) w hook args) fs) r s gs
   action_moves w counted hook name nothing args fs e h c n r s gs m =
       moves_same engine (action_pass (invoke engine) w hook args) (pass (invoke engine) Action counted name nothing args) fs
@@ -166,7 +168,7 @@ module _ (engine : Engine) where
   filter_away w hook v args fs h = handed_moves (filter_pass (invoke engine) w hook v args) w v fs (filter_unhooked (invoke engine) w hook v args h)
 
   pub action_away : {pace : Pace} (w counted : World) (hook name nothing : Text) (args : List Text) (fs : List Frame) → name ≡ hook → is_hook_name hook ≡ true
-      → counted ≡ fired w name → nothing ≡ [] → has counted.table name ≡ false
+      → counted ≡ with_firing w name → nothing ≡ [] → has counted.table name ≡ false
       → Moves pace engine (then_rest engine (action_pass (invoke engine) w hook args) fs) (Ok (Handed nothing)) counted fs
   action_away w counted hook name nothing args fs e h c n none =
       action_moves w counted hook name nothing args fs e h c n _ _ _
@@ -188,7 +190,8 @@ module _ (engine : Engine) where
 
   pub apply_moves : {pace : Pace} (w inside : World) (k : ℕ) (call : Call) (hook name v : Text) (args : List Text) (fs fs' : List Frame) → w.depth < 32
       → inside ≡ record w { depth = w.depth + 1 } → name ≡ hook → fs' ≡ frame.Invocation (record { callback = k; call = call; pending = ForText }) ∷ fs
-      → (r : Result Move RunFault) (s : World) (gs : List Frame) → Moves pace engine (then_rest engine (filter_pass (invoke engine) inside name v args) fs') r s gs
+      → (r : Result Move RunFault) (s : World) (gs : List Frame) → Moves pace engine (then_rest engine (filter_pass (invoke engine) inside name v args) fs') r s
+      gs
       → Moves pace engine (then_rest engine (pending_left engine w k call (Next (next.Ask (Apply hook v args)))) fs) r s gs
   apply_moves w inside k call hook name v args fs fs' d e n f r s gs m =
       moves_onto engine (pending_left engine w k call (Next (next.Ask (Apply hook v args)))) (filter_pass (invoke engine) inside name v args)
@@ -196,7 +199,8 @@ module _ (engine : Engine) where
 
   pub act_moves : {pace : Pace} (w inside : World) (k : ℕ) (call : Call) (hook name : Text) (args : List Text) (fs fs' : List Frame) → w.depth < 32
       → inside ≡ record w { depth = w.depth + 1 } → name ≡ hook → fs' ≡ frame.Invocation (record { callback = k; call = call; pending = ForNothing }) ∷ fs
-      → (r : Result Move RunFault) (s : World) (gs : List Frame) → Moves pace engine (then_rest engine (action_pass (invoke engine) inside name args) fs') r s gs
+      → (r : Result Move RunFault) (s : World) (gs : List Frame) → Moves pace engine (then_rest engine (action_pass (invoke engine) inside name args) fs') r s
+      gs
       → Moves pace engine (then_rest engine (pending_left engine w k call (Next (next.Ask (Act hook args)))) fs) r s gs
   act_moves w inside k call hook name args fs fs' d e n f r s gs m =
       moves_onto engine (pending_left engine w k call (Next (next.Ask (Act hook args)))) (action_pass (invoke engine) inside name args)
@@ -219,7 +223,8 @@ module _ (engine : Engine) where
       moves_onto engine (pending_left engine w k call Core) (shortcodes_pass (invoke engine) inside text)
       (frame.Invocation (record { callback = k; call = kept; pending = ForCore })) fs fs' (rw (e, t) (core_goes engine w k call kept d)) f r s gs m
 
-  pub plain_moves : {pace : Pace} (w : World) (k : ℕ) (call : Call) (ask : Ask) (reply : Answer) (fs : List Frame) → answered (invoke engine) w ask ≡ Done w reply
+  pub plain_moves : {pace : Pace} (w : World) (k : ℕ) (call : Call) (ask : Ask) (reply : Answer) (fs : List Frame) → answered (invoke engine) w ask
+      ≡ Done w reply
       → (r : Result Move RunFault) (s : World) (gs : List Frame) → Moves pace engine (then_rest engine (invoke engine w k (with_answer call reply)) fs) r s gs
       → Moves pace engine (then_rest engine (pending_left engine w k call (Next (next.Ask ask))) fs) r s gs
   plain_moves w k call ask reply fs h r s gs m =
@@ -305,26 +310,27 @@ module _ (engine : Engine) where
   others_wait w k call ForCore h g = refl
 
   -- a result that is handed to an invocation
-  pub text_answered : {pace : Pace} (w up : World) (k : ℕ) (call : Call) (text : Text) (fs : List Frame) → up ≡ risen w
+  pub text_answered : {pace : Pace} (w up : World) (k : ℕ) (call : Call) (text : Text) (fs : List Frame) → up ≡ one_level_up w
       → (r : Result Move RunFault) (s : World) (gs : List Frame) → Moves pace engine
       (then_rest engine (invoke engine up k (with_answer call (answer.Text text))) fs) r s gs
       → Moves pace engine (then_rest engine (pending_handed engine w k call ForText text) fs) r s gs
   unfolding pending_handed
-  text_answered w up k call text fs e r s gs m = moves_same engine (invoke engine (risen w) k (with_answer call (answer.Text text)))
+  text_answered w up k call text fs e r s gs m = moves_same engine (invoke engine (one_level_up w) k (with_answer call (answer.Text text)))
       (invoke engine up k (with_answer call (answer.Text text))) fs (ap (λ (v : World). invoke engine v k (with_answer call (answer.Text text))) (sym e)) r s
       gs m
 
-  pub nothing_handed : {pace : Pace} (w up : World) (k : ℕ) (call : Call) (text : Text) (fs : List Frame) → up ≡ risen w
-      → (r : Result Move RunFault) (s : World) (gs : List Frame) → Moves pace engine (then_rest engine (invoke engine up k (with_answer call answer.Nothing)) fs) r
+  pub nothing_handed : {pace : Pace} (w up : World) (k : ℕ) (call : Call) (text : Text) (fs : List Frame) → up ≡ one_level_up w
+      → (r : Result Move RunFault) (s : World) (gs : List Frame)
+      → Moves pace engine (then_rest engine (invoke engine up k (with_answer call answer.Nothing)) fs) r
       s gs → Moves pace engine (then_rest engine (pending_handed engine w k call ForNothing text) fs) r s gs
   unfolding pending_handed
-  nothing_handed w up k call text fs e r s gs m = moves_same engine (invoke engine (risen w) k (with_answer call answer.Nothing))
+  nothing_handed w up k call text fs e r s gs m = moves_same engine (invoke engine (one_level_up w) k (with_answer call answer.Nothing))
       (invoke engine up k (with_answer call answer.Nothing)) fs (ap (λ (v : World). invoke engine v k (with_answer call answer.Nothing)) (sym e)) r s gs m
 
-  pub core_handed : {pace : Pace} (w up : World) (k : ℕ) (call : Call) (text : Text) (fs : List Frame) → up ≡ risen w
+  pub core_handed : {pace : Pace} (w up : World) (k : ℕ) (call : Call) (text : Text) (fs : List Frame) → up ≡ one_level_up w
       → Moves pace engine (then_rest engine (pending_handed engine w k call ForCore text) fs) (Ok (Handed text)) up fs
   unfolding pending_handed
-  core_handed w up k call text fs e = handed_moves (Done (risen w) text) up text fs (ap (λ (v : World). Done v text) (sym e))
+  core_handed w up k call text fs e = handed_moves (Done (one_level_up w) text) up text fs (ap (λ (v : World). Done v text) (sym e))
 
   -- one that waits for nothing hands the result on
   others_hand : (w : World) (k : ℕ) (call : Call) (pending : Pending) (text : Text) → (pending ≡ ForText → ⊥) → (pending ≡ ForNothing → ⊥)
@@ -370,9 +376,10 @@ module _ (engine : Engine) where
 
   -- a handler's answer goes through the filter, whose value the pass waits for
   pub filter_begins : {pace : Pace} (w : World) (p : PassOverText) (m : Matched) (x name shown : Text) (args : List Text) (fs fs' : List Frame)
-      → name ≡ shortcode_filter → shown ≡ bracketed m x → args ≡ text_at p.cut.text m.name ∷ []
+      → name ≡ shortcode_filter → shown ≡ between_brackets m x → args ≡ text_at p.cut.text m.name ∷ []
       → fs' ≡ frame.Shortcodes (record p { hand = None }) ∷ fs
-      → (r : Result Move RunFault) (s : World) (gs : List Frame) → Moves pace engine (then_rest engine (filter_pass (invoke engine) w name shown args) fs') r s gs
+      → (r : Result Move RunFault) (s : World) (gs : List Frame) → Moves pace engine (then_rest engine (filter_pass (invoke engine) w name shown args) fs') r s
+      gs
       → Moves pace engine (then_rest engine (text_handed engine w p (Some m) x) fs) r s gs
   unfolding handed text_handed
   filter_begins w p m x name shown args fs fs' n b a f r s gs k =
@@ -388,7 +395,7 @@ module _ (engine : Engine) where
   placed w p x None h = refl
   placed w p x (Some m) h =
       ap (λ (t : Trace Text). and_then t (λ later shown. pieces_pass (invoke engine) p.cut.text later (p.so_far ++ shown) p.cut.pieces))
-      (filter_unhooked (invoke engine) w shortcode_filter (bracketed m x) (text_at p.cut.text m.name ∷ []) (h refl))
+      (filter_unhooked (invoke engine) w shortcode_filter (between_brackets m x) (text_at p.cut.text m.name ∷ []) (h refl))
 
   -- the same, of a pass that is handed a handler's answer
   pub answer_placed : (w : World) (p q : PassOverText) (x : Text) → has w.table shortcode_filter ≡ false
@@ -444,7 +451,8 @@ module _ (engine : Engine) where
   invocation_next w i x fs r s gs m = m
 
   pub text_next : {pace : Pace} (w : World) (p : PassOverText) (x : Text) (fs : List Frame) (r : Result Move RunFault) (s : World) (gs : List Frame)
-      → Moves pace engine (then_rest engine (text_handed engine w p p.hand x) fs) r s gs → Moves pace engine (rest_with engine w (frame.Shortcodes p ∷ fs) x) r s gs
+      → Moves pace engine (then_rest engine (text_handed engine w p p.hand x) fs) r s gs → Moves pace engine (rest_with engine w (frame.Shortcodes p ∷ fs) x) r
+      s gs
   unfolding rest_with handed
   text_next w p x fs r s gs m = m
 

@@ -7,7 +7,7 @@ use Rattle.hook_changes.specs.declared.reply.Call.{Call}
 use Rattle.hook_registry.specs.declared.registration.Entry.{Entry}
 use Rattle.hook_registry.specs.declared.registration.Registration.{Registration}
 use Rattle.hook_registry.specs.Table.{Table, registrations, is_at, is_above, entry_of, least, least_priority, group, next_priority}
-use Rattle.call_plans.proofs.Groups.{equal-self, not_less-self}
+use Rattle.hook_registry.proofs.Groups.{equal-self, not_less-self}
 use Rattle.shortcode_scan.specs.declared.Piece.TheVariants.{Plain}
 use Rattle.shortcode_scan.specs.Matches.{span}
 use Rattle.shortcode_scan.specs.Pieces.{pieces_of, plain_between}

@@ -1,5 +1,5 @@
 -- How a stopped run moves along what is left of it: each law is one step of the frames.
-use Rattle.std.proofs.Common.{◌≡◌, ℕ, ◌+◌, ◌-◌, ◌≤◌, ◌<◌, ℤ, Bool, true, false, cond, ◌==◌, List, [], ◌∷◌, ◌++◌, take, Option, None, Some, Result, Ok, Err}
+use Rattle.std.proofs.Common.{◌≡◌, ℕ, ◌+◌, ◌-◌, ◌≤◌, ◌<◌, ℤ, Bool, true, false, cond, ◌==◌, List, [], ◌∷◌, ◌++◌, take, Option, None, Some}
 use Rattle.std.proofs.Common.{refl, sym, ap, ◌∙◌}
 use Rattle.std.specs.Prelude.{map}
 use Rattle.hook_changes.specs.declared.reply.Call.{Call}
@@ -15,7 +15,7 @@ use Rattle.shortcode_scan.specs.declared.Span.{Span}
 use Rattle.shortcode_scan.specs.Pieces.{pieces_of}
 use Rattle.shortcode_scan.specs.Live.{live}
 use Rattle.hook_machine.specs.declared.fault.RunFault.{RunFault}
-use Rattle.hook_machine.specs.declared.fault.RunFault.TheVariants.{TooManyCalls, TooDeep, OutOfMemory}
+use Rattle.hook_machine.specs.declared.fault.RunFault.TheVariants.{TooManyCalls, TooDeep}
 use Rattle.hook_machine.specs.declared.run.calls.PassKind.{PassKind}
 use Rattle.call_plans.specs.declared.position.Position.{Position}
 use Rattle.hook_machine.specs.declared.run.pieces.Matched.{Matched}
@@ -25,20 +25,18 @@ use Rattle.hook_machine.specs.declared.run.frames.Pending.{Pending}
 use Rattle.hook_machine.specs.declared.run.frames.Pending.TheVariants.{Next, Core, ForText, ForNothing, ForCore}
 use Rattle.hook_machine.specs.declared.run.frames.Frame.{Frame}
 use Rattle.hook_machine.specs.declared.run.frames.Frame.TheVariants as frame
-use Rattle.hook_machine.specs.declared.run.frames.Move.{Move}
 use Rattle.hook_machine.specs.declared.run.pieces.Work.{Work}
 use Rattle.hook_machine.specs.declared.run.pieces.Work.TheVariants as work
 use Rattle.hook_machine.specs.World.{Text, World}
 use Rattle.hook_machine.specs.Trace.{Trace, Done, Refused, Turn, and_then}
 use Rattle.hook_machine.specs.Meaning.{Engine, Invocation, hook_call, arguments, value_after, group_pass, priorities_pass, pass, filter_pass, action_pass}
-use Rattle.hook_machine.specs.Meaning.{piece_pass, pieces_pass, shortcodes_pass, answered, deeper, follow, said, invoked, invoked_with, invoke, replied}
+use Rattle.hook_machine.specs.Meaning.{piece_pass, pieces_pass, shortcodes_pass, answered, deeper, follow, reply_to_call, invoked, invoked_with, invoke}
+use Rattle.hook_machine.specs.Meaning.{world_after_reply}
 use Rattle.hook_machine.specs.Meaning.{first_or_empty, text_at}
 use Rattle.hook_machine.specs.Works.{work_pass, answer_shown}
 use Rattle.call_plans.specs.Position.{first_of, reach, next_entry}
-use Rattle.hook_machine.specs.Rest.{after_call, left_hook, risen, with_answer, above_left, pass_from, pass_left, pending_left, pending_handed, handed}
+use Rattle.hook_machine.specs.Rest.{after_call, left_hook, one_level_up, with_answer, above_left, pass_from, pass_left, pending_left, pending_handed, handed}
 use Rattle.hook_machine.specs.Rest.{rest_with, then_rest}
-use Rattle.hook_machine.specs.declared.run.frames.Pace.{Pace}
-use Rattle.hook_machine.specs.Moves.{Moves, LeadsOn}
 use Rattle.hook_machine.proofs.Agree.{invoke-step}
 use Rattle.hook_machine.proofs.Ending.{invoke_some, deeper_within, deeper_beyond}
 use Rattle.hook_machine.proofs.Walk.{then_then, walk, walk-some, reached}
@@ -200,21 +198,24 @@ module _ (engine : Engine) where
   turn_core w taken k call h n t = rw t (invoke_some engine w k call h ∙ invoked_core (record w { calls = w.calls - 1 }) k call n)
 
   invoked_other : (w : World) (k : ℕ) (call : Call) → (k == 0) ≡ false → invoked engine (invoke engine) w k call
-      ≡ Turn (replied engine w (said engine k call)) (follow (invoke engine) (replied engine w (said engine k call)) k call (said engine k call).next)
+      ≡ Turn (world_after_reply engine w (reply_to_call engine k call)) (follow (invoke engine) (world_after_reply engine w (reply_to_call engine k call)) k
+      call (reply_to_call engine k call).next)
   unfolding invoked
   invoked_other w k call h = rw h refl
 
   -- a plugin's callback takes a turn: its echo and its changes are carried out, and how it goes on is left
   turn_other : (w taken : World) (k : ℕ) (call : Call) → 0 < w.calls → (k == 0) ≡ false → taken ≡ record w { calls = w.calls - 1 }
       → invoke engine w k call
-      ≡ Turn (replied engine taken (said engine k call)) (pending_left engine (replied engine taken (said engine k call)) k call (Next (said engine k call).next))
+      ≡ Turn (world_after_reply engine taken (reply_to_call engine k call)) (pending_left engine (world_after_reply engine taken (reply_to_call engine k call))
+      k call
+      (Next (reply_to_call engine k call).next))
   unfolding pending_left
   turn_other w taken k call h n t = rw t (invoke_some engine w k call h ∙ invoked_other (record w { calls = w.calls - 1 }) k call n)
 
   -- a callback takes a turn, whichever it is, and what its invocation is to do next is left
   turn_by : (b : Bool) (w taken : World) (k : ℕ) (call : Call) (found : World × Pending) → (k == 0) ≡ b → 0 < w.calls
       → taken ≡ record w { calls = w.calls - 1 }
-      → found ≡ cond b (taken, Core) (replied engine taken (said engine k call), Next (said engine k call).next)
+      → found ≡ cond b (taken, Core) (world_after_reply engine taken (reply_to_call engine k call), Next (reply_to_call engine k call).next)
       → invoke engine w k call ≡ Turn found.0 (pending_left engine found.0 k call found.1)
   turn_by true w taken k call found n h t e = rw e (turn_core w taken k call h n t)
   turn_by false w taken k call found n h t e = rw e (turn_other w taken k call h n t)
@@ -252,12 +253,12 @@ module _ (engine : Engine) where
   -- work that is done one level deeper, its result made an answer, and then the callback again
   deep_ask : (w : World) (k : ℕ) (call : Call) (made : World → Trace Text) (to : Text → Answer) → w.depth < 32
       → and_then (deeper w (λ inside. and_then (made inside) (λ later x. Done later (to x)))) (λ later reply. invoke engine later k (with_answer call reply))
-      ≡ and_then (made (record w { depth = w.depth + 1 })) (λ later x. invoke engine (risen later) k (with_answer call (to x)))
+      ≡ and_then (made (record w { depth = w.depth + 1 })) (λ later x. invoke engine (one_level_up later) k (with_answer call (to x)))
   deep_ask w k call made to h =
       ap (λ (t : Trace Answer). and_then t (λ later reply. invoke engine later k (with_answer call reply)))
       (deeper_within w (λ inside. and_then (made inside) (λ later x. Done later (to x))) h
-      ∙ then_then (made (record w { depth = w.depth + 1 })) (λ later x. Done later (to x)) (λ later x. Done (risen later) x))
-      ∙ then_then (made (record w { depth = w.depth + 1 })) (λ later x. Done (risen later) (to x))
+      ∙ then_then (made (record w { depth = w.depth + 1 })) (λ later x. Done later (to x)) (λ later x. Done (one_level_up later) x))
+      ∙ then_then (made (record w { depth = w.depth + 1 })) (λ later x. Done (one_level_up later) (to x))
       (λ later reply. invoke engine later k (with_answer call reply))
 
   pub ask_apply : (w : World) (k : ℕ) (call : Call) (hook v : Text) (args : List Text) → w.depth < 32
@@ -320,30 +321,6 @@ module _ (engine : Engine) where
   pub text_ends : (w : World) (text so_far : Text) → pieces_pass (invoke engine) text w so_far [] ≡ Done w so_far
   unfolding pieces_pass
   text_ends w text so_far = refl
-
-  -- ---- how a call moves along
-
-  leads_via : {A : Type 0} (pace : Pace) (t u : Trace Text) (now : A → Trace Text) (r : Result A RunFault) → t ≡ u → LeadsOn pace u now r → LeadsOn pace t now r
-  leads_via pace t u now (Ok x) e l = record { passed = l.passed; may = l.may; is = e ∙ l.is }
-  leads_via pace t u now (Err TooManyCalls) e l = record { passed = l.passed; may = l.may; is = e ∙ l.is }
-  leads_via pace t u now (Err TooDeep) e l = record { passed = l.passed; may = l.may; is = e ∙ l.is }
-  leads_via pace t u now (Err OutOfMemory) e l = tt
-
-  module _ {pace : Pace} where
-    pub moves_via : (t u : Trace Text) (r : Result Move RunFault) (w : World) (fs : List Frame) → t ≡ u → Moves pace engine u r w fs → Moves pace engine t r w fs
-    moves_via t u r w fs e m = record { leads = leads_via pace t u _ r e m.leads }
-
-    -- work that waits at a frame, which was put before the others
-    pub moves_onto : (t u : Trace Text) (f : Frame) (fs fs' : List Frame) → t ≡ and_then u (λ later x. handed engine later f x) → fs' ≡ f ∷ fs
-        → (r : Result Move RunFault) (w : World) (gs : List Frame) → Moves pace engine (then_rest engine u fs') r w gs → Moves pace engine (then_rest engine t fs) r w gs
-    moves_onto t u f fs fs' e q r w gs m =
-        moves_via (then_rest engine t fs) (then_rest engine u fs') r w gs
-        (ap (λ (t : Trace Text). then_rest engine t fs) e ∙ onto_frame u f fs ∙ ap (λ (l : List Frame). then_rest engine u l) (sym q)) m
-
-    -- work that is done at once
-    pub moves_same : (t u : Trace Text) (fs : List Frame) → t ≡ u → (r : Result Move RunFault) (w : World) (gs : List Frame)
-        → Moves pace engine (then_rest engine u fs) r w gs → Moves pace engine (then_rest engine t fs) r w gs
-    moves_same t u fs e r w gs m = moves_via (then_rest engine t fs) (then_rest engine u fs) r w gs (ap (λ (t : Trace Text). then_rest engine t fs) e) m
 
   -- ---- from turn to turn
 

@@ -10,7 +10,7 @@ use Rattle.hook_machine.specs.declared.run.invocation.Invocation as invocation
 use Rattle.hook_machine.specs.declared.run.paused.PausedRun.{PausedRun}
 use Rattle.hook_machine.specs.declared.run.jobs.Job.{Job}
 use Rattle.hook_machine.specs.World.{World}
-use Rattle.hook_machine.specs.Meaning.{Engine, said}
+use Rattle.hook_machine.specs.Meaning.{Engine, reply_to_call}
 use Rattle.hook_machine.specs.Rest.{pending_left, then_rest}
 use Rattle.hook_machine.specs.Runs.{paused_world, paused_left}
 
@@ -53,8 +53,9 @@ last_made run = made_in (paused_world run) run.job run.stack
 -- what is left of the run begins, in the world that its last turn has reached, with what is left of this invocation
 abbrev pub GoesOnWith : Engine → PausedRun → ℕ → Call → Type 0
 GoesOnWith engine run callback call =
-    (pending : Pending) × (frames : List Frame) × (paused_left engine run ≡ then_rest engine (pending_left engine (paused_world run) callback call pending) frames)
+    (pending : Pending) × (frames : List Frame) × (paused_left engine run ≡ then_rest engine (pending_left engine (paused_world run) callback call pending)
+    frames)
 
 -- what a callback replies to a call; core's callback 0 has no reply
 abbrev pub reply_made : Engine → ℕ → Call → Option Reply
-reply_made engine callback call = if callback == 0 then None else Some (said engine callback call)
+reply_made engine callback call = if callback == 0 then None else Some (reply_to_call engine callback call)

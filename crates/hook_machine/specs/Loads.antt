@@ -10,28 +10,28 @@ use Rattle.hook_registry.specs.Table.{Registered, add, remove, remove_all}
 use Rattle.hook_machine.specs.World.{Text, World, core_changes}
 
 -- what is registered after a change
-abbrev pub carried : Registered → Change → Bool → Registered
-carried tables (Add hook priority callback accepted) active = record tables {
+abbrev pub registered_after : Registered → Change → Bool → Registered
+registered_after tables (Add hook priority callback accepted) active = record tables {
   table = if is_hook_name hook && active && nat_le accepted 16
       then add tables.table hook (record { priority = priority; callback = callback; accepted = accepted })
       else tables.table;
 }
-carried tables (Remove hook priority callback) active = record tables {
+registered_after tables (Remove hook priority callback) active = record tables {
   table = if is_hook_name hook then remove tables.table hook priority callback else tables.table;
 }
-carried tables (RemoveAll hook priority) active = record tables {
+registered_after tables (RemoveAll hook priority) active = record tables {
   table = if is_hook_name hook then remove_all tables.table hook priority else tables.table;
 }
-carried tables (AddTag tag callback) active = record tables {
+registered_after tables (AddTag tag callback) active = record tables {
   tags = if is_tag_name tag && active && not (callback == 0) then set_value tables.tags tag callback else tables.tags;
 }
-carried tables (RemoveTag tag) active = record tables { tags = remove_value tables.tags tag }
-carried tables RemoveAllTags active = record tables { tags = [] }
+registered_after tables (RemoveTag tag) active = record tables { tags = remove_value tables.tags tag }
+registered_after tables RemoveAllTags active = record tables { tags = [] }
 
 -- what is registered after changes, each beside whether its callback is active
-abbrev pub all_carried : Registered → List (Change × Bool) → Registered
-all_carried tables [] = tables
-all_carried tables (c ∷ cs) = all_carried (carried tables c.0 c.1) cs
+abbrev pub registered_after_all : Registered → List (Change × Bool) → Registered
+registered_after_all tables [] = tables
+registered_after_all tables (c ∷ cs) = registered_after_all (registered_after tables c.0 c.1) cs
 
 -- a callback is active if it is core's, 0, or one of a plugin of these names
 abbrev pub is_active_among : List Shape → List Text → ℕ → Bool
@@ -62,7 +62,7 @@ none_registered = record { table = []; tags = []; counts = [] }
 
 -- what core's own registration and then a load leave
 abbrev pub load_left : List (Change × Bool) → Registered
-load_left load = all_carried none_registered (core_load ++ load)
+load_left load = registered_after_all none_registered (core_load ++ load)
 
 -- the tables of a run: what a load left, as long as nothing else was carried out, or the run's own; firings are always
 -- the run's own

@@ -1,7 +1,6 @@
 -- How a stopped run moves along what is left of it.
 use Rattle.std.specs.Prelude.{◌≡◌, ℕ, zero, suc, ◌+◌, ◌≤◌, List, [], ◌∷◌, Option, None, Some, Result, Ok, Err, ⊤}
 use Rattle.hook_machine.specs.declared.fault.RunFault.{RunFault}
-use Rattle.hook_machine.specs.declared.fault.RunFault.TheVariants.{TooManyCalls, TooDeep, OutOfMemory}
 use Rattle.hook_machine.specs.declared.run.pieces.Matched.{Matched}
 use Rattle.hook_machine.specs.declared.run.frames.Frame.{Frame}
 use Rattle.hook_machine.specs.declared.run.frames.Frame.TheVariants.{Pass, Invocation, Shortcodes}
@@ -16,6 +15,7 @@ use Rattle.hook_machine.specs.declared.run.jobs.Turn.TheVariants as turn
 use Rattle.hook_machine.specs.World.{Text, World}
 use Rattle.hook_machine.specs.Trace.{Trace, Done, Refused, Turn as turned_to}
 use Rattle.hook_machine.specs.Meaning.{Engine}
+use Rattle.hook_machine.specs.Outcomes.{UnlessOutOfMemory}
 use Rattle.hook_machine.specs.Rest.{pending_left, rest, rest_with, then_rest}
 
 -- what is left of a run after a move: the world of the invocation, and then its frames; or its frames, once the result
@@ -42,10 +42,7 @@ pub record Leads (pace : Pace) {A : Type 0} (before now : Trace A) : Type 0 wher
 
 -- what was left leads to what is left after a result; or to the fault; or memory ran out
 abbrev pub LeadsOn : {A B : Type 0} → Pace → Trace A → (B → Trace A) → Result B RunFault → Type 0
-LeadsOn pace left now (Ok x) = Leads pace left (now x)
-LeadsOn pace left now (Err TooManyCalls) = Leads pace left (Refused TooManyCalls)
-LeadsOn pace left now (Err TooDeep) = Leads pace left (Refused TooDeep)
-LeadsOn pace left now (Err OutOfMemory) = ⊤
+LeadsOn pace left now result = UnlessOutOfMemory result (λ x. Leads pace left (now x)) (λ fault. Leads pace left (Refused fault))
 
 -- what was left leads to what is still left after a move
 pub record Moves (pace : Pace) (engine : Engine) (left : Trace Text) (result : Result Move RunFault) (world : World) (frames : List Frame) : Type 0 where
@@ -67,10 +64,8 @@ MayAnswer pace (Waits invoked) = ⊤
 
 -- the invocation takes its turn, and what is left of it is what it came to; or it is the fault; or memory ran out
 abbrev pub Invokes : Engine → Trace Text → Result Went RunFault → World → Type 0
-Invokes engine invocation (Ok went) world = invocation ≡ turned_to world (went_left engine world went)
-Invokes engine invocation (Err TooManyCalls) world = invocation ≡ Refused TooManyCalls
-Invokes engine invocation (Err TooDeep) world = invocation ≡ Refused TooDeep
-Invokes engine invocation (Err OutOfMemory) world = ⊤
+Invokes engine invocation result world =
+    UnlessOutOfMemory result (λ went. invocation ≡ turned_to world (went_left engine world went)) (λ fault. invocation ≡ Refused fault)
 
 -- how many frames may come in place of one that is handed a result: a handler's answer goes through a filter
 abbrev pub room_of_match : Option Matched → ℕ
@@ -105,10 +100,7 @@ trace_of_turn (turn.Done x) world now = Done world x
 
 -- what was left is what the turn leads to; or it is the fault; or memory ran out
 abbrev pub Turns : Trace Text → Result Turn RunFault → World → Trace Text → Type 0
-Turns left (Ok turn) world now = left ≡ trace_of_turn turn world now
-Turns left (Err TooManyCalls) world now = left ≡ Refused TooManyCalls
-Turns left (Err TooDeep) world now = left ≡ Refused TooDeep
-Turns left (Err OutOfMemory) world now = ⊤
+Turns left result world now = UnlessOutOfMemory result (λ turn. left ≡ trace_of_turn turn world now) (λ fault. left ≡ Refused fault)
 
 -- the same of a run that may pass invocations over
 abbrev pub TurnsBy : Pace → Trace Text → Result Turn RunFault → World → Trace Text → Type 0

@@ -23,7 +23,7 @@ table_changes plugins world RemoveAllTags = []
 
 -- a table after some changes
 abbrev pub table_with : Table → List TableChange → Table
-table_with table changes = fold one_list.changed table changes
+table_with table changes = fold one_list.with_change table changes
 
 -- the table is what some changes leave, if nothing was registered before
 pub record IsBuilt (table : Table) : Type 0 where

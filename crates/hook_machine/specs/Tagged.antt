@@ -2,7 +2,7 @@
 use Rattle.std.specs.Prelude.{ℕ, Bool, not, List, is_some, if◌then◌else◌}
 use Rattle.std.specs.Borrow.{Bor}
 use Rattle.hook_registry.specs.Named.{value_of}
-use Rattle.content_cache.specs.declared.kept.OpenedName.{OpenedName}
+use Rattle.content_cache.specs.declared.cut_text.OpenedName.{OpenedName}
 
 module _ {X : Type 0} (tags : List (List ℕ × X)) where
   abbrev pub is_tag : List ℕ → Bool

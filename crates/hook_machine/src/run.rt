@@ -27,10 +27,11 @@ use crate::state::load_list::load_list;
 use crate::state::loaded::KeptLoad;
 use callback_store::{Plugins, Stated};
 use content_cache::PieceCache;
-use hook_changes::{Listed, Text};
+use hook_changes::{Listed, SharedList, Text};
 use std::alloc::{AllocError, Global};
 
-/// A run of a request's callbacks. It borrows the plugins and copies the rest, so that no later edit reaches it.
+/// A run of a request's callbacks. It borrows the plugins and copies the rest, so that no later
+/// edit reaches it.
 ///
 /// Once a call has returned a fault, each later call returns that same fault.
 pub struct Run<'a, S> {
@@ -43,7 +44,8 @@ pub struct Run<'a, S> {
     fault: Option<RunFault>,
 }
 
-/// Written out, so that a crate which owns a run calls this drop, and proves no drop of what a run owns.
+/// Written out, so that a crate which owns a run calls this drop, and proves no drop of what a run
+/// owns.
 impl<'a, S> Drop for Run<'a, S> {
     fn drop(self) {
         let Run {
@@ -98,7 +100,8 @@ fn run_filters<S: Stated>(
 ) -> Result<Text, RunFault>
     requires { stack.old ≡ [] }
     ensures ends { RunsAs
-        (filtered (engine_over S.says S.number plugins.now) state.old hook.now value args.now) result state.new }
+        (filtered (engine_over S.says S.number plugins.now) state.old hook.now value args.now)
+        result state.new }
     ensures over { OnOk result (stack.new ≡ []) }
     ensures cache { cache.new ≡ cache.old }
 {
@@ -117,7 +120,8 @@ fn run_action<S: Stated>(
 ) -> Result<Text, RunFault>
     requires { stack.old ≡ [] }
     ensures ends { RunsAs
-        (action_pass (invoke (engine_over S.says S.number plugins.now)) state.old hook.now args.now) result state.new }
+        (action_pass (invoke (engine_over S.says S.number plugins.now)) state.old hook.now args.now)
+        result state.new }
     ensures over { OnOk result (stack.new ≡ []) }
     ensures cache { cache.new ≡ cache.old }
 {
@@ -143,19 +147,6 @@ fn run_shortcodes<S: Stated>(
     run_job(plugins, state, stack, job, cache)
 }
 
-/// Copies pairs of texts.
-fn copied_pairs(alloc: Global, pairs: &[(Text, Text)]) -> Result<Listed<(Text, Text)>, AllocError>
-    ensures { IfOk result (λ copies. copies ≡ pairs.now) }
-{
-    let mut copies = Listed::empty(alloc);
-    for pair in pairs {
-        let name = pair.0.clone()?;
-        let value = pair.1.clone()?;
-        copies.push((name, value))?;
-    }
-    Ok(copies)
-}
-
 fn fault_in<T>(outcome: &Result<T, RunFault>) -> Option<RunFault>
     ensures { result ≡ fault_in outcome.now }
 {
@@ -166,7 +157,8 @@ fn fault_in<T>(outcome: &Result<T, RunFault>) -> Option<RunFault>
 }
 
 impl<'a, S: Stated> Run<'a, S> {
-    ghost use Rattle.std.specs.Prelude.{◌≡◌, ◌++◌, ℕ, List, [], None, IfOk, IfErr, OnOk, IsOk, IsTrue, IsFalse};
+    ghost use Rattle.std.specs.Prelude.{◌≡◌, ◌++◌, ℕ, List, [], None, IfOk, IfErr, OnOk, IsOk};
+    ghost use Rattle.std.specs.Prelude.{IsTrue, IsFalse};
     ghost use Rattle.callback_store.specs.Shape.{shapes_of};
     ghost use Rattle.hook_machine.specs.World.{fresh, loaded};
     ghost use Rattle.hook_machine.specs.Meaning.{Engine, filtered, acted, replaced};
@@ -179,8 +171,9 @@ impl<'a, S: Stated> Run<'a, S> {
     ghost use Rattle.hook_machine.specs.Runs.{CanBegin, IsIdle, IsReady, IsIdleAtEnd};
     ghost use Rattle.hook_machine.specs.Runs.{Keeps, paused_world, paused_left, IsPausedIdle};
 
-    /// Makes a run with nothing registered and nothing printed, of a site with these active plugins and options, that
-    /// may make that many invocations. If an option has two values, the first counts.
+    /// Makes a run with nothing registered and nothing printed, of a site with these active plugins
+    /// and options, that may make that many invocations. If an option has two values, the first
+    /// counts.
     pub fn new(
         alloc: Global,
         plugins: &'a Plugins<S>,
@@ -195,50 +188,70 @@ impl<'a, S: Stated> Run<'a, S> {
             (shapes_of S.number plugins.entry.now)) }
         ensures err { IfErr result (λ fault. fault ≡ RunFault.OutOfMemory) }
     {
-        let active = Listed::new(copies(alloc, active)?);
-        let options = copied_pairs(alloc, options)?;
-        Ok(Run {
+        let active = SharedList::new(Vec::from_clones(alloc, active)?)?;
+        let options = SharedList::new(Vec::from_clones(alloc, options)?)?;
+        Ok(Run::over(alloc, plugins, active, options, calls))
+    }
+
+    /// Makes a run as [`Run::new`] does, with active names and options that are shared and not
+    /// copied. Does not allocate.
+    fn over(
+        alloc: Global,
+        plugins: &'a Plugins<S>,
+        active: SharedList<Text>,
+        options: SharedList<(Text, Text)>,
+        calls: u32,
+    ) -> Self
+        ensures world { world_of result ≡ fresh calls options active }
+        ensures sound { fault_of result ≡ None }
+        ensures idle { IsIdle result }
+        ensures engine { engine_of S.says S.number result ≡ engine_with S.says
+            (shapes_of S.number plugins.entry.now) }
+    {
+        Run {
             plugins,
             state: State::new(alloc, active, options, calls),
             job: None,
             stack: Stack::none(alloc),
             fault: None,
-        })
+        }
     }
 
-    /// Makes a run as [`Run::new`] does, in which everything has loaded as by [`Run::load`]. What the load left is kept
-    /// for later runs: one with the same load lists shares it, and carries nothing out.
+    /// Makes a run as [`Run::new`] does, in which everything has loaded as by [`Run::load`]. It
+    /// shares the active names and the options. What the load left is kept for later runs: one with
+    /// the same load lists shares it, and carries nothing out.
     pub fn loaded(
         alloc: Global,
         plugins: &'a Plugins<S>,
-        active: &[Text],
-        options: &[(Text, Text)],
+        active: SharedList<Text>,
+        options: SharedList<(Text, Text)>,
         calls: u32,
         kept: &mut KeptLoad,
     ) -> Result<Self, RunFault>
         ensures world { IfOk result (λ run. world_of run
-            ≡ loaded (shapes_of S.number plugins.entry.now) (fresh calls options.now active.now)) }
+            ≡ loaded (shapes_of S.number plugins.entry.now) (fresh calls options active)) }
         ensures ready { IfOk result (λ run. IsReady run) }
         ensures engine { IfOk result (λ run. engine_of S.says S.number run ≡ engine_with S.says
             (shapes_of S.number plugins.entry.now)) }
         ensures err { IfErr result (λ fault. fault ≡ RunFault.OutOfMemory) }
     {
-        let load = load_list(alloc, plugins, active)?;
+        let load = load_list(alloc, plugins, active.as_slice())?;
         let loaded = kept.loaded(alloc, &load)?;
-        let mut run = Run::new(alloc, plugins, active, options, calls)?;
+        let mut run = Run::over(alloc, plugins, active, options, calls);
         run.state.share(loaded);
         Ok(run)
     }
 
-    /// Carries out core's own registration, and then the load lists of the active plugins in the order of their names.
-    /// Invokes no callback.
+    /// Carries out core's own registration, and then the load lists of the active plugins in the
+    /// order of their names. Invokes no callback.
     pub fn load(&mut self) -> Result<(), RunFault>
         requires idle { CanBegin self.old }
         ensures idle { OnOk result (IsIdle self.new) }
         ensures loaded { fault_of self.old ≡ None →
             OnOk result (world_of self.new ≡ loaded (engine_of S.says S.number self.old).plugins
             (world_of self.old)) }
-        ensures memory { fault_of self.old ≡ None → IfErr result (λ fault. fault ≡ RunFault.OutOfMemory) }
+        ensures memory { fault_of self.old ≡ None
+            → IfErr result (λ fault. fault ≡ RunFault.OutOfMemory) }
         ensures keeps { Keeps S.says S.number self.old result self.new }
     {
         if let Some(fault) = self.fault {
@@ -253,8 +266,8 @@ impl<'a, S: Stated> Run<'a, S> {
         }
     }
 
-    /// Returns the value after the callbacks of a filter (Code Reference, apply_filters). For a text that is no hook's
-    /// name, returns the value as it is.
+    /// Returns the value after the callbacks of a filter (Code Reference, apply_filters). For a
+    /// text that is no hook's name, returns the value as it is.
     pub fn apply_filters(
         &mut self,
         hook: &str,
@@ -265,7 +278,8 @@ impl<'a, S: Stated> Run<'a, S> {
         requires idle { CanBegin self.old }
         ensures idle { OnOk result (IsIdle self.new) }
         ensures filtered { fault_of self.old ≡ None →
-            RunsAs (filtered (engine_of S.says S.number self.old) (world_of self.old) hook.now value args.now) result
+            RunsAs (filtered (engine_of S.says S.number self.old) (world_of self.old) hook.now value
+            args.now) result
             (world_of self.new) }
         ensures keeps { Keeps S.says S.number self.old result self.new }
         ensures cache { cache.new ≡ cache.old }
@@ -286,7 +300,8 @@ impl<'a, S: Stated> Run<'a, S> {
         result
     }
 
-    /// Runs the callbacks of an action (Code Reference, do_action). A text that is no hook's name does nothing.
+    /// Runs the callbacks of an action (Code Reference, do_action). A text that is no hook's name
+    /// does nothing.
     pub fn do_action(
         &mut self,
         hook: &str,
@@ -296,7 +311,8 @@ impl<'a, S: Stated> Run<'a, S> {
         requires idle { CanBegin self.old }
         ensures idle { OnOk result (IsIdle self.new) }
         ensures acted { fault_of self.old ≡ None →
-            RunsAs (acted (engine_of S.says S.number self.old) (world_of self.old) hook.now args.now) result
+            RunsAs (acted (engine_of S.says S.number self.old) (world_of self.old) hook.now
+            args.now) result
             (world_of self.new) }
         ensures keeps { Keeps S.says S.number self.old result self.new }
         ensures cache { cache.new ≡ cache.old }
@@ -325,7 +341,8 @@ impl<'a, S: Stated> Run<'a, S> {
         requires idle { CanBegin self.old }
         ensures idle { OnOk result (IsIdle self.new) }
         ensures replaced { fault_of self.old ≡ None →
-            RunsAs (replaced (engine_of S.says S.number self.old) (world_of self.old) text.now) result
+            RunsAs (replaced (engine_of S.says S.number self.old) (world_of self.old) text.now)
+            result
             (world_of self.new) }
         ensures keeps { Keeps S.says S.number self.old result self.new }
         ensures cache { cache.new ≡ cache.old }
@@ -348,7 +365,8 @@ impl<'a, S: Stated> Run<'a, S> {
     /// Begins a job, of which nothing is done before the first turn. Does not allocate.
     pub fn start(&mut self, job: Job) -> Result<(), RunFault>
         requires idle { CanBegin self.old }
-        ensures started { OnOk result (left_of (engine_of S.says S.number self.old) self.new ≡ job_left
+        ensures started { OnOk result (left_of (engine_of S.says S.number self.old) self.new
+            ≡ job_left
             (engine_of S.says S.number self.old) (world_of self.old) job) }
         ensures same { world_of self.new ≡ world_of self.old }
         ensures succeeds { fault_of self.old ≡ None → IsOk result }
@@ -361,8 +379,8 @@ impl<'a, S: Stated> Run<'a, S> {
         Ok(())
     }
 
-    /// Goes on with the job until one callback was invoked and its echo and changes were carried out, or until the
-    /// job's end.
+    /// Goes on with the job until one callback was invoked and its echo and changes were carried
+    /// out, or until the job's end.
     pub fn turn(&mut self, cache: &mut PieceCache) -> Result<Turn, RunFault>
         ensures turns { fault_of self.old ≡ None →
             Turns (left_of (engine_of S.says S.number self.old) self.old) result (world_of self.new)
@@ -374,11 +392,13 @@ impl<'a, S: Stated> Run<'a, S> {
         self.go_on(Pace::ByTurns, cache)
     }
 
-    /// Goes on with the job: to its end, or to an invocation after which there is more to do. By turns that is the next
-    /// one; a run that goes through passes over those that it needn't stop at.
+    /// Goes on with the job: to its end, or to an invocation after which there is more to do. By
+    /// turns that is the next one; a run that goes through passes over those that it needn't stop
+    /// at.
     pub fn go_on(&mut self, pace: Pace, cache: &mut PieceCache) -> Result<Turn, RunFault>
         ensures turns { fault_of self.old ≡ None →
-            TurnsBy pace (left_of (engine_of S.says S.number self.old) self.old) result (world_of self.new)
+            TurnsBy pace (left_of (engine_of S.says S.number self.old) self.old) result
+            (world_of self.new)
             (left_of (engine_of S.says S.number self.old) self.new) }
         ensures idle { IsIdleAtEnd result self.new }
         ensures keeps { Keeps S.says S.number self.old result self.new }
@@ -407,13 +427,16 @@ impl<'a, S: Stated> Run<'a, S> {
         self.state.is_hooked(hook)
     }
 
-    /// Passes over a filter that leaves its value as it is, and returns whether it did. It does so only in a run that
-    /// doesn't stop, on a hook whose only callback is core's own, over a text without shortcodes.
+    /// Passes over a filter that leaves its value as it is, and returns whether it did. It does so
+    /// only in a run that doesn't stop, on a hook whose only callback is core's own, over a text
+    /// without shortcodes.
     pub fn pass_over(&mut self, hook: &str, value: &str, pace: Pace) -> Result<bool, RunFault>
         requires idle { CanBegin self.old }
         ensures idle { OnOk result (IsIdle self.new) }
-        ensures passed { fault_of self.old ≡ None → IfOk result (λ passed. IsTrue passed → (args : List (List ℕ))
-            → Leads pace (filtered (engine_of S.says S.number self.old) (world_of self.old) hook.now value.now args)
+        ensures passed { fault_of self.old ≡ None
+            → IfOk result (λ passed. IsTrue passed → (args : List (List ℕ))
+            → Leads pace (filtered (engine_of S.says S.number self.old) (world_of self.old) hook.now
+            value.now args)
             (Done (world_of self.new) value.now)) }
         ensures stays { fault_of self.old ≡ None → IfOk result (λ passed. IsFalse passed →
             world_of self.new ≡ world_of self.old) }
@@ -437,7 +460,8 @@ impl<'a, S: Stated> Run<'a, S> {
         ensures printed { fault_of self.old ≡ None →
             OnOk result (world_of self.new ≡ record (world_of self.old)
             { output = (world_of self.old).output ++ text.now }) }
-        ensures memory { fault_of self.old ≡ None → IfErr result (λ fault. fault ≡ RunFault.OutOfMemory) }
+        ensures memory { fault_of self.old ≡ None
+            → IfErr result (λ fault. fault ≡ RunFault.OutOfMemory) }
         ensures keeps { Keeps S.says S.number self.old result self.new }
     {
         if let Some(fault) = self.fault {
@@ -452,8 +476,8 @@ impl<'a, S: Stated> Run<'a, S> {
         }
     }
 
-    /// Takes what was printed so far, which leaves nothing printed. A job that is under way goes on as before. Does not
-    /// allocate.
+    /// Takes what was printed so far, which leaves nothing printed. A job that is under way goes on
+    /// as before. Does not allocate.
     pub fn take_output(&mut self) -> Result<Text, RunFault>
         ensures left { fault_of self.old ≡ None → (engine : Engine)
             → left_of engine self.new ≡ left_in engine (world_of self.new) self.old }
@@ -470,7 +494,8 @@ impl<'a, S: Stated> Run<'a, S> {
         Ok(self.state.take_output())
     }
 
-    /// Puts the run aside, with all that it owns. A job that is under way is kept. Does not allocate.
+    /// Puts the run aside, with all that it owns. A job that is under way is kept. Does not
+    /// allocate.
     pub fn pause(self) -> PausedRun
         requires sound { fault_of self ≡ None }
         ensures world { paused_world result ≡ world_of self.entry }
@@ -487,8 +512,8 @@ impl<'a, S: Stated> Run<'a, S> {
         PausedRun { state, job, stack }
     }
 
-    /// Ends the run. All that a run owns is dropped here, for every page that ends one, so that what dropping does is
-    /// proved once.
+    /// Ends the run. All that a run owns is dropped here, for every page that ends one, so that
+    /// what dropping does is proved once.
     pub fn end(self) {
         drop(self);
     }
@@ -499,14 +524,15 @@ impl PausedRun {
     ghost use Rattle.hook_machine.specs.Runs.{world_of, fault_of, engine_of, left_of, IsIdle};
     ghost use Rattle.hook_machine.specs.Runs.{paused_world, paused_left, IsPausedIdle};
 
-    /// Goes on with the run. The plugins are those that it was made with: over others it goes on as those reply. Does
-    /// not allocate.
+    /// Goes on with the run. The plugins are those that it was made with: over others it goes on as
+    /// those reply. Does not allocate.
     pub fn resume<S: Stated>(self, plugins: &Plugins<S>) -> Run<'_, S>
         ensures world { world_of result ≡ paused_world self }
         ensures left { (engine : Engine) → left_of engine result ≡ paused_left engine self }
         ensures idle { IsPausedIdle self → IsIdle result }
         ensures sound { fault_of result ≡ None }
-        ensures engine { engine_of S.says S.number result ≡ engine_over S.says S.number plugins.entry.now }
+        ensures engine { engine_of S.says S.number result
+            ≡ engine_over S.says S.number plugins.entry.now }
     {
         let (state, job, stack) = self.into_parts();
         Run {

@@ -8,7 +8,7 @@ use Rattle.std.proofs.lemmas.Int.{ints}
 use Rattle.hook_registry.specs.declared.registration.Registration.{Registration}
 use Rattle.hook_registry.specs.Table as table
 use Rattle.hook_registry.specs.Table.{Table, registrations, is_at, is_of, is_other, with_added, keeping, entry_of, least, group, after}
-use Rattle.hook_registry.specs.OneList.{TableChange, Added, Removed, RemovedAll, changed, priority_changed}
+use Rattle.hook_registry.specs.OneList.{TableChange, Added, Removed, RemovedAll, with_change, priority_changed}
 use Rattle.hook_registry.proofs.OneList.{same_name, registrations-set, registrations-set_other, registrations-keeping, registrations-keeping_other}
 
 -- a test of priorities
@@ -80,7 +80,7 @@ module _ (test : ℤ → Bool) where
 
   -- a change at a priority that fails leaves those that pass
   pub passing-changed : (t : Table) (change : TableChange) (hook : List ℕ) (q : ℤ) → priority_changed change ≡ Some q → test q ≡ false
-      → passing (registrations (changed t change) hook) ≡ passing (registrations t hook)
+      → passing (registrations (with_change t change) hook) ≡ passing (registrations t hook)
   passing-changed t (Added at new) hook q e f = let same : new.priority ≡ q = cc in in_add t at hook new (rw same f)
   passing-changed t (Removed at p callback) hook q e f =
       let same : p ≡ q = cc in
@@ -98,9 +98,9 @@ not_less : (q r : ℤ) → q ≤ℤ r → int_lt r q ≡ false
 not_less q r h = grind (arith, ints)
 
 pub group-changed : (t : Table) (change : TableChange) (hook : List ℕ) (q r : ℤ) → priority_changed change ≡ Some q → q <ℤ r
-    → group (changed t change) hook r ≡ group t hook r
+    → group (with_change t change) hook r ≡ group t hook r
 group-changed t change hook q r e h = ap (map entry_of) (passing-changed (λ z. int_eq z r) t change hook q e (not_equal q r h))
 
 pub after-changed : (t : Table) (change : TableChange) (hook : List ℕ) (q r : ℤ) → priority_changed change ≡ Some q → q ≤ℤ r
-    → after (changed t change) hook r ≡ after t hook r
+    → after (with_change t change) hook r ≡ after t hook r
 after-changed t change hook q r e h = ap (λ rs. least (map (λ x. x.priority) rs)) (passing-changed (λ z. int_lt r z) t change hook q e (not_less q r h))

@@ -6,4 +6,9 @@ pub mod TagNames
 pub mod RunOrder
 pub mod OneList
 pub mod Behind
-pub mod Kept
+pub mod Groups
+pub mod Edits
+pub mod GroupPlaces
+pub mod Adding
+pub mod NextGroup
+pub mod Looks

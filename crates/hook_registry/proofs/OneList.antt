@@ -11,8 +11,8 @@ use Rattle.hook_registry.specs.Order.{by_priority}
 use Rattle.hook_registry.specs.Table.{Table, registrations, is_at, is_of, is_other, is_above, entry_of, with_added, keeping, group, has, next_priority}
 use Rattle.hook_registry.specs.Table.{priority_of, least_priority}
 use Rattle.hook_registry.proofs.RunOrder.{appended, added-by_priority, filter-by_priority, group-by_priority, least_priority-by_priority, any-by_priority}
-use Rattle.hook_registry.specs.OneList.{Listed, is_in, is_same, add, remove, registrations_in, TableChange, Added, Removed, RemovedAll, changed}
-use Rattle.hook_registry.specs.OneList.{list_changed, table_after, list_after}
+use Rattle.hook_registry.specs.OneList.{Listed, is_in, is_same, add, remove, registrations_in, TableChange, Added, Removed, RemovedAll, with_change}
+use Rattle.hook_registry.specs.OneList.{list_with_change, table_after, list_after}
 
 pub same_name : (a b : List ℕ) → bytes_eq a b ≡ true → a ≡ b
 same_name a b e = (bytes_eq-Decides a b).0 e
@@ -193,16 +193,17 @@ agree-kept passes t list hook a other =
           registrations-keeping_other passes t hook other n ∙ a other ∙ ap by_priority (sym (registrations_in-kept_other passes list hook other n))
     ] refl
 
-agree-changed : (t : Table) (list : List Listed) (change : TableChange) → Agree t list → Agree (changed t change) (list_changed list change)
+agree-changed : (t : Table) (list : List Listed) (change : TableChange) → Agree t list → Agree (with_change t change) (list_with_change list change)
 agree-changed t list (Added hook new) a = agree-add t list hook new a
 agree-changed t list (Removed hook priority callback) a = λ other.
     agree-kept (λ r. not (is_of priority callback r)) t list hook a other
     ∙ ap (λ ls. by_priority (registrations_in ls other)) (sym (remove-kept list hook priority callback))
 agree-changed t list (RemovedAll hook priority) a = agree-kept (is_other priority) t list hook a
 
-agree-after : (t : Table) (list : List Listed) (changes : List TableChange) → Agree t list → Agree (fold changed t changes) (fold list_changed list changes)
+agree-after : (t : Table) (list : List Listed) (changes : List TableChange) → Agree t list → Agree (fold with_change t changes)
+    (fold list_with_change list changes)
 agree-after t list [] a = a
-agree-after t list (c ∷ cs) a = agree-after (changed t c) (list_changed list c) cs (agree-changed t list c a)
+agree-after t list (c ∷ cs) a = agree-after (with_change t c) (list_with_change list c) cs (agree-changed t list c a)
 
 pub registrations-after : (changes : List TableChange) (hook : List ℕ)
     → registrations (table_after changes) hook ≡ by_priority (registrations_in (list_after changes) hook)

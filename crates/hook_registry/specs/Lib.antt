@@ -1,4 +1,5 @@
-pub mod Kept
+pub mod Entries
+pub mod Groups
 pub mod Named
 pub mod OneList
 pub mod Order

@@ -40,22 +40,22 @@ pub data TableChange : Type 0 where
   Removed : List ℕ → ℤ → ℕ → TableChange
   RemovedAll : List ℕ → Option ℤ → TableChange
 
-abbrev pub changed : Table → TableChange → Table
-changed t (Added hook new) = table.add t hook new
-changed t (Removed hook priority callback) = table.remove t hook priority callback
-changed t (RemovedAll hook priority) = table.remove_all t hook priority
+abbrev pub with_change : Table → TableChange → Table
+with_change t (Added hook new) = table.add t hook new
+with_change t (Removed hook priority callback) = table.remove t hook priority callback
+with_change t (RemovedAll hook priority) = table.remove_all t hook priority
 
-abbrev pub list_changed : List Listed → TableChange → List Listed
-list_changed list (Added hook new) = add list hook new
-list_changed list (Removed hook priority callback) = remove list hook priority callback
-list_changed list (RemovedAll hook priority) = remove_all list hook priority
+abbrev pub list_with_change : List Listed → TableChange → List Listed
+list_with_change list (Added hook new) = add list hook new
+list_with_change list (Removed hook priority callback) = remove list hook priority callback
+list_with_change list (RemovedAll hook priority) = remove_all list hook priority
 
 -- the table, and the list, after some changes, if nothing was registered before
 abbrev pub table_after : List TableChange → Table
-table_after changes = fold changed [] changes
+table_after changes = fold with_change [] changes
 
 abbrev pub list_after : List TableChange → List Listed
-list_after changes = fold list_changed [] changes
+list_after changes = fold list_with_change [] changes
 
 -- the priority that a change is at; one of all priorities is at none
 abbrev pub priority_changed : TableChange → Option ℤ

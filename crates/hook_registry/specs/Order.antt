@@ -13,11 +13,11 @@ IsAscending [] = Unit {0}
 IsAscending (r ∷ rs) = NoneBelow r.priority rs × IsAscending rs
 
 -- a registration in its place: after those of smaller priority, and before the others
-abbrev pub placed : Registration → List Registration → List Registration
-placed r [] = r ∷ []
-placed r (s ∷ ss) = if int_lt s.priority r.priority then s ∷ placed r ss else r ∷ s ∷ ss
+abbrev pub with_placed : Registration → List Registration → List Registration
+with_placed r [] = r ∷ []
+with_placed r (s ∷ ss) = if int_lt s.priority r.priority then s ∷ with_placed r ss else r ∷ s ∷ ss
 
 -- a list by ascending priority; those of one priority stay in their order
 abbrev pub by_priority : List Registration → List Registration
 by_priority [] = []
-by_priority (r ∷ rs) = placed r (by_priority rs)
+by_priority (r ∷ rs) = with_placed r (by_priority rs)

@@ -19,5 +19,5 @@ abbrev pub far_apart : Table
 far_apart = with_title (at (pos 2147483647) 1 1 ∷ at (pos 0) 2 1 ∷ at (negsuc 2147483647) 3 1 ∷ [])
 
 -- one callback at two priorities, and another at one of them
-abbrev pub shared : Table
-shared = with_title (at (pos 10) 7 1 ∷ at (pos 9) 7 2 ∷ at (pos 10) 3 2 ∷ [])
+abbrev pub one_at_two_priorities : Table
+one_at_two_priorities = with_title (at (pos 10) 7 1 ∷ at (pos 9) 7 2 ∷ at (pos 10) 3 2 ∷ [])

@@ -16,17 +16,19 @@ ghost use Rattle.hook_registry.specs.Table.{
   is_above,
   entry_of,
 };
-ghost use Rattle.hook_registry.specs.OneList.{TableChange, changed, table_after, list_after};
+ghost use Rattle.hook_registry.specs.OneList.{TableChange, with_change, table_after, list_after};
 ghost use Rattle.hook_registry.specs.OneList.{is_in, is_same, registrations_in, priority_changed};
 
-/// A law: after any changes to an empty registry, the table has under each hook what one list of all registrations, in
-/// the order of adding, has of that hook, by ascending priority and those of one priority in their order. So at each
-/// priority it has the callbacks of the one list, and the smallest priority above any is that of the one list. Whether
-/// a hook has a registration, and the smallest priority of a callback under it, are as in the one list; and
-/// `Registry::remove` returns whether the one list has the registration.
+/// A law: after any changes to an empty registry, the table has under each hook what one list of
+/// all registrations, in the order of adding, has of that hook, by ascending priority and those of
+/// one priority in their order. So at each priority it has the callbacks of the one list, and the
+/// smallest priority above any is that of the one list. Whether a hook has a registration, and the
+/// smallest priority of a callback under it, are as in the one list; and `Registry::remove` returns
+/// whether the one list has the registration.
 pub fn one_list()
     ensures registrations { (changes : List TableChange) (hook : List ℕ)
-        → registrations (table_after changes) hook ≡ by_priority (registrations_in (list_after changes) hook) }
+        → registrations (table_after changes) hook
+        ≡ by_priority (registrations_in (list_after changes) hook) }
     ensures groups { (changes : List TableChange) (hook : List ℕ) (priority : ℤ)
         → group (table_after changes) hook priority
         ≡ map entry_of (filter (is_at priority) (registrations_in (list_after changes) hook)) }
@@ -37,20 +39,22 @@ pub fn one_list()
         → has (table_after changes) hook ≡ list_any (is_in hook) (list_after changes) }
     ensures least { (changes : List TableChange) (hook : List ℕ) (callback : ℕ)
         → priority_of (table_after changes) hook callback
-        ≡ least_priority (λ r. r.callback == callback) (registrations_in (list_after changes) hook) }
+        ≡ least_priority (λ r. r.callback == callback)
+        (registrations_in (list_after changes) hook) }
     ensures there { (changes : List TableChange) (hook : List ℕ) (priority : ℤ) (callback : ℕ)
         → list_any (is_of priority callback) (registrations (table_after changes) hook)
         ≡ list_any (is_same hook priority callback) (list_after changes) }
 {}
 
-/// A law: a change at a priority, under any hook, leaves every hook's callbacks at each larger priority as they were,
-/// and also which priority comes next after it and after each larger one. So a change at the running priority or a
-/// smaller one does not affect what a pass has still to come to.
+/// A law: a change at a priority, under any hook, leaves every hook's callbacks at each larger
+/// priority as they were, and also which priority comes next after it and after each larger one. So
+/// a change at the running priority or a smaller one does not affect what a pass has still to come
+/// to.
 pub fn later_priorities_stay()
     ensures groups { (table : Table) (change : TableChange) (hook : List ℕ) (q r : ℤ)
         → priority_changed change ≡ Some q → q <ℤ r
-        → group (changed table change) hook r ≡ group table hook r }
+        → group (with_change table change) hook r ≡ group table hook r }
     ensures next { (table : Table) (change : TableChange) (hook : List ℕ) (q r : ℤ)
         → priority_changed change ≡ Some q → q ≤ℤ r
-        → after (changed table change) hook r ≡ after table hook r }
+        → after (with_change table change) hook r ≡ after table hook r }
 {}

@@ -1,5 +1,6 @@
 //! Values under names.
-ghost use Rattle.std.specs.Prelude.{◌≡◌, ◌<◌, [], length, map, slice_get, Some, is_some, OnOk, OnErr};
+ghost use Rattle.std.specs.Prelude.{◌≡◌, ◌<◌, [], length, map, slice_get, Some, is_some, OnOk};
+ghost use Rattle.std.specs.Prelude.{OnErr};
 ghost use Rattle.hook_registry.specs.Named.{value_of, set_value, remove_value};
 
 use indexmap::IndexMap;
@@ -39,8 +40,8 @@ impl<V: Copy + Drop> Named<V> {
         self.values.get(name).copied()
     }
 
-    /// Returns the value under a name, if there is one. The name at a place, counted from 0, is tried first, which
-    /// spares the look-up by name; the place becomes that of the name found.
+    /// Returns the value under a name, if there is one. The name at a place, counted from 0, is
+    /// tried first, which spares the look-up by name; the place becomes that of the name found.
     pub fn get_near(&self, name: &str, place: &mut usize) -> Option<V>
         ensures { result ≡ value_of self.now name.now }
     {
@@ -58,7 +59,8 @@ impl<V: Copy + Drop> Named<V> {
         }
     }
 
-    /// Sets the value of a name, which keeps its place if it is there. On allocation failure nothing is set.
+    /// Sets the value of a name, which keeps its place if it is there. On allocation failure
+    /// nothing is set.
     pub fn set(&mut self, name: &str, value: V) -> Result<(), AllocError>
         ensures ok { OnOk result (self.new ≡ set_value self.old name.now value) }
         ensures err { OnErr result (self.new ≡ self.old) }

@@ -9,13 +9,16 @@ ghost use Rattle.hook_registry.specs.Table.{
   after,
   priority_of,
 };
-ghost use Rattle.hook_registry.specs.Worked.{the_title, at, with_title, far_apart, shared};
+ghost use Rattle.hook_registry.specs.Worked.{the_title, at, with_title, far_apart};
+ghost use Rattle.hook_registry.specs.Worked.{one_at_two_priorities};
 
-/// Works out what a few changes of one hook leave. `at p c n` is callback `c` at priority `p` with `n` accepted
-/// arguments, and `negsuc n` is the number -(n + 1). The call itself does nothing: it carries these facts.
+/// Works out what a few changes of one hook leave. `at p c n` is callback `c` at priority `p` with
+/// `n` accepted arguments, and `negsuc n` is the number -(n + 1). The call itself does nothing: it
+/// carries these facts.
 pub fn worked_table()
     // Callbacks of one priority are in the order of adding, whatever their numbers.
-    ensures adding_order { group (with_title (at (pos 10) 7 1 ∷ at (pos 10) 3 2 ∷ [])) the_title (pos 10)
+    ensures adding_order { group (with_title (at (pos 10) 7 1 ∷ at (pos 10) 3 2 ∷ [])) the_title
+        (pos 10)
         ≡ record { callback = 7; accepted = 1 } ∷ record { callback = 3; accepted = 2 } ∷ [] }
 
     // A callback added again at its priority keeps its place and takes the new count.
@@ -38,11 +41,12 @@ pub fn worked_table()
         ≡ Some (negsuc 4) }
 
     // Removing one registration leaves the callback's others and the other callbacks.
-    ensures removed { registrations (remove shared the_title (pos 10) 7) the_title
+    ensures removed { registrations (remove one_at_two_priorities the_title (pos 10) 7) the_title
         ≡ at (pos 9) 7 2 ∷ at (pos 10) 3 2 ∷ [] }
-    ensures removed_all_at { registrations (remove_all shared the_title (Some (pos 10))) the_title
+    ensures removed_all_at { registrations (remove_all one_at_two_priorities the_title (Some (pos 10))) the_title
         ≡ at (pos 9) 7 2 ∷ [] }
-    ensures removed_all { registrations (remove_all shared the_title None) the_title ≡ [] }
+    ensures removed_all { registrations (remove_all one_at_two_priorities the_title None) the_title
+        ≡ [] }
 
     // If a callback has several priorities, the smallest one is returned.
     ensures least_priority { priority_of (with_title (at (pos 20) 7 1 ∷ at (pos 10) 3 1 ∷ at (pos 5) 7 1 ∷ []))

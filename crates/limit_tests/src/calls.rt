@@ -28,7 +28,8 @@ static ONE_TOO_FEW: [(&[u8], Wanted); 3] = [PUT, CLIMB, TOO_MANY];
 
 static NEVER_ENOUGH: [(&[u8], Wanted); 3] = [PUT, CLIMB_ON, TOO_MANY];
 
-/// A callback that fails as if memory had run out: each page is refused until its plugin is inactive.
+/// A callback that fails as if memory had run out: each page is refused until its plugin is
+/// inactive.
 static FAILS: [(&[u8], Wanted); 7] = [
     PUT,
     PLAIN,

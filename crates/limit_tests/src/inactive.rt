@@ -1,6 +1,6 @@
-//! Sites over two bundles that differ in `bold` alone, whose callback 17 is the program's own in the one, and answers
-//! `!` in the other. While `bold` isn't active no page tells the one bundle from the other, not even if another plugin
-//! registers that callback.
+//! Sites over two bundles that differ in `bold` alone, whose callback 17 is the program's own in
+//! the one, and answers `!` in the other. While `bold` isn't active no page tells the one bundle
+//! from the other, not even if another plugin registers that callback.
 ghost use Rattle.std.specs.Prelude.{◌≡◌, IfOk, map};
 ghost use Rattle.limit_tests.specs.Inactive.{says};
 
@@ -11,7 +11,8 @@ use hook_changes::{Call, CallbackId, Change, Listed, Reply, Text};
 use site_program::Site;
 use std::alloc::{AllocError, Global};
 
-/// A callback of the program's bundle, unless it is the one with the number `CHANGED`, which answers `!`.
+/// A callback of the program's bundle, unless it is the one with the number `CHANGED`, which
+/// answers `!`.
 #[derive(Clone, Copy)]
 struct Bundled<const CHANGED: u32> {
     id: CallbackId,
@@ -49,7 +50,8 @@ fn callbacks<const CHANGED: u32>(
     Ok(callbacks)
 }
 
-/// Makes the plugin `borrow`, which has no callback of its own and registers number 17 on `the_title`.
+/// Makes the plugin `borrow`, which has no callback of its own and registers number 17 on
+/// `the_title`.
 fn borrow<S>(alloc: Global) -> Result<Plugin<S>, AllocError> {
     let mut load = Listed::empty(alloc);
     load.push(Change::Add {
@@ -112,8 +114,9 @@ const BOLD_PAGE: Wanted = Wanted::Page(200, "<h2>TX1Y</h2><b>x</b>");
 
 const CHANGED_PAGE: Wanted = Wanted::Page(200, "<h2>TX1Y</h2>!");
 
-/// A page that is begun without `bold` has as many turns and the same bytes over both bundles, although `bold` is
-/// activated after its first turn: the two callbacks of `marks`, core's own, and the last turn.
+/// A page that is begun without `bold` has as many turns and the same bytes over both bundles,
+/// although `bold` is activated after its first turn: the two callbacks of `marks`, core's own, and
+/// the last turn.
 static WITHOUT: [Exchange; 9] = [
     MARKS,
     POST,
@@ -126,7 +129,8 @@ static WITHOUT: [Exchange; 9] = [
     (ONE_TURN, PLAIN_PAGE),
 ];
 
-/// With `bold` the bundles differ: in a page, and in one that is begun with it and given its turns without it.
+/// With `bold` the bundles differ: in a page, and in one that is begun with it and given its turns
+/// without it.
 static WITH: [Exchange; 9] = [
     MARKS,
     POST,
@@ -177,11 +181,12 @@ static BORROWED_CHANGED: [Exchange; 8] = [
     (GET, Wanted::Page(200, "<h2>!</h2>")),
 ];
 
-/// The load list of `borrow` isn't carried out while it isn't active, although the callback in it is an active one.
+/// The load list of `borrow` isn't carried out while it isn't active, although the callback in it
+/// is an active one.
 static NOT_LOADED: [Exchange; 3] = [BOLD, EMPTY_POST, (GET, TITLE)];
 
-/// Returns whether a new site over the bundle in which that callback is changed, with `borrow` or without it, gives the
-/// expected replies.
+/// Returns whether a new site over the bundle in which that callback is changed, with `borrow` or
+/// without it, gives the expected replies.
 fn passes<const CHANGED: u32>(alloc: Global, has_borrow: bool, lines: &[Exchange]) -> bool {
     let Ok(list) = listed::<CHANGED>(alloc, has_borrow) else {
         return false;

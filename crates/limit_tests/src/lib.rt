@@ -1,5 +1,6 @@
-//! Tests of sites that the program doesn't show: over plugins that it doesn't have, and under a limit on the steps of
-//! statements. Whatever the limit, a command is carried out, or it is refused as `Store` and every row is as it was.
+//! Tests of sites that the program doesn't show: over plugins that it doesn't have, and under a
+//! limit on the steps of statements. Whatever the limit, a command is carried out, or it is refused
+//! as `Store` and every row is as it was.
 #![tactic(auto)]
 
 #[cfg(test)]

@@ -1,5 +1,5 @@
-//! A limit on the steps of a site's statements: a command is refused as `Store` under each limit that is too small, and
-//! leaves every page as it was.
+//! A limit on the steps of a site's statements: a command is refused as `Store` under each limit
+//! that is too small, and leaves every page as it was.
 use crate::climbing::Climbing;
 use crate::replies::{Wanted, is_reply};
 use crate::sites::{Trial, are_replies, passes};
@@ -120,8 +120,8 @@ fn is_shown(alloc: Global, site: &mut Site<'_, Climbing>, pages: &[u8]) -> bool 
     }
 }
 
-/// Carries out a line under a limit, which is then removed. Returns whether the reply is the expected one, and whether
-/// it is the refusal `Store`.
+/// Carries out a line under a limit, which is then removed. Returns whether the reply is the
+/// expected one, and whether it is the refusal `Store`.
 fn is_done(site: &mut Site<'_, Climbing>, limit: u32, line: &[u8], wanted: Wanted) -> (bool, bool) {
     site.limit_steps(Some(limit));
     let reply = site.command(line);
@@ -129,8 +129,8 @@ fn is_done(site: &mut Site<'_, Climbing>, limit: u32, line: &[u8], wanted: Wante
     (is_reply(&reply, wanted), is_reply(&reply, STORE))
 }
 
-/// Returns whether a command is refused as `Store` under each limit that is too small, with all pages as before, and
-/// then gets the expected reply.
+/// Returns whether a command is refused as `Store` under each limit that is too small, with all
+/// pages as before, and then gets the expected reply.
 fn is_stopped_or_done(
     alloc: Global,
     site: &mut Site<'_, Climbing>,
@@ -194,8 +194,8 @@ fn has_post(alloc: Global, site: &mut Site<'_, Climbing>, id: u32) -> bool {
     }
 }
 
-/// Returns whether a limit of one row stops the front of a site of 1,000 posts, and the site then has exactly the posts
-/// that were stored.
+/// Returns whether a limit of one row stops the front of a site of 1,000 posts, and the site then
+/// has exactly the posts that were stored.
 pub fn one_row(alloc: Global, site: &mut Site<'_, Climbing>) -> bool {
     site.limit_steps(Some(1));
     let is_front_stopped = is_reply(&site.command(FRONT), STORE);

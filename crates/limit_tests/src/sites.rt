@@ -23,7 +23,8 @@ pub enum Trial {
 
 const PUT: &[u8] = br#"{"cmd":"put","title":"T","content":"C","date":"2024-05-01 10:00:00"}"#;
 
-/// Returns whether a new site with `count` posts, each of whose pages has `calls` calls, passes a trial.
+/// Returns whether a new site with `count` posts, each of whose pages has `calls` calls, passes a
+/// trial.
 pub fn passes(alloc: Global, calls: u32, count: u32, trial: Trial) -> bool
     requires { (1 ≤ calls) × (calls ≤ 100000) }
 {

@@ -1,5 +1,5 @@
-//! Open pages over two callbacks on `the_title`. Each fails while its switch is on, as if memory had run out, so the
-//! replies show at which line a callback is called.
+//! Open pages over two callbacks on `the_title`. Each fails while its switch is on, as if memory
+//! had run out, so the replies show at which line a callback is called.
 use crate::climbing::first_argument;
 use crate::replies::{Wanted, is_reply};
 use callback_store::{Plugin, Plugins, Stated};
@@ -83,7 +83,8 @@ const ALL_TURNS: &[u8] = br#"{"cmd":"turns","page":1,"count":100}"#;
 
 const SHOWN: Wanted = Wanted::Page(200, "<h2>T</h2>");
 
-/// Lines with their replies, each after whether the switch of the first and of the second callback is then on.
+/// Lines with their replies, each after whether the switch of the first and of the second callback
+/// is then on.
 type Exchange = (bool, bool, &'static [u8], Wanted);
 
 /// No callback is called at `begin`.
@@ -94,7 +95,8 @@ static AT_BEGIN: [Exchange; 4] = [
     (false, false, ALL_TURNS, SHOWN),
 ];
 
-/// The second callback is called in the second turn, and not before. The page at which memory runs out is closed.
+/// The second callback is called in the second turn, and not before. The page at which memory runs
+/// out is closed.
 static IN_THE_SECOND_TURN: [Exchange; 6] = [
     (false, false, ACTIVATE, Wanted::Ok),
     (false, false, PUT, Wanted::Id(1)),

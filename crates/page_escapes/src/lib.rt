@@ -9,8 +9,8 @@ use hook_changes::Text;
 use memchr::{memchr, memchr2, memchr3, memmem};
 use std::alloc::{AllocError, Global};
 
-/// Writes each `]]>` of a text as `]]&gt;` (Code Reference, the_content). A text without one is returned and not
-/// copied.
+/// Writes each `]]>` of a text as `]]&gt;` (Code Reference, the_content). A text without one is
+/// returned and not copied.
 pub fn escape_ends(alloc: Global, text: Text) -> Result<Text, AllocError>
     ensures { IfOk result (λ escaped. escaped ≡ ends_escaped text) }
 {
@@ -30,8 +30,8 @@ pub fn has_no_end(text: &str) -> bool
     memchr(b']', bytes).is_none() || memmem::find(bytes, b"]]>").is_none()
 }
 
-/// Writes `&`, `<`, `>`, `"` and `'` of a text as entities. An entity that the text has is escaped too (Code Reference,
-/// esc_html).
+/// Writes `&`, `<`, `>`, `"` and `'` of a text as entities. An entity that the text has is escaped
+/// too (Code Reference, esc_html).
 pub fn escape_html(alloc: Global, text: &str) -> Result<Text, AllocError>
     ensures { IfOk result (λ escaped. escaped ≡ html_escaped text.now) }
 {
@@ -45,7 +45,8 @@ pub fn escape_html(alloc: Global, text: &str) -> Result<Text, AllocError>
     Ok(Text::new(escaped))
 }
 
-/// Escapes an owned text as [`escape_html`] does. One without any of these characters is returned and not copied.
+/// Escapes an owned text as [`escape_html`] does. One without any of these characters is returned
+/// and not copied.
 pub fn into_escaped_html(alloc: Global, text: Text) -> Result<Text, AllocError>
     ensures { IfOk result (λ escaped. escaped ≡ html_escaped text) }
 {
@@ -55,7 +56,8 @@ pub fn into_escaped_html(alloc: Global, text: Text) -> Result<Text, AllocError>
     escape_html(alloc, text.as_str())
 }
 
-/// Returns whether no character of a text has an entity, so that [`escape_html`] leaves it as it is.
+/// Returns whether no character of a text has an entity, so that [`escape_html`] leaves it as it
+/// is.
 pub fn has_no_mark(text: &str) -> bool
     ensures { IsTrue result → html_escaped text.now ≡ text.now }
 {
@@ -65,7 +67,8 @@ pub fn has_no_mark(text: &str) -> bool
 
 /// Appends a character to a text, as its entity if it has one.
 fn push_escaped(text: &mut String, character: char) -> Result<(), AllocError>
-    ensures { OnOk result (string_bytes text.new ≡ string_bytes text.old ++ html_escaped (encode_utf8 character)) }
+    ensures { OnOk result (string_bytes text.new ≡ string_bytes text.old
+        ++ html_escaped (encode_utf8 character)) }
 {
     match character {
         '&' => text.push_str("&amp;"),
@@ -79,7 +82,8 @@ fn push_escaped(text: &mut String, character: char) -> Result<(), AllocError>
 
 /// States what some texts become. The call itself does nothing: it carries these facts.
 pub fn worked_escapes()
-    // Only a `>` right after `]]` is escaped; the byte after that one doesn't come after `]]` any more.
+    // Only a `>` right after `]]` is escaped; the byte after that one doesn't come after `]]` any
+    // more.
     ensures end { ends_escaped (codes "]]>") ≡ codes "]]&gt;" }
     ensures end_behind_a_bracket { ends_escaped (codes "]]]>>") ≡ codes "]]]&gt;>" }
     ensures one_bracket { ends_escaped (codes "]>") ≡ codes "]>" }

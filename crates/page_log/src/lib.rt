@@ -1,6 +1,8 @@
-//! What is told of the invocations of pages: a trait for whoever wants to be told, and a log of JSON lines.
+//! What is told of the invocations of pages: a trait for whoever wants to be told, and a log of
+//! JSON lines.
 //!
-//! A program that wants no log hands in [`Unwatched`], for which pages are printed without stopping.
+//! A program that wants no log hands in [`Unwatched`], for which pages are printed without
+//! stopping.
 #![tactic(auto)]
 
 mod line;

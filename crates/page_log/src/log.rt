@@ -8,8 +8,8 @@ use std::alloc::{AllocError, Global};
 
 /// A log of invocations: a line of JSON for each as it is made, and one for the end of each page.
 ///
-/// Nothing that goes wrong with it reaches a page. A line for which memory runs out is left out. Once a write has
-/// failed, nothing more is written.
+/// Nothing that goes wrong with it reaches a page. A line for which memory runs out is left out.
+/// Once a write has failed, nothing more is written.
 #[derive(Drop)]
 pub struct PageLog<W> {
     alloc: Global,

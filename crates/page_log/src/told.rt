@@ -15,8 +15,8 @@ pub enum PageName<'a> {
 pub struct Told<'a> {
     /// How many invocations the page has made, this one included.
     pub count: u32,
-    /// The item of the page under way, counted from 1, and the ID of the post that it is about, if it is about one. If
-    /// memory ran out as they were worked out, there is none.
+    /// The item of the page under way, counted from 1, and the ID of the post that it is about, if
+    /// it is about one. If memory ran out as they were worked out, there is none.
     pub item: Option<usize>,
     pub post: Option<u32>,
     /// How deep in asks it was made.

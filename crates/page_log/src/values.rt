@@ -1,4 +1,5 @@
-//! Texts, changes, asks and answers as JSON. Changes and asks have the names of WordPress's functions.
+//! Texts, changes, asks and answers as JSON. Changes and asks have the names of WordPress's
+//! functions.
 ghost use Rattle.std.specs.Prelude.{◌≤◌, length};
 
 use hook_changes::{Answer, Ask, Change, Text};

@@ -3,7 +3,6 @@ use Rattle.std.proofs.Common.{◌≡◌, inl, inr, ◌<◌, ◌≤◌, ℕ, zero
 use Rattle.std.proofs.Common.{Option, Some, None, nat_lt, nat_le, Ordering, Less, Equal, Greater, refl, sym, ap, ◌∙◌, arith, true≢false}
 use Rattle.std.specs.Prelude.{slice_index, slice_range}
 use Rattle.std.specs.Ordering.{nat_cmp, ordering_then, is_ge, is_le}
-use Rattle.std.specs.Cmp.Lexicographic.{slice_cmp}
 use Rattle.std.proofs.lemmas.Bool.{and_parts, cases_Bool, leb-true, ltb-true}
 use Rattle.std.proofs.lemmas.Bool.Decides.{nat_tests}
 use Rattle.std.proofs.lemmas.List.{drop-drop, length-take-le, length-drop}
@@ -12,10 +11,8 @@ use Rattle.std.proofs.Math.Seq.{drop-cons}
 use Rattle.jiff.specs.Words.{days_in_month}
 use Rattle.site_records.specs.Digits.{number, number_from, is_digit}
 use Rattle.site_records.specs.Dates.{is_day, is_clock, is_moment, has_marks, is_post_date}
+use Rattle.post_tables.specs.Rows.{by_bytes}
 use Rattle.permalink_query.proofs.MonthLemmas.{days_bounds}
-
-abbrev pub by_bytes : List ℕ → List ℕ → Ordering
-by_bytes = slice_cmp nat_cmp
 
 -- ---- what comes later decides if all before is equal
 

@@ -10,9 +10,10 @@ use Rattle.std.proofs.lemmas.Map.Text.{is_eq-slice_cmp}
 use Rattle.jiff.specs.Words.{days_in_month}
 use Rattle.site_records.specs.Digits.{number}
 use Rattle.site_records.specs.Dates.{is_post_date}
+use Rattle.post_tables.specs.Rows.{by_bytes}
 use Rattle.permalink_query.specs.Months.{is_month, month_text, month_start, month_end, is_in_month}
 use Rattle.permalink_query.proofs.MonthLemmas.{IsMonth, month_bounds, number-two, number-four, days_bounds}
-use Rattle.permalink_query.proofs.DateOrder.{by_bytes, Moment, IsWritten, IsBound, written, bound, in_time, from_day, to_day, after_day, before_day}
+use Rattle.permalink_query.proofs.DateOrder.{Moment, IsWritten, IsBound, written, bound, in_time, from_day, to_day, after_day, before_day}
 use Rattle.permalink_query.proofs.DateOrder.{then_joined, ge_then, le_then, then_equal, field, mark}
 
 module _ (year month : ℕ) (is : is_month year month ≡ true) where

@@ -6,7 +6,7 @@ use Rattle.std.proofs.lemmas.Bool.{and_parts}
 use Rattle.site_records.specs.Dates.{is_post_date}
 use Rattle.site_records.specs.declared.post.Post.{Post}
 use Rattle.site_records.specs.declared.post.PostKind.TheVariants.{Post as OfPost}
-use Rattle.table_rows.specs.Sorting.{sorted}
+use Rattle.table_rows.specs.Sorting.{in_order}
 use Rattle.post_tables.specs.Page.{newest, is_kind, is_published, is_listed, page_of}
 use Rattle.permalink_query.specs.Months.{is_month, is_in_month, month_start, month_end}
 use Rattle.permalink_query.specs.Found.{published_posts, posts_of_month, part_of_posts}
@@ -34,7 +34,7 @@ all_listed (p ∷ posts) dated =
 -- a part of the front
 pub front_span : (size part : ℕ) (posts : List Post) → AreDated posts
     → page_of OfPost first last size ((part - 1) * size) posts ≡ part_of_posts size part (published_posts posts)
-front_span size part posts dated = ap (λ l. take size (drop ((part - 1) * size) (sorted newest l))) (all_listed posts dated)
+front_span size part posts dated = ap (λ l. take size (drop ((part - 1) * size) (in_order newest l))) (all_listed posts dated)
 
 module _ (year month : ℕ) (is : is_month year month ≡ true) where
   abbrev in_span : Post → Bool
@@ -59,4 +59,4 @@ module _ (year month : ℕ) (is : is_month year month ≡ true) where
 pub month_span : (year month size part : ℕ) (posts : List Post) → is_month year month ≡ true → AreDated posts
     → page_of OfPost (month_start year month) (month_end year month) size ((part - 1) * size) posts
     ≡ part_of_posts size part (posts_of_month year month (published_posts posts))
-month_span year month size part posts is dated = ap (λ l. take size (drop ((part - 1) * size) (sorted newest l))) (of_month year month is posts dated)
+month_span year month size part posts is dated = ap (λ l. take size (drop ((part - 1) * size) (in_order newest l))) (of_month year month is posts dated)

@@ -8,7 +8,7 @@ use Rattle.site_records.specs.declared.post.Post.{Post}
 use Rattle.site_records.specs.declared.post.PostKind.{PostKind}
 use Rattle.site_records.specs.declared.post.PostKind.TheVariants.{Post as OfPost, Page as OfPage}
 use Rattle.post_tables.specs.Rows.{Text, post_with}
-use Rattle.table_rows.specs.Sorting.{sorted}
+use Rattle.table_rows.specs.Sorting.{in_order}
 use Rattle.post_tables.specs.Page.{newest, is_kind, is_published}
 use Rattle.permalink_query.specs.Numbers.{is_within, whole_number}
 use Rattle.permalink_query.specs.Months.{is_month, is_in_month}
@@ -27,12 +27,12 @@ abbrev pub posts_per_page : List (Text × Text) → ℕ
 posts_per_page options = unwrap_or (option_and_then part_size (text_named (codes "posts_per_page") options)) 10
 
 -- the published ones of a kind (class WP_Query, post_type and post_status)
-abbrev pub published : PostKind → List Post → List Post
-published kind = filter (λ p. is_kind p.kind kind && is_published p.status)
+abbrev pub published_of_kind : PostKind → List Post → List Post
+published_of_kind kind = filter (λ p. is_kind p.kind kind && is_published p.status)
 
 -- the published posts
 abbrev pub published_posts : List Post → List Post
-published_posts = published OfPost
+published_posts = published_of_kind OfPost
 
 -- the posts of a month (class WP_Query, m)
 abbrev pub posts_of_month : (year month : ℕ) → List Post → List Post
@@ -40,11 +40,11 @@ posts_of_month year month = filter (λ p. is_in_month year month p.date)
 
 -- a part of some posts, newest first, `size` at a time; part 0 is the first too (class WP_Query, paged)
 abbrev pub part_of_posts : (size part : ℕ) → List Post → List Post
-part_of_posts size part posts = take size (drop ((part - 1) * size) (sorted newest posts))
+part_of_posts size part posts = take size (drop ((part - 1) * size) (in_order newest posts))
 
 -- the published post or page with the ID (class WP_Query, p and page_id)
 abbrev pub published_with : PostKind → ℕ → List Post → List Post
-published_with kind id posts = published kind (option_to_list (post_with id posts))
+published_with kind id posts = published_of_kind kind (option_to_list (post_with id posts))
 
 -- posts are shown with status 200, and if nothing is found it is 404 (class WP, handle_404)
 abbrev pub showing : FoundKind → List Post → Found
@@ -93,13 +93,13 @@ is_void options (query.Month year month part) = not (is_month year month)
 is_void options _ = false
 
 -- what a site's posts and options have for a query (class WP_Query)
-abbrev pub found : List Post → List (Text × Text) → Query → Found
-found posts options (query.Front part) =
+abbrev pub query_result : List Post → List (Text × Text) → Query → Found
+query_result posts options (query.Front part) =
     option_map_or (λ id. unless_empty FrontPage (published_with OfPage id posts)) (page_on_front options) (listed_front posts options part)
-found posts options (query.Single id) = unless_empty Single (published_with OfPost id posts)
-found posts options (query.Page id) = unless_empty Page (published_with OfPage id posts)
-found posts options (query.Month year month part) =
+query_result posts options (query.Single id) = unless_empty Single (published_with OfPost id posts)
+query_result posts options (query.Page id) = unless_empty Page (published_with OfPage id posts)
+query_result posts options (query.Month year month part) =
     if is_month year month
     then unless_empty Month (part_of_posts (posts_per_page options) part (posts_of_month year month (published_posts posts)))
     else nothing
-found posts options query.Nothing = nothing
+query_result posts options query.Nothing = nothing

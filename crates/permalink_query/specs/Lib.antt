@@ -1,4 +1,3 @@
-pub mod Faults
 pub mod Numbers
 pub mod Paths
 pub mod Months

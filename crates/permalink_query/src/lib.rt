@@ -2,14 +2,12 @@
 //! (WordPress documentation, Customize Permalinks, 'Plain permalinks').
 #![tactic(auto)]
 
-mod fault;
 mod lookup;
 mod month;
 mod number;
 mod query;
 mod worked;
 
-pub use fault::FindFault;
 pub use lookup::find;
 pub use query::{Query, read};
 pub use site_records::{Found, FoundKind};

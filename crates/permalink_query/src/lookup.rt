@@ -18,9 +18,9 @@ ghost use Rattle.std.specs.Prelude.{
 };
 ghost use Rattle.std.specs.List.{list_all};
 ghost use Rattle.std.specs.Option.{option_to_list};
+ghost use Rattle.post_tables.specs.Faults.{IsStoreReadFault};
 ghost use Rattle.post_tables.specs.Page.{is_kind, is_published, page_of};
 ghost use Rattle.site_records.specs.Dates.{is_post_date};
-ghost use Rattle.permalink_query.specs.Faults.{IsFindFault};
 ghost use Rattle.permalink_query.specs.Found.{
   posts_per_page,
   part_of_posts,
@@ -35,42 +35,42 @@ ghost use Rattle.permalink_query.specs.Found.{
   listed_front,
   nothing,
   is_void,
-  found,
+  query_result,
 };
 ghost use Rattle.permalink_query.specs.Months.{is_month};
 
-use crate::fault::FindFault;
 use crate::month::month_span;
 use crate::number::whole_number;
 use crate::query::Query;
 use hook_changes::{Listed, Text};
-use post_tables::Tables;
+use post_tables::{StoreFault, Tables};
 use site_records::{Found, FoundKind, Post, PostDate, PostKind, PostStatus, text_named};
 use std::alloc::{AllocError, Global};
 
 /// How many posts make a part if the option doesn't say.
 const DEFAULT_SIZE: u32 = 10;
 
-/// Finds what a site has for a query: only published posts and pages, and of a list the part that the query names,
-/// newest first (class WP_Query). A part has as many posts as the option `posts_per_page` says, if that is a number
-/// from 1 to 100, and otherwise 10. If the option `show_on_front` is `page` and `page_on_front` is a number other than
-/// 0, the front shows the page with that ID, whatever the part. If an option is repeated, its first value counts.
+/// Finds what a site has for a query: only published posts and pages, and of a list the part that
+/// the query names, newest first (class WP_Query). A part has as many posts as the option
+/// `posts_per_page` says, if that is a number from 1 to 100, and otherwise 10. If the option
+/// `show_on_front` is `page` and `page_on_front` is a number other than 0, the front shows the page
+/// with that ID, whatever the part. If an option is repeated, its first value counts.
 ///
-/// Nothing is found if there is no such post or page, or if a part is empty, except the first part of a front that
-/// lists posts. A part of it that isn't a number finds nothing, and neither does a month that the calendar doesn't
-/// have.
+/// Nothing is found if there is no such post or page, or if a part is empty, except the first part
+/// of a front that lists posts. A part of it that isn't a number finds nothing, and neither does a
+/// month that the calendar doesn't have.
 ///
-/// It fails if memory runs out, or if a statement would go past the limit on its steps, and never if there is nothing
-/// to look for.
+/// It fails if memory runs out, or if a statement would go past the limit on its steps, and never
+/// if there is nothing to look for.
 pub fn find(
     alloc: Global,
     tables: &mut Tables,
     query: &Query,
     options: &[(Text, Text)],
-) -> Result<Found, FindFault>
-    ensures ok { IfOk result (λ f. f ≡ found tables.old.posts options.now query.now) }
+) -> Result<Found, StoreFault>
+    ensures ok { IfOk result (λ f. f ≡ query_result tables.old.posts options.now query.now) }
     ensures same { tables.new ≡ tables.old }
-    ensures err { IfErr result (IsFindFault tables.old.step_limit) }
+    ensures err { IfErr result (IsStoreReadFault tables.old.step_limit) }
     ensures void { is_void options.now query.now ≡ true → result ≡ Ok nothing }
 {
     match *query {
@@ -96,10 +96,11 @@ fn find_front(
     tables: &mut Tables,
     options: &[(Text, Text)],
     part: Option<u32>,
-) -> Result<Found, FindFault>
-    ensures ok { IfOk result (λ f. f ≡ found tables.old.posts options.now (Query.Front part)) }
+) -> Result<Found, StoreFault>
+    ensures ok { IfOk result (λ f. f ≡ query_result tables.old.posts options.now
+        (Query.Front part)) }
     ensures same { tables.new ≡ tables.old }
-    ensures err { IfErr result (IsFindFault tables.old.step_limit) }
+    ensures err { IfErr result (IsStoreReadFault tables.old.step_limit) }
     ensures void { is_void options.now (Query.Front part) ≡ true → result ≡ Ok nothing }
 {
     match page_on_front(options) {
@@ -117,10 +118,10 @@ fn list_front(
     tables: &mut Tables,
     options: &[(Text, Text)],
     part: Option<u32>,
-) -> Result<Found, FindFault>
+) -> Result<Found, StoreFault>
     ensures ok { IfOk result (λ f. f ≡ listed_front tables.old.posts options.now part) }
     ensures same { tables.new ≡ tables.old }
-    ensures err { IfErr result (IsFindFault tables.old.step_limit) }
+    ensures err { IfErr result (IsStoreReadFault tables.old.step_limit) }
     ensures void { is_some part ≡ false → result ≡ Ok nothing }
 {
     match part {
@@ -140,11 +141,11 @@ fn find_month(
     year: u16,
     month: u8,
     part: u32,
-) -> Result<Found, FindFault>
+) -> Result<Found, StoreFault>
     ensures ok { IfOk result (λ f. f
-        ≡ found tables.old.posts options.now (Query.Month year month part)) }
+        ≡ query_result tables.old.posts options.now (Query.Month year month part)) }
     ensures same { tables.new ≡ tables.old }
-    ensures err { IfErr result (IsFindFault tables.old.step_limit) }
+    ensures err { IfErr result (IsStoreReadFault tables.old.step_limit) }
     ensures void { is_month year month ≡ false → result ≡ Ok nothing }
 {
     let Some(posts) = month_part(alloc, tables, posts_per_page(options), year, month, part)? else {
@@ -161,14 +162,14 @@ fn month_part(
     year: u16,
     month: u8,
     part: u32,
-) -> Result<Option<Listed<Post>>, FindFault>
+) -> Result<Option<Listed<Post>>, StoreFault>
     requires { size ≤ 100 }
     ensures there { IfOk result (λ posts. is_some posts ≡ is_month year month) }
     ensures none { is_month year month ≡ false → result ≡ Ok None }
     ensures posts { IfOk result (λ found. IfSome found (λ posts. posts
         ≡ part_of_posts size part (posts_of_month year month (published_posts tables.old.posts)))) }
     ensures same { tables.new ≡ tables.old }
-    ensures err { IfErr result (IsFindFault tables.old.step_limit) }
+    ensures err { IfErr result (IsStoreReadFault tables.old.step_limit) }
 {
     let Some((from, to)) = month_span(alloc, year, month)? else {
         return Ok(None);
@@ -177,13 +178,14 @@ fn month_part(
     Ok(Some(posts))
 }
 
-/// Returns a part of all published posts. Each has a date between the first and the last possible one.
-fn front_part(tables: &mut Tables, size: u32, part: u32) -> Result<Listed<Post>, FindFault>
+/// Returns a part of all published posts. Each has a date between the first and the last possible
+/// one.
+fn front_part(tables: &mut Tables, size: u32, part: u32) -> Result<Listed<Post>, StoreFault>
     requires { size ≤ 100 }
     ensures ok { IfOk result (λ posts. posts
         ≡ part_of_posts size part (published_posts tables.old.posts)) }
     ensures same { tables.new ≡ tables.old }
-    ensures err { IfErr result (IsFindFault tables.old.step_limit) }
+    ensures err { IfErr result (IsStoreReadFault tables.old.step_limit) }
 {
     let (from, to) = all_dates();
     part_of(tables, &from, &to, size, part)
@@ -211,13 +213,13 @@ fn part_of(
     to: &PostDate,
     size: u32,
     part: u32,
-) -> Result<Listed<Post>, FindFault>
+) -> Result<Listed<Post>, StoreFault>
     requires { size ≤ 100 }
     ensures ok { IfOk result (λ posts. posts
         ≡ page_of PostKind.Post from.now to.now size ((part - 1) * size) tables.old.posts) }
     ensures dated { list_all (λ p. is_post_date p.date) tables.old.posts ≡ true }
     ensures same { tables.new ≡ tables.old }
-    ensures err { IfErr result (IsFindFault tables.old.step_limit) }
+    ensures err { IfErr result (IsStoreReadFault tables.old.step_limit) }
 {
     let offset = u64::from(part.saturating_sub(1)) * u64::from(size);
     Ok(tables.posts_of(PostKind::Post, from, to, size, offset)?)
@@ -229,10 +231,10 @@ fn published(
     tables: &mut Tables,
     kind: PostKind,
     id: u32,
-) -> Result<Listed<Post>, FindFault>
+) -> Result<Listed<Post>, StoreFault>
     ensures ok { IfOk result (λ posts. posts ≡ published_with kind id tables.old.posts) }
     ensures same { tables.new ≡ tables.old }
-    ensures err { IfErr result (IsFindFault tables.old.step_limit) }
+    ensures err { IfErr result (IsStoreReadFault tables.old.step_limit) }
 {
     let found = tables.post(id)?;
     Ok(if_published(alloc, kind, found)?)

@@ -1,5 +1,6 @@
 //! The dates of posts that lie in a month.
-ghost use Rattle.std.specs.Prelude.{◌≡◌, true, false, Ok, None, ◌++◌, codes, pos, IfOk, IfSome, is_some};
+ghost use Rattle.std.specs.Prelude.{◌≡◌, true, false, Ok, None, ◌++◌, codes, pos, IfOk, IfSome};
+ghost use Rattle.std.specs.Prelude.{is_some};
 ghost use Rattle.site_records.specs.Dates.{is_post_date};
 ghost use Rattle.jiff.specs.Words.{date_text, IsYmd};
 ghost use Rattle.permalink_query.specs.Months.{is_month, month_start, month_end};

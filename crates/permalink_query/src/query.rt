@@ -1,5 +1,6 @@
 //! Queries, and how the path of a request says one.
-ghost use Rattle.std.specs.Prelude.{◌≡◌, true, codes, Some, IfOk, if◌then◌else◌, option_map, nat_lt};
+ghost use Rattle.std.specs.Prelude.{◌≡◌, true, codes, Some, IfOk, if◌then◌else◌, option_map};
+ghost use Rattle.std.specs.Prelude.{nat_lt};
 ghost use Rattle.std.specs.Option.{option_map_or};
 ghost use Rattle.std.specs.Str.{bytes_eq};
 ghost use Rattle.std.specs.Cow.{cow_str_bytes};
@@ -24,8 +25,8 @@ use std::borrow::CowStr;
 /// What a request asks for (class WP_Query). Parts are counted from 1; part 0 is the first too.
 #[derive(Clone, Copy, PartialEq, Eq)]
 pub enum Query {
-    /// The page that the site has at its front, or else a part of all posts, newest first. The part is `None` if
-    /// `paged` isn't a number, which finds nothing if posts are listed.
+    /// The page that the site has at its front, or else a part of all posts, newest first. The part
+    /// is `None` if `paged` isn't a number, which finds nothing if posts are listed.
     Front { part: Option<u32> },
     /// One post.
     Single { id: u32 },
@@ -37,11 +38,11 @@ pub enum Query {
     Nothing,
 }
 
-/// Reads the path of a request: `/` or `/index.php`, and after its first `?` the pairs of a form (URL Standard,
-/// `application/x-www-form-urlencoded`). The first of `p`, `page_id` and `m` that is there decides alone, by its last
-/// value; `paged` counts with `m` and with the front, which is asked for if none of the three is there. Any other path
-/// asks for nothing, and so does a value that doesn't have its form, except `paged` with the front. It fails only if
-/// memory runs out.
+/// Reads the path of a request: `/` or `/index.php`, and after its first `?` the pairs of a form
+/// (URL Standard, `application/x-www-form-urlencoded`). The first of `p`, `page_id` and `m` that is
+/// there decides alone, by its last value; `paged` counts with `m` and with the front, which is
+/// asked for if none of the three is there. Any other path asks for nothing, and so does a value
+/// that doesn't have its form, except `paged` with the front. It fails only if memory runs out.
 pub fn read(alloc: Global, path: &str) -> Result<Query, AllocError>
     ensures { IfOk result (λ query. query ≡ query_of path.now) }
 {
@@ -113,7 +114,8 @@ fn month(text: &str, part: Option<u32>) -> Query
     }
 }
 
-/// Returns the part that `paged` asks for, or `None` if it isn't a number. Without `paged` it is part 1.
+/// Returns the part that `paged` asks for, or `None` if it isn't a number. Without `paged` it is
+/// part 1.
 fn read_part(alloc: Global, form: &str) -> Result<Option<u32>, AllocError>
     ensures { IfOk result (λ part. part ≡ part_of (last_value (codes "paged") (parse form.now))) }
 {

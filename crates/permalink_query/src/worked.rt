@@ -3,7 +3,7 @@ ghost use Rattle.std.specs.Prelude.{◌≡◌, codes, [], ◌∷◌, Some, None,
 ghost use Rattle.post_tables.specs.Worked.{monday, tuesday, wednesday, post, page, some_posts};
 ghost use Rattle.permalink_query.specs.Paths.{query_of};
 ghost use Rattle.permalink_query.specs.Found.{
-  found,
+  query_result,
   showing,
   nothing,
   posts_per_page,
@@ -70,29 +70,30 @@ pub fn worked_queries()
     ensures part_of_a_page { query_of (codes "/?page_id=4&paged=2") ≡ Query.Page 4 }
 {}
 
-/// States what a site has for some queries: posts 1, 2, 5 and 6, the draft 3 and the page 4, all of May 2024. The call
-/// itself does nothing: it carries these facts.
+/// States what a site has for some queries: posts 1, 2, 5 and 6, the draft 3 and the page 4, all of
+/// May 2024. The call itself does nothing: it carries these facts.
 pub fn worked_finds()
-    ensures front { found some_posts [] (Query.Front (Some 1)) ≡ showing FoundKind.Front
+    ensures front { query_result some_posts [] (Query.Front (Some 1)) ≡ showing FoundKind.Front
         (post 2 wednesday ∷ post 6 tuesday ∷ post 5 monday ∷ post 1 monday ∷ []) }
-    ensures part_0 { found some_posts [] (Query.Front (Some 0)) ≡ found some_posts [] (Query.Front (Some 1)) }
-    ensures no_second_part { found some_posts [] (Query.Front (Some 2)) ≡ nothing }
-    ensures part_that_is_no_number { found some_posts [] (Query.Front None) ≡ nothing }
-    ensures empty_front { found [] [] (Query.Front (Some 1)) ≡ showing FoundKind.Front [] }
+    ensures part_0 { query_result some_posts [] (Query.Front (Some 0))
+        ≡ query_result some_posts [] (Query.Front (Some 1)) }
+    ensures no_second_part { query_result some_posts [] (Query.Front (Some 2)) ≡ nothing }
+    ensures part_that_is_no_number { query_result some_posts [] (Query.Front None) ≡ nothing }
+    ensures empty_front { query_result [] [] (Query.Front (Some 1)) ≡ showing FoundKind.Front [] }
 
-    ensures one_post { found some_posts [] (Query.Single 5)
+    ensures one_post { query_result some_posts [] (Query.Single 5)
         ≡ showing FoundKind.Single (post 5 monday ∷ []) }
-    ensures one_page { found some_posts [] (Query.Page 4)
+    ensures one_page { query_result some_posts [] (Query.Page 4)
         ≡ showing FoundKind.Page (page 4 tuesday ∷ []) }
-    ensures no_draft { found some_posts [] (Query.Single 3) ≡ nothing }
-    ensures no_page_by_p { found some_posts [] (Query.Single 4) ≡ nothing }
-    ensures no_post_by_page_id { found some_posts [] (Query.Page 5) ≡ nothing }
-    ensures no_such_id { found some_posts [] (Query.Single 9) ≡ nothing }
+    ensures no_draft { query_result some_posts [] (Query.Single 3) ≡ nothing }
+    ensures no_page_by_p { query_result some_posts [] (Query.Single 4) ≡ nothing }
+    ensures no_post_by_page_id { query_result some_posts [] (Query.Page 5) ≡ nothing }
+    ensures no_such_id { query_result some_posts [] (Query.Single 9) ≡ nothing }
 
-    ensures may { found some_posts [] (Query.Month 2024 5 1) ≡ showing FoundKind.Month
+    ensures may { query_result some_posts [] (Query.Month 2024 5 1) ≡ showing FoundKind.Month
         (post 2 wednesday ∷ post 6 tuesday ∷ post 5 monday ∷ post 1 monday ∷ []) }
-    ensures june { found some_posts [] (Query.Month 2024 6 1) ≡ nothing }
-    ensures no_month { found some_posts [] (Query.Month 2024 13 1) ≡ nothing }
+    ensures june { query_result some_posts [] (Query.Month 2024 6 1) ≡ nothing }
+    ensures no_month { query_result some_posts [] (Query.Month 2024 13 1) ≡ nothing }
 
     // The published posts, a part of them, and the ends of a month.
     ensures published { published_posts some_posts
@@ -104,7 +105,7 @@ pub fn worked_finds()
     ensures other_year { is_in_month 2024 5 (codes "2023-05-15 10:00:00") ≡ false }
 
     // The first option of a name counts, if it is a number from 1 to 100.
-    ensures two_by_two { found some_posts ((codes "posts_per_page", codes "2") ∷ [])
+    ensures two_by_two { query_result some_posts ((codes "posts_per_page", codes "2") ∷ [])
         (Query.Front (Some 2)) ≡ showing FoundKind.Front (post 5 monday ∷ post 1 monday ∷ []) }
     ensures first_option { posts_per_page ((codes "posts_per_page", codes "3")
         ∷ (codes "posts_per_page", codes "4") ∷ []) ≡ 3 }
@@ -113,40 +114,53 @@ pub fn worked_finds()
     ensures no_size { posts_per_page ((codes "posts_per_page", codes "all") ∷ []) ≡ 10 }
 {}
 
-/// States what the front of a site with the posts above is: with the page 4 at its front, with an ID there that isn't a
-/// published page's, and with posts in place of a page. The call itself does nothing: it carries these facts.
+/// States what the front of a site with the posts above is: with the page 4 at its front, with an
+/// ID there that isn't a published page's, and with posts in place of a page. The call itself does
+/// nothing: it carries these facts.
 pub fn worked_fronts()
     // The page is shown whatever the part; asked for by its ID it isn't a front.
-    ensures page { found some_posts (fronting (codes "page") (codes "4")) (Query.Front (Some 1))
+    ensures page { query_result some_posts (fronting (codes "page") (codes "4"))
+        (Query.Front (Some 1))
         ≡ showing FoundKind.FrontPage (page 4 tuesday ∷ []) }
-    ensures second_part { found some_posts (fronting (codes "page") (codes "4")) (Query.Front (Some 2))
+    ensures second_part { query_result some_posts (fronting (codes "page") (codes "4"))
+        (Query.Front (Some 2))
         ≡ showing FoundKind.FrontPage (page 4 tuesday ∷ []) }
-    ensures no_number { found some_posts (fronting (codes "page") (codes "4")) (Query.Front None)
+    ensures no_number { query_result some_posts (fronting (codes "page") (codes "4"))
+        (Query.Front None)
         ≡ showing FoundKind.FrontPage (page 4 tuesday ∷ []) }
-    ensures by_its_id { found some_posts (fronting (codes "page") (codes "4")) (Query.Page 4)
+    ensures by_its_id { query_result some_posts (fronting (codes "page") (codes "4")) (Query.Page 4)
         ≡ showing FoundKind.Page (page 4 tuesday ∷ []) }
     ensures leading_zeros { page_on_front (fronting (codes "page") (codes "0000000004")) ≡ Some 4 }
 
     // Nothing is found if there is no published page with that ID: another ID, a post, a draft.
-    ensures no_such_id { found some_posts (fronting (codes "page") (codes "99")) (Query.Front (Some 1)) ≡ nothing }
-    ensures no_post { found some_posts (fronting (codes "page") (codes "5")) (Query.Front (Some 1)) ≡ nothing }
-    ensures no_draft { found (record (page 4 tuesday) { status = PostStatus.Draft } ∷ [])
+    ensures no_such_id { query_result some_posts (fronting (codes "page") (codes "99"))
+        (Query.Front (Some 1)) ≡ nothing }
+    ensures no_post { query_result some_posts (fronting (codes "page") (codes "5"))
+        (Query.Front (Some 1))
+        ≡ nothing }
+    ensures no_draft { query_result (record (page 4 tuesday) { status = PostStatus.Draft } ∷ [])
         (fronting (codes "page") (codes "4")) (Query.Front (Some 1)) ≡ nothing }
 
     // Posts are listed if one of the two options doesn't say which page.
-    ensures posts { found some_posts (fronting (codes "posts") (codes "4")) (Query.Front (Some 1))
-        ≡ found some_posts [] (Query.Front (Some 1)) }
-    ensures other_text { found some_posts (fronting (codes "Page") (codes "4")) (Query.Front (Some 1))
-        ≡ found some_posts [] (Query.Front (Some 1)) }
-    ensures page_x { found some_posts (fronting (codes "page") (codes "x")) (Query.Front (Some 1))
+    ensures posts { query_result some_posts (fronting (codes "posts") (codes "4"))
+        (Query.Front (Some 1))
+        ≡ query_result some_posts [] (Query.Front (Some 1)) }
+    ensures other_text { query_result some_posts (fronting (codes "Page") (codes "4"))
+        (Query.Front (Some 1))
+        ≡ query_result some_posts [] (Query.Front (Some 1)) }
+    ensures page_x { query_result some_posts (fronting (codes "page") (codes "x"))
+        (Query.Front (Some 1))
         ≡ showing FoundKind.Home
         (post 2 wednesday ∷ post 6 tuesday ∷ post 5 monday ∷ post 1 monday ∷ []) }
     ensures page_0 { page_on_front (fronting (codes "page") (codes "00")) ≡ None }
     ensures no_text { page_on_front (fronting (codes "page") []) ≡ None }
     ensures too_great { page_on_front (fronting (codes "page") (codes "2147483648")) ≡ None }
-    ensures no_page { found [] ((codes "show_on_front", codes "page") ∷ []) (Query.Front (Some 1))
+    ensures no_page { query_result [] ((codes "show_on_front", codes "page") ∷ [])
+        (Query.Front (Some 1))
         ≡ showing FoundKind.Home [] }
-    ensures no_part { found [] ((codes "show_on_front", codes "page") ∷ []) (Query.Front None) ≡ nothing }
+    ensures no_part { query_result [] ((codes "show_on_front", codes "page") ∷ [])
+        (Query.Front None)
+        ≡ nothing }
     ensures first_option { page_on_front ((codes "show_on_front", codes "posts")
         ∷ fronting (codes "page") (codes "4")) ≡ None }
 {}

@@ -30,7 +30,7 @@ use Rattle.sqlite_value.specs.declared.keys.Collation.TheVariants.{Binary}
 use Rattle.sqlite_value.specs.declared.keys.Key.{Key}
 use Rattle.sqlite_value.proofs.OrderLemmas.{value_cmp-Int, then-Equal}
 use Rattle.site_records.specs.declared.post.Post.{Post}
-use Rattle.table_rows.specs.Sorting.{sorted, put_sorted}
+use Rattle.table_rows.specs.Sorting.{in_order, put_sorted}
 use Rattle.table_rows.proofs.Answering as reading
 use Rattle.post_tables.specs.Schema.{site_schema}
 use Rattle.post_tables.specs.Rows.{posts_after}
@@ -124,11 +124,11 @@ module _ (id limit : ℕ) where
       each [] low = tt
       each (q ∷ qs) low = (ap is_eq (by_number p q low.0), each qs low.1)
 
-  in_order : (ps : List Post) → Rising ps → sorted (output_cmp query) (map out ps) ≡ map out ps
-  in_order [] up = refl
-  in_order (p ∷ []) up = refl
-  in_order (p ∷ q ∷ ps) up =
-      let later = in_order (q ∷ ps) up.1 in
+  rising_in_order : (ps : List Post) → Rising ps → in_order (output_cmp query) (map out ps) ≡ map out ps
+  rising_in_order [] up = refl
+  rising_in_order (p ∷ []) up = refl
+  rising_in_order (p ∷ q ∷ ps) up =
+      let later = rising_in_order (q ∷ ps) up.1 in
       let first : output_cmp query (out p) (out q) ≡ Less = by_number p q up.0.0 in
       ap (put_sorted (output_cmp query) (out p)) later ∙ rw first refl
 
@@ -144,8 +144,8 @@ module _ (id limit : ℕ) where
       let outs : map shows (filter passes (db 0)) ≡ map out ls = ap (λ l. map shows (filter passes l)) are ∙ kept_rows ps in
       let all = reading.answer_is 0 wheres projects [] orders (col 0 1) (lit (Int (pos 0))) db params rows a
       (subst (IsDistinct (eq_by_cmp (output_cmp query))) (sym outs) (apart ls rising)) in
-      all ∙ ap (λ l. page query params (map (λ (o : Output). o.1) (sorted (output_cmp query) l))) outs
-      ∙ ap (λ l. page query params (map (λ (o : Output). o.1) l)) (in_order ls rising)
+      all ∙ ap (λ l. page query params (map (λ (o : Output). o.1) (in_order (output_cmp query) l))) outs
+      ∙ ap (λ l. page query params (map (λ (o : Output). o.1) l)) (rising_in_order ls rising)
       ∙ ap (page query params) (shown_are ls)
       ∙ take-map shown_post limit ls
 

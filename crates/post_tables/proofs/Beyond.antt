@@ -10,7 +10,7 @@ use Rattle.site_records.specs.declared.post.Post.{Post}
 use Rattle.site_records.specs.declared.post.PostKind.{PostKind}
 use Rattle.sqlite_rules.specs.Lists.{Has}
 use Rattle.sqlite_rules.proofs.ListLemmas.{all_has}
-use Rattle.table_rows.specs.Sorting.{put_sorted, sorted}
+use Rattle.table_rows.specs.Sorting.{put_sorted, in_order}
 use Rattle.post_tables.specs.Page.{newest, is_listed, page_of}
 use Rattle.post_tables.specs.Stored.{IsSite, rows_of, trees_of, post_in}
 use Rattle.table_rows.proofs.Lists.{mapped_from}
@@ -27,9 +27,9 @@ length-put R x (y ∷ ys) = go (R x y) (length-put R x ys)
     go Equal later = refl
     go Greater later = ap (λ n. suc n) later
 
-length-sorted : {X : Type 0} (R : X → X → Ordering) (xs : List X) → length (sorted R xs) ≡ length xs
+length-sorted : {X : Type 0} (R : X → X → Ordering) (xs : List X) → length (in_order R xs) ≡ length xs
 length-sorted R [] = refl
-length-sorted R (x ∷ xs) = length-put R x (sorted R xs) ∙ ap (λ n. suc n) (length-sorted R xs)
+length-sorted R (x ∷ xs) = length-put R x (in_order R xs) ∙ ap (λ n. suc n) (length-sorted R xs)
 
 length-some : {X : Type 0} (p : X → Bool) (xs : List X) → length (filter p xs) ≤ length xs
 length-some p [] = omega arith
@@ -48,9 +48,9 @@ module _ (h : Held MemStore) (is : IsSite h) (kind : PostKind) (from to : List �
       let few : length ps ≤ offset = few_posts offset ps (rising_from ps (subst IsTable (rows_are (trees_of h 0) ok.each) ok.ordered)) below in
       let listed : List Post = filter (is_listed kind from to) ps in
       let some : length listed ≤ length ps = length-some (is_listed kind from to) ps in
-      let all : length (sorted newest listed) ≡ length listed = length-sorted newest listed in
-      let past : length (sorted newest listed) ≤ offset = omega arith in
-      nothing_taken limit (drop offset (sorted newest listed)) (drop_of_length-le (sorted newest listed) past)
+      let all : length (in_order newest listed) ≡ length listed = length-sorted newest listed in
+      let past : length (in_order newest listed) ≤ offset = omega arith in
+      nothing_taken limit (drop offset (in_order newest listed)) (drop_of_length-le (in_order newest listed) past)
 
   pub beyond : 2 ^ 32 ≤ offset → page_of kind from to limit offset (rows_of h).posts ≡ []
   beyond far = past_all (λ q there.

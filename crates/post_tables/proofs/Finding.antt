@@ -27,7 +27,7 @@ use Rattle.sqlite.specs.State.{Shown}
 use Rattle.sqlite.proofs.Callers.{IsPlain, command_of, reads_as}
 use Rattle.site_records.specs.declared.post.Post.{Post}
 use Rattle.post_tables.specs.Schema.{site_schema}
-use Rattle.table_rows.specs.Sorting.{sorted}
+use Rattle.table_rows.specs.Sorting.{in_order}
 use Rattle.post_tables.specs.Rows.{has_post, post_with}
 use Rattle.post_tables.specs.Stored.{row_of, post_in, ArePosts, HoldsSite, rows_of, trees_of}
 use Rattle.post_tables.specs.Reading.{post_from, IsPostRow}
@@ -74,13 +74,13 @@ module _ (shown : List Term) where
               let outs : map shows (filter passes (db 0)) ≡ [] = ap (map shows) none.0 in
               let all = reading.answer_is 0 wheres shown [] [] (lit (Int (negsuc 0))) (lit (Int (pos 0))) (overlay db []) (id_given id) rows a
               (subst (IsDistinct (eq_by_cmp (output_cmp query))) (sym outs) apart_none) in
-              all ∙ ap (λ l. map (λ (o : Output). o.1) (sorted (output_cmp query) l)) outs
+              all ∙ ap (λ l. map (λ (o : Output). o.1) (in_order (output_cmp query) l)) outs
               ∙ ap (λ o. map (λ p. (shows (row_of p)).1) (option_to_list o)) (sym none.1)
           | inr one ↦
               let outs : map shows (filter passes (db 0)) ≡ shows one.0 ∷ [] = ap (map shows) one.2 in
               let all = reading.answer_is 0 wheres shown [] [] (lit (Int (negsuc 0))) (lit (Int (pos 0))) (overlay db []) (id_given id) rows a
               (subst (IsDistinct (eq_by_cmp (output_cmp query))) (sym outs) (apart_one (shows one.0))) in
-              all ∙ ap (λ l. map (λ (o : Output). o.1) (sorted (output_cmp query) l)) outs ∙ ap (λ r. (shows r).1 ∷ []) (ok.each one.0 one.1)
+              all ∙ ap (λ l. map (λ (o : Output). o.1) (in_order (output_cmp query) l)) outs ∙ ap (λ r. (shows r).1 ∷ []) (ok.each one.0 one.1)
               ∙ ap (λ o. map (λ p. (shows (row_of p)).1) (option_to_list o)) (sym one.3)
         ]
 

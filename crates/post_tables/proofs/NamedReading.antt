@@ -30,7 +30,7 @@ use Rattle.sqlite.specs.Steps.{over_memory}
 use Rattle.sqlite.specs.State.{Shown}
 use Rattle.sqlite.proofs.Callers.{IsPlain, command_of, reads_as}
 use Rattle.post_tables.specs.Schema.{site_schema}
-use Rattle.table_rows.specs.Sorting.{sorted, put_sorted}
+use Rattle.table_rows.specs.Sorting.{in_order, put_sorted}
 use Rattle.post_tables.specs.Rows.{by_bytes}
 use Rattle.post_tables.specs.Stored.{IsText, IsSite, trees_of, AreNamed, IsNamed, named_in, name_in}
 use Rattle.table_rows.proofs.Lists.{mapped_from}
@@ -71,12 +71,12 @@ module _ {V : Type 0} where
   no_entries = nil_of (entries (empty {X = V} {R = by_bytes})) (sym (len-entries (empty {X = V} {R = by_bytes})) ∙ len-empty by_bytes V)
 
   -- the entries of the map are the pairs in order
-  entries_are : (ps : List (List ℕ × V)) → Apart ps → entries (from_entries {R = by_bytes} ps) ≡ sorted by_name ps
+  entries_are : (ps : List (List ℕ × V)) → Apart ps → entries (from_entries {R = by_bytes} ps) ≡ in_order by_name ps
   unfolding Apart IsDistinct
   entries_are [] apart = no_entries
   entries_are (p ∷ ps) apart =
       entries-insert nat_list_cmp_total (from_entries ps) p.0 p.1 ∙ ap (put by_bytes p.0 p.1) (entries_are ps apart.1)
-      ∙ put_same p.0 p.1 (sorted by_name ps) (λ e h. all_has _ ps e apart.0 (sorted_had by_name by_name_total ps e h))
+      ∙ put_same p.0 p.1 (in_order by_name ps) (λ e h. all_has _ ps e apart.0 (sorted_had by_name by_name_total ps e h))
 
 names_apart : {V : Type 0} (rest : V → Row) (value_in : Row → V) (rows : List Row) → AreNamed rest value_in rows → Apart (map (pair value_in) rows)
 unfolding Apart IsDistinct
@@ -171,6 +171,6 @@ module _ {V : Type 0} {rest : V → Row} {value_in : Row → V} (k : NamedTable 
         let all = reading.answer_is k.tree [] x.projects [] orders (lit (Int (negsuc 0))) (lit (Int (pos 0))) (overlay (trees_of old) []) [] rows
         (read.answer Null)
         (subst (IsDistinct (eq_by_cmp (output_cmp (query x.projects)))) (sym outs) (outs_apart ps distinct)) in
-        all ∙ ap (λ l. map (λ (o : Output). o.1) (sorted (output_cmp (query x.projects)) l)) outs
+        all ∙ ap (λ l. map (λ (o : Output). o.1) (in_order (output_cmp (query x.projects)) l)) outs
         ∙ ap (map (λ (o : Output). o.1)) (sym (sorted_mapped by_name (output_cmp (query x.projects)) out by_name_is ps))
-        ∙ first_shown (sorted by_name ps) ∙ ap (map shown) (sym (entries_are ps distinct))
+        ∙ first_shown (in_order by_name ps) ∙ ap (map shown) (sym (entries_are ps distinct))

@@ -43,7 +43,7 @@ use Rattle.site_records.specs.declared.post.PostKind.{PostKind}
 use Rattle.site_records.specs.declared.post.PostKind.TheVariants.{Post as OfPost, Page as OfPage}
 use Rattle.site_records.specs.declared.post.PostStatus.{PostStatus}
 use Rattle.site_records.specs.declared.post.PostStatus.TheVariants.{Publish, Draft}
-use Rattle.table_rows.specs.Sorting.{sorted}
+use Rattle.table_rows.specs.Sorting.{in_order}
 use Rattle.post_tables.specs.Rows.{by_bytes}
 use Rattle.post_tables.specs.Page.{newest, is_kind, is_published, is_listed, page_of}
 use Rattle.post_tables.specs.Stored.{IsReadable, ArePosts, IsSite, rows_of, trees_of, row_of, post_in, kind_text, kind_of, status_text, status_of}
@@ -232,11 +232,11 @@ module _ (kind : PostKind) (from to : List ℕ) (limit offset : ℕ) where
         (rising_filter (is_listed kind from to) ps (rising_from ps (subst IsTable are up))) in
         let all = reading.answer_is 0 wheres shown [] orders (col 0 3) (col 0 4) db params rows a
         (subst (IsDistinct (eq_by_cmp (output_cmp (query shown)))) (sym outs) distinct) in
-        all ∙ ap (λ l. page (query shown) params (map (λ (o : Output). o.1) (sorted (output_cmp (query shown)) l))) outs
+        all ∙ ap (λ l. page (query shown) params (map (λ (o : Output). o.1) (in_order (output_cmp (query shown)) l))) outs
         ∙ ap (λ l. page (query shown) params (map (λ (o : Output). o.1) l)) (sym (sorted_mapped newest (output_cmp (query shown)) out newest_is ls))
-        ∙ ap (page (query shown) params) (first_shown (sorted newest ls))
-        ∙ ap (take limit) (drop-map shown_of offset (sorted newest ls))
-        ∙ take-map shown_of limit (drop offset (sorted newest ls))
+        ∙ ap (page (query shown) params) (first_shown (in_order newest ls))
+        ∙ ap (take limit) (drop-map shown_of offset (in_order newest ls))
+        ∙ take-map shown_of limit (drop offset (in_order newest ls))
 
 -- what the statement returns over the tables of a site
 page_read : (old new : Held MemStore) (kind : PostKind) (from to : List ℕ) (limit offset : ℕ) (rows : List Row) → IsSite old
@@ -308,7 +308,7 @@ newest_total = then_total (back_total (on_total (λ (p : Post). p.date) nat_list
 pub paged_from : (kind : PostKind) (from to : List ℕ) (limit offset : ℕ) (ps : List Post) (p : Post) → Has (page_of kind from to limit offset ps) p → Has ps p
 paged_from kind from to limit offset ps p h =
     let listed : List Post = filter (is_listed kind from to) ps in
-    let whole = has_left offset (sorted newest listed) p (has_taken limit (drop offset (sorted newest listed)) p h) in
+    let whole = has_left offset (in_order newest listed) p (has_taken limit (drop offset (in_order newest listed)) p h) in
     (has_filtered (is_listed kind from to) ps p (sorted_had newest newest_total listed p whole)).0
 
 pub page_readable : (old new : Held MemStore) (kind : PostKind) (from to : List ℕ) (limit offset : ℕ) (r : Result (Vec Row Global) Error) → IsSite old

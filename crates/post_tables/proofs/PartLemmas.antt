@@ -18,7 +18,7 @@ use Rattle.sqlite.specs.Held.{Held}
 use Rattle.site_records.specs.Dates.{is_post_date}
 use Rattle.site_records.specs.declared.post.Post.{Post}
 use Rattle.site_records.specs.declared.post.PostKind.{PostKind}
-use Rattle.table_rows.specs.Sorting.{sorted}
+use Rattle.table_rows.specs.Sorting.{in_order}
 use Rattle.post_tables.specs.Rows.{by_bytes, post_with, has_post}
 use Rattle.post_tables.specs.Page.{newest, is_listed, page_of}
 use Rattle.post_tables.specs.Stored.{IsSite, rows_of, trees_of}
@@ -87,7 +87,7 @@ pub part_rises : (kind : PostKind) (from to : List ℕ) (limit offset : ℕ) (ps
     → IsStrictlySortedBy newest (page_of kind from to limit offset ps)
 part_rises kind from to limit offset ps up =
     let listed : List Post = filter (is_listed kind from to) ps in
-    taken_rises limit (drop offset (sorted newest listed)) (left_rises offset (sorted newest listed)
+    taken_rises limit (drop offset (in_order newest listed)) (left_rises offset (in_order newest listed)
     (sorted_rises newest newest_total listed (apart listed (rising_filter (is_listed kind from to) ps up))))
 
 -- ---- a part has posts of the list alone
@@ -99,7 +99,7 @@ part_has : (kind : PostKind) (from to : List ℕ) (limit offset : ℕ) (ps : Lis
     → IsOf kind from to ps p
 part_has kind from to limit offset ps up p h =
     let listed : List Post = filter (is_listed kind from to) ps in
-    let whole = has_left offset (sorted newest listed) p (has_taken limit (drop offset (sorted newest listed)) p h) in
+    let whole = has_left offset (in_order newest listed) p (has_taken limit (drop offset (in_order newest listed)) p h) in
     let there = has_filtered (is_listed kind from to) ps p (sorted_had newest newest_total listed p whole) in
     (there.1, found_by_id ps p up there.0)
 

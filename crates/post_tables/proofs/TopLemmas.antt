@@ -25,7 +25,7 @@ use Rattle.sqlite.specs.Steps.{over_memory}
 use Rattle.sqlite.specs.State.{Shown}
 use Rattle.sqlite.proofs.Callers.{IsPlain, command_of, reads_as}
 use Rattle.post_tables.specs.Schema.{site_schema}
-use Rattle.table_rows.specs.Sorting.{sorted}
+use Rattle.table_rows.specs.Sorting.{in_order}
 use Rattle.post_tables.specs.Stored.{IsSite, rows_of, trees_of, IsCounter, top_in}
 use Rattle.post_tables.specs.Reading.{IsTop, IsTopRow}
 use Rattle.post_tables.proofs.Comparing.{equal_text}
@@ -85,7 +85,7 @@ answered db [] rows e is a =
     let none : map shows (filter passes (db 1)) ≡ [] = ap (λ l. map shows (filter passes l)) e in
     let all = reading.answer_is 1 wheres (col 1 2 ∷ []) [] [] (lit (Int (negsuc 0))) (lit (Int (pos 0))) db [] rows a
     (subst (IsDistinct (eq_by_cmp (output_cmp query))) (sym none) no_ties) in
-    let is_nil : rows ≡ [] = all ∙ ap (λ l. map (λ (o : Output). o.1) (sorted (output_cmp query) l)) none in
+    let is_nil : rows ≡ [] = all ∙ ap (λ l. map (λ (o : Output). o.1) (in_order (output_cmp query) l)) none in
     subst (λ l. IsTop l 0) (sym is_nil) refl
 answered db (r ∷ []) rows e is a =
     let named : column r 1 ≡ Text (codes "post") = ap (λ x. column x 1) is in
@@ -93,7 +93,7 @@ answered db (r ∷ []) rows e is a =
     let one : map shows (filter passes (db 1)) ≡ shows r ∷ [] = ap (λ l. map shows (filter passes l)) e ∙ rw passed refl in
     let all = reading.answer_is 1 wheres (col 1 2 ∷ []) [] [] (lit (Int (negsuc 0))) (lit (Int (pos 0))) db [] rows a
     (subst (IsDistinct (eq_by_cmp (output_cmp query))) (sym one) (one_alone (shows r))) in
-    let is_one : rows ≡ (column r 2 ∷ []) ∷ [] = all ∙ ap (λ l. map (λ (o : Output). o.1) (sorted (output_cmp query) l)) one in
+    let is_one : rows ≡ (column r 2 ∷ []) ∷ [] = all ∙ ap (λ l. map (λ (o : Output). o.1) (in_order (output_cmp query) l)) one in
     subst (λ l. IsTop l (top_in (r ∷ []))) (sym is_one) (ap (λ x. column x 2) is)
 answered db (r ∷ s ∷ stored) rows e is a = absurd is
 

@@ -40,7 +40,7 @@ use Rattle.sqlite.proofs.Callers.{IsPlain, command_of, statement_of, runs_as, on
 use Rattle.site_records.specs.declared.post.Post.{Post}
 use Rattle.site_records.specs.declared.post.PostStatus.{PostStatus}
 use Rattle.post_tables.specs.Schema.{site_schema, post_table}
-use Rattle.table_rows.specs.Sorting.{sorted}
+use Rattle.table_rows.specs.Sorting.{in_order}
 use Rattle.post_tables.specs.Rows.{with_post, without_post, post_with, PostEdit, edited_post, edited_posts}
 use Rattle.post_tables.specs.Stored.{HoldsSite, IsReadable, ArePosts, IsCounter, row_of, post_in, top_in, status_text}
 use Rattle.table_rows.proofs.Casting.{cast_int, cast_null}
@@ -145,7 +145,7 @@ module _ (id : ℕ) (e : PostEdit) where
         let outs : map shows (filter passes (db 0)) ≡ [] = ap (map shows) none in
         let all = reading.answer_is 0 wheres projects [] [] (lit (Int (negsuc 0))) (lit (Int (pos 0))) (overlay db []) given shown a
         (subst (IsDistinct (eq_by_cmp (output_cmp query))) (sym outs) apart_none) in
-        let is : shown ≡ [] = all ∙ ap (λ l. map (λ (o : Output). o.1) (sorted (output_cmp query) l)) outs in
+        let is : shown ≡ [] = all ∙ ap (λ l. map (λ (o : Output). o.1) (in_order (output_cmp query) l)) outs in
         let edit = subst (λ l. Edited site_schema keys db (edit_of db post_table (ids_of l) Given 1 l) (Ok next)) is h in
         let done = one_step site_schema keys db next (edit_of db post_table [] Given 1 []) refl edit in
         record {
@@ -162,7 +162,7 @@ module _ (id : ℕ) (e : PostEdit) where
         let outs : map shows (filter passes (db 0)) ≡ shows r ∷ [] = ap (map shows) one in
         let all = reading.answer_is 0 wheres projects [] [] (lit (Int (negsuc 0))) (lit (Int (pos 0))) (overlay db []) given shown a
         (subst (IsDistinct (eq_by_cmp (output_cmp query))) (sym outs) (apart_one (shows r))) in
-        let is : shown ≡ row ∷ [] = all ∙ ap (λ l. map (λ (o : Output). o.1) (sorted (output_cmp query) l)) outs
+        let is : shown ≡ row ∷ [] = all ∙ ap (λ l. map (λ (o : Output). o.1) (in_order (output_cmp query) l)) outs
         ∙ ap (λ x. (shows x).1 ∷ []) (ok.each r there) ∙ ap (λ x. x ∷ []) (shown_is q) in
         let edit = subst (λ l. Edited site_schema keys db (edit_of db post_table (ids_of l) Given 1 l) (Ok next)) is h in
         let done = one_step site_schema keys db next (edit_of db post_table (pos q.id ∷ []) Given 1 (row ∷ [])) refl edit in

@@ -1,5 +1,6 @@
 pub mod Schema
 pub mod Rows
+pub mod Faults
 pub mod Page
 pub mod Stored
 pub mod Reading

@@ -7,7 +7,7 @@ use Rattle.site_records.specs.declared.post.PostKind.{PostKind}
 use Rattle.site_records.specs.declared.post.PostKind.TheVariants.{Post as OfPost, Page as OfPage}
 use Rattle.site_records.specs.declared.post.PostStatus.{PostStatus}
 use Rattle.site_records.specs.declared.post.PostStatus.TheVariants.{Publish, Draft}
-use Rattle.table_rows.specs.Sorting.{sorted}
+use Rattle.table_rows.specs.Sorting.{in_order}
 use Rattle.post_tables.specs.Rows.{Text, by_bytes}
 
 -- by date, newest first, and then by ID, largest first (WordPress, WP_Query, orderby)
@@ -30,4 +30,4 @@ is_listed kind from to p = is_kind p.kind kind && (is_published p.status && (is_
 
 -- those of them after the first `offset`, and `limit` at most
 abbrev pub page_of : PostKind → Text → Text → ℕ → ℕ → List Post → List Post
-page_of kind from to limit offset posts = take limit (drop offset (sorted newest (filter (is_listed kind from to) posts)))
+page_of kind from to limit offset posts = take limit (drop offset (in_order newest (filter (is_listed kind from to) posts)))

@@ -14,8 +14,8 @@ use Rattle.site_records.specs.Dates.{is_post_date}
 use Rattle.post_tables.specs.Stored.{IsText, magnitude, kind_of, status_of}
 
 -- a post that is to be stored
-abbrev pub shown : NewPost → Post
-shown p = record { id = p.id; kind = p.kind; status = p.status; title = p.title.now; content = p.content.now; date = p.date.now }
+abbrev pub post_with_id : NewPost → Post
+post_with_id p = record { id = p.id; kind = p.kind; status = p.status; title = p.title.now; content = p.content.now; date = p.date.now }
 
 abbrev pub post_from : Row → Post
 post_from r = record {

@@ -147,8 +147,8 @@ fn add_records(tx: &mut Transaction<'_, MemStore>, records: &SiteRecords) -> Res
     Ok(())
 }
 
-/// Adds all of the records, whose IDs are new, or none. A transaction that is dropped before its commit changes
-/// nothing.
+/// Adds all of the records, whose IDs are new, or none. A transaction that is dropped before its
+/// commit changes nothing.
 fn add_all(conn: &mut Connection<MemStore>, records: &SiteRecords) -> Result<(), TablesFault>
     requires { IsSite conn.old }
     ensures site { IsSite conn.new }
@@ -162,7 +162,8 @@ fn add_all(conn: &mut Connection<MemStore>, records: &SiteRecords) -> Result<(),
     Ok(())
 }
 
-/// Adds all of the records, or none. The IDs are checked first, so nothing is written if one is taken.
+/// Adds all of the records, or none. The IDs are checked first, so nothing is written if one is
+/// taken.
 pub(crate) fn import(
     conn: &mut Connection<MemStore>,
     alloc: Global,

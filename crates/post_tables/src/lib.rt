@@ -11,7 +11,7 @@ mod schema;
 mod tables;
 mod worked;
 
-pub use fault::TablesFault;
+pub use fault::{StoreFault, TablesFault};
 pub use site_records::{Post, PostDate, PostKind, PostStatus, SiteRecords};
 pub use tables::Tables;
 pub use worked::worked_rows;

@@ -16,8 +16,8 @@ use site_records::{Post, PostDate, PostKind};
 use sqlite::{Connection, Error, MemStore, Row, params};
 use std::alloc::Global;
 
-/// Returns the published entries of a kind and a span of dates, newest first: without the first `offset`, and at most
-/// `limit`.
+/// Returns the published entries of a kind and a span of dates, newest first: without the first
+/// `offset`, and at most `limit`.
 pub(crate) fn part(
     conn: &mut Connection<MemStore>,
     alloc: Global,
@@ -45,8 +45,8 @@ pub(crate) fn part(
     Ok(read_posts(alloc, &rows)?)
 }
 
-/// Returns the same part, which is empty if the largest ID ever given is below `offset`: each post has an ID of its
-/// own.
+/// Returns the same part, which is empty if the largest ID ever given is below `offset`: each post
+/// has an ID of its own.
 fn later_part(
     conn: &mut Connection<MemStore>,
     alloc: Global,
@@ -69,8 +69,8 @@ fn later_part(
     part_by_ids(conn, alloc, kind, from, to, limit, offset)
 }
 
-/// Returns the same part, found by its IDs: of the posts that are left out no row is read, only their places in the
-/// index.
+/// Returns the same part, found by its IDs: of the posts that are left out no row is read, only
+/// their places in the index.
 fn part_by_ids(
     conn: &mut Connection<MemStore>,
     alloc: Global,

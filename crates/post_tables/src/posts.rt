@@ -17,7 +17,8 @@ ghost use Rattle.std.specs.Prelude.{
 ghost use Rattle.std.specs.Option.{option_to_list, option_copied};
 ghost use Rattle.site_records.specs.Dates.{is_post_date};
 ghost use Rattle.post_tables.specs.Page.{page_of};
-ghost use Rattle.post_tables.specs.Reading.{post_from, shown, IsStopped, IsPostRow, IsTop, IsTopRow};
+ghost use Rattle.post_tables.specs.Reading.{post_from, post_with_id, IsStopped, IsPostRow, IsTop};
+ghost use Rattle.post_tables.specs.Reading.{IsTopRow};
 ghost use Rattle.post_tables.specs.Rows.{
   with_new,
   without_post,
@@ -89,7 +90,8 @@ fn given_status(status: Option<PostStatus>) -> Option<&'static str>
     }
 }
 
-/// Returns the text unchanged. Its contract states what every `&str` is by its type, UTF-8: rows are read back by that.
+/// Returns the text unchanged. Its contract states what every `&str` is by its type, UTF-8: rows
+/// are read back by that.
 fn as_text(text: &str) -> &str
     ensures same { result.now ≡ text.now }
     ensures utf8 { IsUtf8 text.now }
@@ -123,7 +125,7 @@ pub(crate) fn insert_post(
     post: &NewPost<'_>,
 ) -> Result<usize, Error>
     requires { IsSite conn.old }
-    ensures { Makes (with_new (shown post.now)) conn.old conn.new result }
+    ensures { Makes (with_new (post_with_id post.now)) conn.old conn.new result }
 {
     conn.execute(
         INSERT_POST,
@@ -145,7 +147,8 @@ pub(crate) fn insert_post_in(
     requires holds { HoldsSite (state over_memory tx.old.conn.now).now }
     requires inside { tx.old.conn.now.in_transaction ≡ true }
     ensures same_reference { tx.new.conn.ghost_name ≡ tx.old.conn.ghost_name }
-    ensures made { MakesInside (with_new (shown post.now)) tx.old.conn.now tx.new.conn.now result }
+    ensures made { MakesInside (with_new (post_with_id post.now)) tx.old.conn.now tx.new.conn.now
+        result }
 {
     tx.execute(
         INSERT_POST,

@@ -68,7 +68,8 @@ fn read_text(row: &Row, at: usize) -> Result<Text, Error>
     Ok(Text::new(text))
 }
 
-// Reads a text that is kept and copied for each page: copies of one that isn't empty share its memory.
+// Reads a text that is kept and copied for each page: copies of one that isn't empty share its
+// memory.
 fn read_shared(row: &Row, at: usize) -> Result<Text, Error>
     requires place { at < length row.now }
     requires text { IsText (column row.now at) }

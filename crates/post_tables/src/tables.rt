@@ -101,8 +101,9 @@ fn next_id(conn: &mut Connection<MemStore>) -> Result<u32, TablesFault>
 }
 
 impl Tables {
-    /// A law: whatever calls were made, the IDs of posts ascend, so that no two posts have the same one, and none is
-    /// above the largest that was ever given. The call changes nothing: it carries these facts.
+    /// A law: whatever calls were made, the IDs of posts ascend, so that no two posts have the same
+    /// one, and none is above the largest that was ever given. The call changes nothing: it carries
+    /// these facts.
     pub fn ids_occur_once(&self)
         ensures once { IsStrictlySortedBy nat_cmp (map (λ p. p.id) self.now.posts) }
         ensures given { All (λ p. p.id ≤ self.now.largest) self.now.posts }
@@ -121,8 +122,9 @@ impl Tables {
         Ok(Tables { conn, alloc })
     }
 
-    /// Limits how many rows each later statement may visit, from the next call on; with `None` there is no limit. A
-    /// statement that would visit more may be refused as `Store`, and then leaves every row as it was.
+    /// Limits how many rows each later statement may visit, from the next call on; with `None`
+    /// there is no limit. A statement that would visit more may be refused as `Store`, and then
+    /// leaves every row as it was.
     pub fn limit_steps(&mut self, limit: Option<u32>)
         ensures { self.new ≡ record self.old { step_limit = limit } }
     {
@@ -130,8 +132,9 @@ impl Tables {
         self.conn.set_step_limit(steps);
     }
 
-    /// Stores a new post or page, and returns its ID: the one after the largest that was ever given (wp_insert_post;
-    /// SQLite, AUTOINCREMENT). It is refused as `IdsUsedUp` if that largest is [`MAX_ID`].
+    /// Stores a new post or page, and returns its ID: the one after the largest that was ever given
+    /// (wp_insert_post; SQLite, AUTOINCREMENT). It is refused as `IdsUsedUp` if that largest is
+    /// [`MAX_ID`].
     pub fn put_post(
         &mut self,
         kind: PostKind,
@@ -230,7 +233,8 @@ impl Tables {
         Ok(read_found(&rows)?)
     }
 
-    /// Returns the posts and pages with an ID above `id`, published or not, by ascending ID: at most `limit` of them.
+    /// Returns the posts and pages with an ID above `id`, published or not, by ascending ID: at
+    /// most `limit` of them.
     pub fn posts_after(&mut self, id: u32, limit: u32) -> Result<Listed<Post>, TablesFault>
         ensures ok { IfOk result (λ posts. posts ≡ posts_after id limit self.old.posts) }
         ensures same { self.new ≡ self.old }
@@ -240,7 +244,8 @@ impl Tables {
         Ok(Listed::new(read_posts(self.alloc, &rows)?))
     }
 
-    /// Returns the largest ID that was ever given or imported, also if its post is gone; 0 before the first.
+    /// Returns the largest ID that was ever given or imported, also if its post is gone; 0 before
+    /// the first.
     pub fn largest(&mut self) -> Result<u32, TablesFault>
         ensures ok { IfOk result (λ id. id ≡ self.old.largest) }
         ensures same { self.new ≡ self.old }
@@ -249,9 +254,9 @@ impl Tables {
         Ok(largest_id(&mut self.conn)?)
     }
 
-    /// Returns the published entries of a kind, dated `from` one moment `to` another, both included: newest first, and
-    /// of two with one date the larger ID first (WP_Query, `orderby`). The first `offset` of them are left out, and of
-    /// the others at most `limit` are returned.
+    /// Returns the published entries of a kind, dated `from` one moment `to` another, both
+    /// included: newest first, and of two with one date the larger ID first (WP_Query, `orderby`).
+    /// The first `offset` of them are left out, and of the others at most `limit` are returned.
     pub fn posts_of(
         &mut self,
         kind: PostKind,
@@ -265,7 +270,8 @@ impl Tables {
         ensures same { self.new ≡ self.old }
         ensures fault { IfErr result (IsReadFault self.old.step_limit) }
 
-        // Each is newer than all after it. All of them are listed, and are the posts that have their IDs.
+        // Each is newer than all after it. All of them are listed, and are the posts that have
+        // their IDs.
         ensures in_order { IfOk result (λ posts. IsStrictlySortedBy newest posts) }
         ensures stored { IfOk result (λ posts. All (λ p. (is_listed kind from.now to.now p ≡ true)
             × (post_with p.id self.old.posts ≡ Some p)) posts) }
@@ -350,9 +356,9 @@ impl Tables {
         Ok(Listed::new(read_pairs(self.alloc, &rows)?))
     }
 
-    /// Adds all records of a site file, or none: the posts first, and then the options, the templates and the active
-    /// names in the order of their lists. It is refused as `DuplicateId` if two of the posts have the same ID, or a
-    /// stored post has it already.
+    /// Adds all records of a site file, or none: the posts first, and then the options, the
+    /// templates and the active names in the order of their lists. It is refused as `DuplicateId`
+    /// if two of the posts have the same ID, or a stored post has it already.
     pub fn import(&mut self, records: &SiteRecords) -> Result<(), TablesFault>
         requires { All (λ p. (1 ≤ p.id) × (p.id ≤ max_id)) records.now.posts }
         ensures ok { OnOk result (self.new ≡ with_records records.now self.old) }

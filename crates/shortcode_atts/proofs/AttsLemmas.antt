@@ -6,7 +6,7 @@ use Rattle.std.specs.Str.{IsUtf8, IsAscii, chars}
 use Rattle.std.specs.List.{AllZip, list_any}
 use Rattle.std.specs.Map.{lookup}
 use Rattle.indexmap.specs.IndexMap.{insert_entry}
-use Rattle.shortcode_atts.specs.Items.{Item, items_of, item_at, skip_white, is_blank, begins_blank, spaced}
+use Rattle.shortcode_atts.specs.Items.{Item, items_of, item_at, skip_white, is_blank, begins_blank, single_spaced}
 use Rattle.std.proofs.lemmas.Bool.{eqb-false, eqb-true, false≢true, or_from, or_parts, false_from_ne_true, cond_both, and_parts, and_from}
 use Rattle.std.proofs.lemmas.Bool.Decides.{nat_tests}
 use Rattle.std.proofs.lemmas.List.{get_or_default}
@@ -98,14 +98,14 @@ blanks-none (c ∷ cs) none =
 pub plain-leads : (text : List ℕ) → IsUtf8 text → list_any is_blank_lead text ≡ false → chars text ≡ plain_chars text
 plain-leads text u none = sym (spaced-same (chars text) (blanks-none (chars text) (ap (list_any is_blank_lead) (encodes-chars text u) ∙ none)))
 
-scalars-spaced : (cs : List ℕ) → scalars cs ≡ true → scalars (spaced cs) ≡ true
+scalars-spaced : (cs : List ℕ) → scalars cs ≡ true → scalars (single_spaced cs) ≡ true
 scalars-spaced [] h = refl
 scalars-spaced (c ∷ cs) h =
     let parts = and_parts (scalar c) (scalars cs) h in
     let rest = scalars-spaced cs parts.1 in
     cond_both (is_blank c) _ _ (λ xs. scalars xs ≡ true)
     (λ _. cond_both (begins_blank cs) _ _ (λ xs. scalars xs ≡ true) (λ _. rest) (λ _. rest))
-    (λ _. and_from (scalar c) (scalars (spaced cs)) parts.0 rest)
+    (λ _. and_from (scalar c) (scalars (single_spaced cs)) parts.0 rest)
 
 pub plain-spelled : (text bs : List ℕ) → IsUtf8 text → bs ≡ encode_utf8_all (plain_chars text) → chars bs ≡ plain_chars text
 plain-spelled text bs u e = ap chars e ∙ chars-encodes (plain_chars text) (scalars-spaced (chars text) (scalars-chars text u))

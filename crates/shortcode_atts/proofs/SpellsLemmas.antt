@@ -22,8 +22,8 @@ use Rattle.shortcode_atts.specs.Steps.{◌>>=◌, only_if}
 use Rattle.shortcode_atts.specs.NameByte.{is_name_byte}
 use Rattle.shortcode_atts.specs.Items.{is_white, is_word_char, is_bare_char, after_run, skip_white, after_char, is_ended, run_at, quoted_at, spelled_at}
 use Rattle.shortcode_atts.specs.Items.{value_at, Item, named_at, single_at, item_at}
-use Rattle.shortcode_atts.specs.Values.{escaped, unescaped, after_last_opening, has_closing, has_open_tag, meaning}
-use Rattle.shortcode_atts.specs.Found.{IsText, spelled}
+use Rattle.shortcode_atts.specs.Values.{escape_meaning, without_escapes, after_last_opening, has_closing, has_open_tag, meaning}
+use Rattle.shortcode_atts.specs.Found.{IsText, item_spelling}
 
 -- the bytes are these characters in UTF-8
 pub record Spells (bs cs : List ℕ) : Type 0 where
@@ -294,65 +294,67 @@ map_lower-high : (xs ys : List ℕ) → AreHigh xs → map to_ascii_lowercase (x
 map_lower-high [] ys h = refl
 map_lower-high (x ∷ xs) ys h = λ i. lower-high x h.0 i ∷ map_lower-high xs ys h.1 i
 
-unescaped-other : (c : ℕ) (cs : List ℕ) → (c == 92) ≡ false → unescaped (c ∷ cs) ≡ c ∷ unescaped cs
+unescaped-other : (c : ℕ) (cs : List ℕ) → (c == 92) ≡ false → without_escapes (c ∷ cs) ≡ c ∷ without_escapes cs
 unescaped-other c [] e = refl
 unescaped-other c (d ∷ cs) e = cond-false (c == 92) _ _ e
 
-unescaped-high : (xs ys : List ℕ) → AreHigh xs → unescaped (xs ++ ys) ≡ xs ++ unescaped ys
+unescaped-high : (xs ys : List ℕ) → AreHigh xs → without_escapes (xs ++ ys) ≡ xs ++ without_escapes ys
 unescaped-high [] ys h = refl
 unescaped-high (x ∷ xs) ys h =
     unescaped-other x (xs ++ ys) (ne_eqb x 92 (λ e. omega (arith, h.0))) ∙ ap (λ zs. x ∷ zs) (unescaped-high xs ys h.1)
 
-escaped-high : (c : ℕ) → 128 ≤ c → escaped c ≡ c
+escaped-high : (c : ℕ) → 128 ≤ c → escape_meaning c ≡ c
 escaped-high c h = grind (arith, nat_tests)
 
-escaped-low : (c : ℕ) → c < 128 → escaped c < 128
+escaped-low : (c : ℕ) → c < 128 → escape_meaning c < 128
 escaped-low c h = grind (arith, nat_tests)
 
 with-char : (c : ℕ) → scalar c ≡ true → (bs cs : List ℕ) → Spells bs cs → Spells (encode c ++ bs) (c ∷ cs)
 with-char c h bs cs s = record { scalar = and_from (scalar c) (scalars cs) h s.scalar; same = ap (λ xs. encode c ++ xs) s.same }
 
 -- a backslash, and any other character
-unescaped-char : (c : ℕ) → (c == 92) ≡ false → (c < 128) ⊎ (128 ≤ c) → (bs : List ℕ) → unescaped (encode c ++ bs) ≡ encode c ++ unescaped bs
+unescaped-char : (c : ℕ) → (c == 92) ≡ false → (c < 128) ⊎ (128 ≤ c) → (bs : List ℕ) → without_escapes (encode c ++ bs) ≡ encode c ++ without_escapes bs
 unescaped-char c e (inl low) bs =
-    ap (λ xs. unescaped (xs ++ bs)) (encode_ascii c low) ∙ unescaped-other c bs e ∙ ap (λ xs. xs ++ unescaped bs) (sym (encode_ascii c low))
+    ap (λ xs. without_escapes (xs ++ bs)) (encode_ascii c low) ∙ unescaped-other c bs e ∙ ap (λ xs. xs ++ without_escapes bs) (sym (encode_ascii c low))
 unescaped-char c e (inr high) bs = unescaped-high (encode c) bs (are-high (encode c) (encode-high c high))
 
-unescaped-backslash : (d : ℕ) → (d < 128) ⊎ (128 ≤ d) → (bs : List ℕ) → unescaped (92 ∷ (encode d ++ bs)) ≡ encode (escaped d) ++ unescaped bs
+unescaped-backslash : (d : ℕ) → (d < 128) ⊎ (128 ≤ d) → (bs : List ℕ) → without_escapes (92 ∷ (encode d ++ bs)) ≡ encode (escape_meaning d)
+    ++ without_escapes bs
 unescaped-backslash d (inl low) bs =
-    ap (λ xs. unescaped (92 ∷ (xs ++ bs))) (encode_ascii d low) ∙ ap (λ xs. xs ++ unescaped bs) (sym (encode_ascii (escaped d) (escaped-low d low)))
+    ap (λ xs. without_escapes (92 ∷ (xs ++ bs))) (encode_ascii d low) ∙ ap (λ xs. xs ++ without_escapes bs)
+    (sym (encode_ascii (escape_meaning d) (escaped-low d low)))
 unescaped-backslash d (inr high) bs =
     let v = encode-high d high in
-    ap (λ xs. unescaped (92 ∷ (xs ++ bs))) v.is
+    ap (λ xs. without_escapes (92 ∷ (xs ++ bs))) v.is
     ∙ (λ i. escaped-high v.first v.high i ∷ unescaped-high v.more bs v.others i)
-    ∙ ap (λ xs. xs ++ unescaped bs) (sym v.is)
-    ∙ ap (λ e. encode e ++ unescaped bs) (sym (escaped-high d high))
+    ∙ ap (λ xs. xs ++ without_escapes bs) (sym v.is)
+    ∙ ap (λ e. encode e ++ without_escapes bs) (sym (escaped-high d high))
 
-escaped-scalar : (d : ℕ) → scalar d ≡ true → (d < 128) ⊎ (128 ≤ d) → scalar (escaped d) ≡ true
-escaped-scalar d h (inl low) = low_scalar (escaped d) (omega (arith, escaped-low d low))
+escaped-scalar : (d : ℕ) → scalar d ≡ true → (d < 128) ⊎ (128 ≤ d) → scalar (escape_meaning d) ≡ true
+escaped-scalar d h (inl low) = low_scalar (escape_meaning d) (omega (arith, escaped-low d low))
 escaped-scalar d h (inr high) = ap scalar (escaped-high d high) ∙ h
 
 -- the choice by whether c is a backslash
-unescaped-last : (c : ℕ) → scalar c ≡ true → (b : Bool) → (c == 92) ≡ b → Spells (unescaped (encode c ++ [])) (c ∷ [])
+unescaped-last : (c : ℕ) → scalar c ≡ true → (b : Bool) → (c == 92) ≡ b → Spells (without_escapes (encode c ++ [])) (c ∷ [])
 unescaped-last c h true e =
-    subst (λ c. Spells (unescaped (encode c ++ [])) (c ∷ [])) (sym (eqb-true c 92 e))
-    (subst (λ xs. Spells (unescaped (xs ++ [])) (92 ∷ [])) (sym (encode_ascii 92 (omega arith)))
+    subst (λ c. Spells (without_escapes (encode c ++ [])) (c ∷ [])) (sym (eqb-true c 92 e))
+    (subst (λ xs. Spells (without_escapes (xs ++ [])) (92 ∷ [])) (sym (encode_ascii 92 (omega arith)))
     (record { scalar = refl; same = ap (λ xs. xs ++ []) (encode_ascii 92 (omega arith)) }))
 unescaped-last c h false e =
     subst (λ xs. Spells xs (c ∷ [])) (sym (unescaped-char c e (cases_lt c 128) [])) (with-char c h [] [] (record { scalar = refl; same = refl }))
 
-unescaped-more : (c d : ℕ) (cs : List ℕ) → scalar c ≡ true → scalar d ≡ true → Spells (unescaped (encodes cs)) (unescaped cs)
-    → Spells (unescaped (encodes (d ∷ cs))) (unescaped (d ∷ cs)) → (b : Bool) → (c == 92) ≡ b
-    → Spells (unescaped (encode c ++ encodes (d ∷ cs))) (cond b (escaped d ∷ unescaped cs) (c ∷ unescaped (d ∷ cs)))
+unescaped-more : (c d : ℕ) (cs : List ℕ) → scalar c ≡ true → scalar d ≡ true → Spells (without_escapes (encodes cs)) (without_escapes cs)
+    → Spells (without_escapes (encodes (d ∷ cs))) (without_escapes (d ∷ cs)) → (b : Bool) → (c == 92) ≡ b
+    → Spells (without_escapes (encode c ++ encodes (d ∷ cs))) (cond b (escape_meaning d ∷ without_escapes cs) (c ∷ without_escapes (d ∷ cs)))
 unescaped-more c d cs h k s t true e =
-    subst (λ c. Spells (unescaped (encode c ++ encodes (d ∷ cs))) (escaped d ∷ unescaped cs)) (sym (eqb-true c 92 e))
-    (subst (λ xs. Spells (unescaped (xs ++ encodes (d ∷ cs))) (escaped d ∷ unescaped cs)) (sym (encode_ascii 92 (omega arith)))
-    (subst (λ xs. Spells xs (escaped d ∷ unescaped cs)) (sym (unescaped-backslash d (cases_lt d 128) (encodes cs)))
-    (with-char (escaped d) (escaped-scalar d k (cases_lt d 128)) _ _ s)))
+    subst (λ c. Spells (without_escapes (encode c ++ encodes (d ∷ cs))) (escape_meaning d ∷ without_escapes cs)) (sym (eqb-true c 92 e))
+    (subst (λ xs. Spells (without_escapes (xs ++ encodes (d ∷ cs))) (escape_meaning d ∷ without_escapes cs)) (sym (encode_ascii 92 (omega arith)))
+    (subst (λ xs. Spells xs (escape_meaning d ∷ without_escapes cs)) (sym (unescaped-backslash d (cases_lt d 128) (encodes cs)))
+    (with-char (escape_meaning d) (escaped-scalar d k (cases_lt d 128)) _ _ s)))
 unescaped-more c d cs h k s t false e =
-    subst (λ xs. Spells xs (c ∷ unescaped (d ∷ cs))) (sym (unescaped-char c e (cases_lt c 128) (encodes (d ∷ cs)))) (with-char c h _ _ t)
+    subst (λ xs. Spells xs (c ∷ without_escapes (d ∷ cs))) (sym (unescaped-char c e (cases_lt c 128) (encodes (d ∷ cs)))) (with-char c h _ _ t)
 
-unescaped-all : (cs : List ℕ) → scalars cs ≡ true → Spells (unescaped (encodes cs)) (unescaped cs)
+unescaped-all : (cs : List ℕ) → scalars cs ≡ true → Spells (without_escapes (encodes cs)) (without_escapes cs)
 unescaped-all [] h = record { scalar = refl; same = refl }
 unescaped-all (c ∷ []) h = unescaped-last c (and_parts (scalar c) true h).0 (c == 92) refl
 unescaped-all (c ∷ d ∷ cs) h =
@@ -417,8 +419,8 @@ open-spells : (bs cs : List ℕ) → Spells bs cs → has_open_tag bs ≡ has_op
 open-spells bs cs s =
     ap has_open_tag (sym s.same) ∙ open-both (after_last_opening (encodes cs)) (after_last_opening cs) (opening-all cs s.scalar)
 
-unescaped-spells : (bs cs : List ℕ) → Spells bs cs → Spells (unescaped bs) (unescaped cs)
-unescaped-spells bs cs s = subst (λ xs. Spells (unescaped xs) (unescaped cs)) s.same (unescaped-all cs s.scalar)
+unescaped-spells : (bs cs : List ℕ) → Spells bs cs → Spells (without_escapes bs) (without_escapes cs)
+unescaped-spells bs cs s = subst (λ xs. Spells (without_escapes xs) (without_escapes cs)) s.same (unescaped-all cs s.scalar)
 
 emptied : (a b : Bool) (bs cs : List ℕ) → a ≡ b → Spells bs cs → Spells (if a then [] else bs) (if b then [] else cs)
 emptied true true bs cs e s = record { scalar = refl; same = refl }
@@ -430,7 +432,7 @@ meaning-spells : (bs cs : List ℕ) → Spells bs cs → Spells (meaning bs) (me
 unfolding meaning
 meaning-spells bs cs s =
     let t = unescaped-spells bs cs s in
-    emptied (has_open_tag (unescaped bs)) (has_open_tag (unescaped cs)) _ _ (open-spells (unescaped bs) (unescaped cs) t) t
+    emptied (has_open_tag (without_escapes bs)) (has_open_tag (without_escapes cs)) _ _ (open-spells (without_escapes bs) (without_escapes cs) t) t
 
 -- names
 lower-char : (c : ℕ) (bs : List ℕ) → (c < 128) ⊎ (128 ≤ c)
@@ -456,8 +458,8 @@ text-spells bs cs s = (cs, (s.scalar, s.same))
 chars-spells : (bs cs : List ℕ) → Spells bs cs → chars bs ≡ cs
 chars-spells bs cs s = ap chars (sym s.same) ∙ chars-encodes cs s.scalar
 
-pub unescaped-text : (bs : List ℕ) → IsUtf8 bs → IsUtf8 (unescaped bs)
-unescaped-text bs u = text-spells (unescaped bs) (unescaped (chars bs)) (unescaped-spells bs (chars bs) (spells-chars bs u))
+pub unescaped-text : (bs : List ℕ) → IsUtf8 bs → IsUtf8 (without_escapes bs)
+unescaped-text bs u = text-spells (without_escapes bs) (without_escapes (chars bs)) (unescaped-spells bs (chars bs) (spells-chars bs u))
 
 pub meaning-text : (bs : List ℕ) → IsUtf8 bs → meaning bs ≡ encodes (meaning (chars bs))
 meaning-text bs u = sym (meaning-spells bs (chars bs) (spells-chars bs u)).same
@@ -471,19 +473,19 @@ name-spelled None (Some y) h = absurd h
 name-spelled (Some x) None h = absurd h
 name-spelled (Some x) (Some y) h = (text-spells x y h, ap Some (chars-spells x y h))
 
-item-spelled : (b c : Item) → SpellsItem b c → IsText b × (spelled b ≡ c)
+item-spelled : (b c : Item) → SpellsItem b c → IsText b × (item_spelling b ≡ c)
 item-spelled b c s =
     let name = name-spelled b.name c.name s.name in (
       record { name = name.0; value = text-spells b.value c.value s.value; rest = text-spells b.rest c.rest s.rest },
       λ i. record { name = name.1 i; value = chars-spells b.value c.value s.value i; rest = chars-spells b.rest c.rest s.rest i },
     )
 
-found-both : (o u : Option Item) → Both SpellsItem o u → (it : Item) → o ≡ Some it → IsText it × (u ≡ Some (spelled it))
+found-both : (o u : Option Item) → Both SpellsItem o u → (it : Item) → o ≡ Some it → IsText it × (u ≡ Some (item_spelling it))
 found-both None u h it e = absurd (none-some it e)
 found-both (Some x) None h it e = absurd h
 found-both (Some x) (Some y) h it e =
     let found = item-spelled x y h in
-    subst (λ z. IsText z × (Some y ≡ Some (spelled z))) (same_Some x it e) (found.0, ap Some (sym found.1))
+    subst (λ z. IsText z × (Some y ≡ Some (item_spelling z))) (same_Some x it e) (found.0, ap Some (sym found.1))
 
 none-both : (o u : Option Item) → Both SpellsItem o u → o ≡ None → u ≡ None
 none-both None None h e = refl
@@ -494,7 +496,8 @@ next-both : (bs : List ℕ) → IsUtf8 bs → Both SpellsItem (item_at (skip_whi
 next-both bs u = item_at-spells (skip_white bs) (skip_white (chars bs)) (skip_white-spells bs (chars bs) (spells-chars bs u))
 
 -- the item at the front of a text is that of its characters
-pub next-found : (bs : List ℕ) → IsUtf8 bs → (it : Item) → item_at (skip_white bs) ≡ Some it → IsText it × (item_at (skip_white (chars bs)) ≡ Some (spelled it))
+pub next-found : (bs : List ℕ) → IsUtf8 bs → (it : Item) → item_at (skip_white bs) ≡ Some it → IsText it
+    × (item_at (skip_white (chars bs)) ≡ Some (item_spelling it))
 next-found bs u = found-both (item_at (skip_white bs)) (item_at (skip_white (chars bs))) (next-both bs u)
 
 pub next-none : (bs : List ℕ) → IsUtf8 bs → item_at (skip_white bs) ≡ None → item_at (skip_white (chars bs)) ≡ None

@@ -24,9 +24,9 @@ begins_blank [] = false
 begins_blank (c ∷ cs) = is_blank c
 
 -- each run of blanks as one space, put where its last blank is (shortcode_parse_atts)
-abbrev pub spaced : List ℕ → List ℕ
-spaced [] = []
-spaced (c ∷ cs) = if is_blank c then (if begins_blank cs then spaced cs else 32 ∷ spaced cs) else c ∷ spaced cs
+abbrev pub single_spaced : List ℕ → List ℕ
+single_spaced [] = []
+single_spaced (c ∷ cs) = if is_blank c then (if begins_blank cs then single_spaced cs else 32 ∷ single_spaced cs) else c ∷ single_spaced cs
 
 -- no white space (get_shortcode_atts_regex)
 abbrev pub is_word_char : ℕ → Bool

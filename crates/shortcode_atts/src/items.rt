@@ -1,13 +1,15 @@
-//! The items of an attribute text, found in its bytes. They are the items of its characters: each character that a form
-//! asks for is ASCII, and no other character has a byte that is.
+//! The items of an attribute text, found in its bytes. They are the items of its characters: each
+//! character that a form asks for is ASCII, and no other character has a byte that is.
 ghost use Rattle.std.specs.Prelude.{◌≡◌, ℕ, ◌<◌, ◌≤◌, List, length, take};
 ghost use Rattle.std.specs.Prelude.{drop, nat_lt, Option, Some, option_map, IfSome};
 ghost use Rattle.std.specs.List.{prefix_len};
 ghost use Rattle.shortcode_atts.specs.Found.{pair_now, item_now, belongs, first_of};
 ghost use Rattle.shortcode_atts.specs.Steps.{only_if};
 ghost use Rattle.shortcode_atts.specs.NameByte.{is_name_byte};
-ghost use Rattle.shortcode_atts.specs.Items.{is_white, is_bare_char, skip_white, after_char, is_ended, run_at};
-ghost use Rattle.shortcode_atts.specs.Items.{quoted_at, spelled_at, value_at, named_at, single_at, item_at};
+ghost use Rattle.shortcode_atts.specs.Items.{is_white, is_bare_char, skip_white, after_char};
+ghost use Rattle.shortcode_atts.specs.Items.{is_ended, run_at};
+ghost use Rattle.shortcode_atts.specs.Items.{quoted_at, spelled_at, value_at, named_at, single_at};
+ghost use Rattle.shortcode_atts.specs.Items.{item_at};
 
 use crate::name_byte::is_name_byte;
 
@@ -22,14 +24,15 @@ pub(crate) enum Form {
     Word,
 }
 
-// The forms of a value after a name, and of a value alone, each in the order in which they are tried.
+// The forms of a value after a name, and of a value alone, each in the order in which they are
+// tried.
 const NAMED_FORMS: [Form; 3] = [Form::Quoted(b'"'), Form::Quoted(b'\''), Form::Bare];
 
 const SINGLE_FORMS: [Form; 3] = [Form::Quoted(b'"'), Form::Quoted(b'\''), Form::Word];
 
 /// Bytes of which a run is taken from the front of a text.
 #[derive(Clone, Copy)]
-pub(crate) enum Run {
+pub(crate) enum ByteRun {
     /// White space.
     White,
     /// Bytes of a name.
@@ -44,7 +47,7 @@ pub(crate) enum Run {
 
 /// An item that was found at the front of a text, and what follows it.
 #[derive(Clone, Copy)]
-pub(crate) struct Found<'t> {
+pub(crate) struct FoundItem<'t> {
     pub(crate) name: Option<&'t [u8]>,
     pub(crate) value: &'t [u8],
     pub(crate) rest: &'t [u8],
@@ -65,20 +68,20 @@ fn is_bare_char(byte: u8) -> bool
 }
 
 /// Returns whether a byte belongs to a run.
-fn belongs(run: Run, byte: u8) -> bool
+fn belongs(run: ByteRun, byte: u8) -> bool
     ensures { result ≡ belongs run byte }
 {
     match run {
-        Run::White => is_white(byte),
-        Run::Name => is_name_byte(byte),
-        Run::Bare => is_bare_char(byte),
-        Run::Word => !is_white(byte),
-        Run::Until(quote) => byte != quote,
+        ByteRun::White => is_white(byte),
+        ByteRun::Name => is_name_byte(byte),
+        ByteRun::Bare => is_bare_char(byte),
+        ByteRun::Word => !is_white(byte),
+        ByteRun::Until(quote) => byte != quote,
     }
 }
 
 /// Returns how many bytes at the front of a text belong to a run.
-fn run_len(run: Run, text: &[u8]) -> usize
+fn run_len(run: ByteRun, text: &[u8]) -> usize
     ensures value { result ≡ prefix_len (belongs run) text.now }
     ensures within { result ≤ length text.now }
 {
@@ -95,7 +98,7 @@ pub(crate) fn skip_white(text: &[u8]) -> &[u8]
     ensures value { result.now ≡ skip_white text.now }
     ensures within { length result.now ≤ length text.now }
 {
-    &text[run_len(Run::White, text)..]
+    &text[run_len(ByteRun::White, text)..]
 }
 
 /// Returns what follows this byte at the front, or `None` if the text doesn't begin with it.
@@ -139,7 +142,7 @@ fn quoted_at(quote: u8, text: &[u8]) -> Option<(&[u8], &[u8])>
     ensures shorter { IfSome result (λ x. length x.1.now < length text.now) }
 {
     let body = after_char(quote, text)?;
-    let len = run_len(Run::Until(quote), body);
+    let len = run_len(ByteRun::Until(quote), body);
     let rest = after_char(quote, &body[len..])?;
     Some((&body[..len], rest))
 }
@@ -152,8 +155,8 @@ fn spelled_at(form: Form, text: &[u8]) -> Option<(&[u8], &[u8])>
 {
     match form {
         Form::Quoted(quote) => quoted_at(quote, text),
-        Form::Bare => split(text, run_len(Run::Bare, text)),
-        Form::Word => split(text, run_len(Run::Word, text)),
+        Form::Bare => split(text, run_len(ByteRun::Bare, text)),
+        Form::Word => split(text, run_len(ByteRun::Word, text)),
     }
 }
 
@@ -173,12 +176,12 @@ fn value_at(form: Form, text: &[u8]) -> Option<(&[u8], &[u8])>
 
 /// Reads a value alone at the front.
 #[tactic(auto, unfolding(crate::specs::Items::single_at))]
-fn single_at(form: Form, text: &[u8]) -> Option<Found<'_>>
+fn single_at(form: Form, text: &[u8]) -> Option<FoundItem<'_>>
     ensures value { option_map item_now result ≡ single_at form text.now }
     ensures shorter { IfSome result (λ it. length it.rest.now < length text.now) }
 {
     let (value, rest) = value_at(form, text)?;
-    Some(Found {
+    Some(FoundItem {
         name: None,
         value,
         rest,
@@ -186,14 +189,15 @@ fn single_at(form: Form, text: &[u8]) -> Option<Found<'_>>
 }
 
 /// Reads the value of this name at the front, in the first of the forms that fits.
-fn first_valued<'t>(name: &'t [u8], forms: &[Form], text: &'t [u8]) -> Option<Found<'t>>
+fn first_valued<'t>(name: &'t [u8], forms: &[Form], text: &'t [u8]) -> Option<FoundItem<'t>>
     ensures value { option_map item_now result ≡ first_of (λ form. option_map
-        (λ v. record { name = Some name.now; value = v.0; rest = v.1 }) (value_at form text.now)) forms.now }
+        (λ v. record { name = Some name.now; value = v.0; rest = v.1 }) (value_at form text.now))
+        forms.now }
     ensures shorter { IfSome result (λ it. length it.rest.now < length text.now) }
 {
     for form in forms {
         if let Some((value, rest)) = value_at(*form, text) {
-            return Some(Found {
+            return Some(FoundItem {
                 name: Some(name),
                 value,
                 rest,
@@ -209,12 +213,14 @@ fn name_at(text: &[u8]) -> Option<(&[u8], &[u8])>
     ensures value { option_map pair_now result ≡ run_at is_name_byte text.now }
     ensures shorter { IfSome result (λ x. length x.1.now < length text.now) }
 {
-    split(text, run_len(Run::Name, text))
+    split(text, run_len(ByteRun::Name, text))
 }
 
-/// Reads `name = value` at the front, in the first of the forms that fits. The name is read once for all forms.
-fn first_named<'t>(forms: &[Form], text: &'t [u8]) -> Option<Found<'t>>
-    ensures value { option_map item_now result ≡ first_of (λ form. named_at form text.now) forms.now }
+/// Reads `name = value` at the front, in the first of the forms that fits. The name is read once
+/// for all forms.
+fn first_named<'t>(forms: &[Form], text: &'t [u8]) -> Option<FoundItem<'t>>
+    ensures value { option_map item_now result
+        ≡ first_of (λ form. named_at form text.now) forms.now }
     ensures shorter { IfSome result (λ it. length it.rest.now < length text.now) }
 {
     let (name, rest) = name_at(text)?;
@@ -223,8 +229,9 @@ fn first_named<'t>(forms: &[Form], text: &'t [u8]) -> Option<Found<'t>>
 }
 
 /// Reads a value alone at the front, in the first of the forms that fits.
-fn first_single<'t>(forms: &[Form], text: &'t [u8]) -> Option<Found<'t>>
-    ensures value { option_map item_now result ≡ first_of (λ form. single_at form text.now) forms.now }
+fn first_single<'t>(forms: &[Form], text: &'t [u8]) -> Option<FoundItem<'t>>
+    ensures value { option_map item_now result
+        ≡ first_of (λ form. single_at form text.now) forms.now }
     ensures shorter { IfSome result (λ it. length it.rest.now < length text.now) }
 {
     for form in forms {
@@ -237,7 +244,7 @@ fn first_single<'t>(forms: &[Form], text: &'t [u8]) -> Option<Found<'t>>
 
 /// Reads the item at the front of a text, in the first of the six forms that fits.
 #[tactic(auto, unfolding(crate::specs::Items::item_at))]
-pub(crate) fn item_at(text: &[u8]) -> Option<Found<'_>>
+pub(crate) fn item_at(text: &[u8]) -> Option<FoundItem<'_>>
     ensures value { option_map item_now result ≡ item_at text.now }
     ensures shorter { IfSome result (λ it. length it.rest.now < length text.now) }
 {

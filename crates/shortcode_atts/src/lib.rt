@@ -1,15 +1,18 @@
-//! The attributes of a shortcode, as its attribute text spells them (Shortcode API, shortcode_parse_atts), and the
-//! defaults of a handler (shortcode_atts).
+//! The attributes of a shortcode, as its attribute text spells them (Shortcode API,
+//! shortcode_parse_atts), and the defaults of a handler (shortcode_atts).
 #![tactic(auto)]
 
-ghost use Rattle.std.specs.Prelude.{◌≡◌, ℕ, List, [], ◌∷◌, ◌++◌, map, option_map, slice_get, fold, chars};
+ghost use Rattle.std.specs.Prelude.{◌≡◌, ℕ, List, [], ◌∷◌, ◌++◌, map, option_map, slice_get, fold};
+ghost use Rattle.std.specs.Prelude.{chars};
 ghost use Rattle.std.specs.Prelude.{string_bytes, unwrap_or, Some, None, IfOk, OnOk, true, false};
 ghost use Rattle.std.specs.List.{All};
 ghost use Rattle.std.specs.Str.{IsUtf8};
 ghost use Rattle.shortcode_atts.specs.Attributes.{Attributes, attributes, add, add_under, value_of};
-ghost use Rattle.shortcode_atts.specs.Attributes.{pair_or, with_defaults, no_attributes, pair_bytes};
-ghost use Rattle.shortcode_atts.specs.Found.{item_now, pair_now, spelled, IsText};
-ghost use Rattle.shortcode_atts.specs.Items.{Item, IsItems, items_of, is_blank, begins_blank, spaced};
+ghost use Rattle.shortcode_atts.specs.Attributes.{pair_or, with_defaults, no_attributes};
+ghost use Rattle.shortcode_atts.specs.Attributes.{pair_bytes};
+ghost use Rattle.shortcode_atts.specs.Found.{item_now, pair_now, item_spelling, IsText};
+ghost use Rattle.shortcode_atts.specs.Items.{Item, IsItems, items_of, is_blank, begins_blank};
+ghost use Rattle.shortcode_atts.specs.Items.{single_spaced};
 
 use indexmap::IndexMap;
 use std::alloc::{AllocError, Global};
@@ -19,12 +22,12 @@ mod items;
 mod name_byte;
 mod values;
 
-use items::{Found, item_at, skip_white};
+use items::{FoundItem, item_at, skip_white};
 pub use name_byte::is_name_byte;
 use values::{is_plain, lowered, meaning, spaced};
 
-/// The attributes of a shortcode: values under names, each name once, and values without a name, each in the order of
-/// the text (Shortcode API, Handlers). Names are in lower case.
+/// The attributes of a shortcode: values under names, each name once, and values without a name,
+/// each in the order of the text (Shortcode API, Handlers). Names are in lower case.
 #[derive(Drop)]
 pub struct Atts {
     pairs: IndexMap<String, String>,
@@ -68,7 +71,8 @@ impl Atts {
     fn put(&mut self, alloc: Global, name: &[u8], value: &[u8]) -> Result<(), AllocError>
         requires name { IsUtf8 name.now }
         requires value { IsUtf8 value.now }
-        ensures { OnOk result (self.new ≡ add_under (Some (chars name.now)) (chars value.now) self.old) }
+        ensures { OnOk result
+            (self.new ≡ add_under (Some (chars name.now)) (chars value.now) self.old) }
     {
         let name = lowered(alloc, name)?;
         let value = meaning(alloc, value)?;
@@ -88,9 +92,9 @@ impl Atts {
     }
 
     /// Adds an item.
-    fn add(&mut self, alloc: Global, found: &Found) -> Result<(), AllocError>
+    fn add(&mut self, alloc: Global, found: &FoundItem) -> Result<(), AllocError>
         requires { IsText (item_now found.now) }
-        ensures { OnOk result (self.new ≡ add self.old (spelled (item_now found.now))) }
+        ensures { OnOk result (self.new ≡ add self.old (item_spelling (item_now found.now))) }
     {
         match found.name {
             Some(name) => self.put(alloc, name, found.value),
@@ -98,7 +102,8 @@ impl Atts {
         }
     }
 
-    /// Returns the value under a name, which is compared byte by byte; the names of attributes are in lower case.
+    /// Returns the value under a name, which is compared byte by byte; the names of attributes are
+    /// in lower case.
     pub fn named(&self, name: &str) -> Option<&str>
         ensures { option_map (λ value. value.now) result ≡ value_of self.now name.now }
     {
@@ -137,7 +142,8 @@ impl Atts {
 
     /// Returns a default's name, with the value here or else the default's.
     fn pair_or(&self, default: &(String, String)) -> Result<(String, String), AllocError>
-        ensures { IfOk result (λ pair. pair_bytes pair ≡ pair_or self.now (pair_bytes default.now)) }
+        ensures { IfOk result (λ pair. pair_bytes pair
+            ≡ pair_or self.now (pair_bytes default.now)) }
     {
         let name = default.0.clone()?;
         let value = self.value_or(default.0.as_str(), default.1.as_str());
@@ -145,8 +151,8 @@ impl Atts {
         Ok((name, value))
     }
 
-    /// Returns each default name, in order, with its value here, or else the default (Shortcode API, shortcode_atts).
-    /// Attributes under other names, and those without a name, are left out.
+    /// Returns each default name, in order, with its value here, or else the default (Shortcode
+    /// API, shortcode_atts). Attributes under other names, and those without a name, are left out.
     ///
     /// It fails only if memory runs out.
     pub fn with_defaults(
@@ -177,8 +183,9 @@ fn of_plain(alloc: Global, text: &str) -> Result<Atts, AllocError>
     Ok(atts)
 }
 
-/// Reads the attributes that a text spells, the part of a shortcode between its name and its end (Shortcode API,
-/// shortcode_parse_atts): `name="value"`, `name='value'`, `name=value`, `"value"`, `'value'` and `value`.
+/// Reads the attributes that a text spells, the part of a shortcode between its name and its end
+/// (Shortcode API, shortcode_parse_atts): `name="value"`, `name='value'`, `name=value`, `"value"`,
+/// `'value'` and `value`.
 ///
 /// Every text has attributes; it fails only if memory runs out.
 pub fn parse(alloc: Global, text: &str) -> Result<Atts, AllocError>
@@ -195,14 +202,18 @@ pub fn parse(alloc: Global, text: &str) -> Result<Atts, AllocError>
 /// A law: a text has exactly one list of items (Shortcode API, get_shortcode_atts_regex).
 pub fn one_list_of_items()
     ensures items { (text : List ℕ) → IsItems text (items_of text) }
-    ensures only { (text : List ℕ) (items : List Item) → IsItems text items → items ≡ items_of text }
+    ensures only { (text : List ℕ) (items : List Item) → IsItems text items → items
+        ≡ items_of text }
 {}
 
-/// A law: a run of blanks becomes one space, however many and of whichever of the two kinds they are, and every other
-/// character stays as it is (Code Reference, shortcode_parse_atts). The call does nothing: it carries these equations.
+/// A law: a run of blanks becomes one space, however many and of whichever of the two kinds they
+/// are, and every other character stays as it is (Code Reference, shortcode_parse_atts). The call
+/// does nothing: it carries these equations.
 pub fn a_run_of_blanks_is_one_space()
     ensures run { (blank : ℕ) (blanks rest : List ℕ) → All (λ c. is_blank c ≡ true) (blank ∷ blanks)
-        → begins_blank rest ≡ false → spaced (blank ∷ blanks ++ rest) ≡ 32 ∷ spaced rest }
-    ensures other { (c : ℕ) (rest : List ℕ) → is_blank c ≡ false → spaced (c ∷ rest) ≡ c ∷ spaced rest }
-    ensures end { spaced [] ≡ [] }
+        → begins_blank rest ≡ false → single_spaced (blank ∷ blanks ++ rest) ≡ 32
+        ∷ single_spaced rest }
+    ensures other { (c : ℕ) (rest : List ℕ) → is_blank c ≡ false → single_spaced (c ∷ rest) ≡ c
+        ∷ single_spaced rest }
+    ensures end { single_spaced [] ≡ [] }
 {}

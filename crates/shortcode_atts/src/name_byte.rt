@@ -2,8 +2,8 @@
 ghost use Rattle.std.specs.Prelude.{◌≡◌};
 ghost use Rattle.shortcode_atts.specs.NameByte.{is_name_byte};
 
-/// Returns whether a byte may be in the name of an attribute or of a tag: an ASCII letter, a digit, `_` or `-`
-/// (Shortcode API, get_shortcode_atts_regex).
+/// Returns whether a byte may be in the name of an attribute or of a tag: an ASCII letter, a digit,
+/// `_` or `-` (Shortcode API, get_shortcode_atts_regex).
 pub fn is_name_byte(byte: u8) -> bool
     ensures { result ≡ is_name_byte byte }
 {

@@ -7,8 +7,8 @@ use Rattle.std.proofs.Common.{length-append}
 use Rattle.memchr.specs.Find.{occurs_at}
 use Rattle.memchr.proofs.lemmas.MatchLemmas.{OccursAt-true}
 use Rattle.hook_changes.specs.Names.{is_tag_name}
-use Rattle.shortcode_scan.specs.declared.ahead.Ahead.{Ahead}
-use Rattle.shortcode_scan.specs.Memory.{IsAheadOf, unsearched}
+use Rattle.shortcode_scan.specs.declared.ahead.Lookahead.{Lookahead}
+use Rattle.shortcode_scan.specs.Memory.{IsAheadOf, nothing_searched}
 use Rattle.shortcode_scan.specs.Places.{first_place}
 use Rattle.shortcode_scan.specs.Matches.{bracket_from, closing_tag}
 use Rattle.shortcode_scan.proofs.PlaceLemmas.{first_place-some, first_place-covered, first_place-past}
@@ -42,21 +42,21 @@ tag_name-some [] h = absurd (false≢true h)
 tag_name-some (x ∷ xs) h = refl
 
 -- nothing begins at the text's end
-pub unsearched_bracket : (text : List ℕ) → (unsearched text).next ≡ bracket_from text (unsearched text).from
+pub unsearched_bracket : (text : List ℕ) → (nothing_searched text).next ≡ bracket_from text (nothing_searched text).from
 unsearched_bracket text = sym (first_place-past (λ k. slice_index text k == 93) (length text))
 
-unsearched_tag : (text tag : List ℕ) → IsAheadOf text tag (unsearched text)
+unsearched_tag : (text tag : List ℕ) → IsAheadOf text tag (nothing_searched text)
 unsearched_tag text tag = sym (first_place-past (occurs_at text tag) (length text))
 
 -- one name more, whose closing tag was not searched for
-pub closings_more : (text : List ℕ) (names : List (List ℕ)) (found later : List Ahead) (name : List ℕ) (i : ℕ)
-    → i < length names → name ≡ get_or names i name → length found ≡ i → later ≡ found ++ unsearched text ∷ []
-    → ((k : ℕ) (n : List ℕ) (a : Ahead) → k < i → IsAheadOf text (closing_tag (get_or names k n)) (get_or found k a))
-    → (k : ℕ) (n : List ℕ) (a : Ahead) → k < i + 1 → IsAheadOf text (closing_tag (get_or names k n)) (get_or later k a)
+pub closings_more : (text : List ℕ) (names : List (List ℕ)) (found later : List Lookahead) (name : List ℕ) (i : ℕ)
+    → i < length names → name ≡ get_or names i name → length found ≡ i → later ≡ found ++ nothing_searched text ∷ []
+    → ((k : ℕ) (n : List ℕ) (a : Lookahead) → k < i → IsAheadOf text (closing_tag (get_or names k n)) (get_or found k a))
+    → (k : ℕ) (n : List ℕ) (a : Lookahead) → k < i + 1 → IsAheadOf text (closing_tag (get_or names k n)) (get_or later k a)
 closings_more text names found later name i within is count behind before k n a lt =
     elim (cases_lt k i) [
-      | inl less ↦ rw (behind, get_or_append_left found (unsearched text ∷ []) a k (omega (arith, count, less))) (before k n a less)
+      | inl less ↦ rw (behind, get_or_append_left found (nothing_searched text ∷ []) a k (omega (arith, count, less))) (before k n a less)
       | inr le ↦
           let same : k ≡ i = omega arith in
-          rw (behind, same, get_or_push found (unsearched text) a i count) (unsearched_tag text (closing_tag (get_or names i n)))
+          rw (behind, same, get_or_push found (nothing_searched text) a i count) (unsearched_tag text (closing_tag (get_or names i n)))
     ]

@@ -16,7 +16,7 @@ use Rattle.shortcode_scan.specs.Places.{first_place}
 use Rattle.shortcode_scan.specs.Matches.{bracket_from, match_at, span}
 use Rattle.shortcode_scan.specs.Live.{AreSameNames}
 use Rattle.shortcode_scan.specs.Pieces.{plain_between, NoMatch, PiecesFrom, IsPieces, match_from, pieces_within, pieces_of, BeginsNotPlain, start_of}
-use Rattle.shortcode_scan.specs.Pieces.{end_of, joined}
+use Rattle.shortcode_scan.specs.Pieces.{end_of, pieces_text}
 use Rattle.shortcode_scan.proofs.PlaceLemmas.{first_place-some, first_place-none_is}
 use Rattle.shortcode_scan.proofs.MatchLemmas.{match_at-elsewhere, match_at-unended, match_at-unnamed, match_at-within, match_at-not_plain, match_at-lies}
 use Rattle.shortcode_scan.proofs.MatchLemmas.{match_at-alike}
@@ -187,17 +187,17 @@ module _ (names others : List (List ℕ)) (text : List ℕ) (same : AreSameNames
   pieces_of-alike = pieces_of-only others text (pieces_of names text) (PiecesFrom-alike 0 (pieces_of names text) (pieces_of-are names text))
 
 -- the pieces from place i on show what the text has from there on
-joined-from : (names : List (List ℕ)) (text : List ℕ) (i : ℕ) (ps : List Piece) → PiecesFrom names text i ps → joined text ps ≡ drop i text
+joined-from : (names : List (List ℕ)) (text : List ℕ) (i : ℕ) (ps : List Piece) → PiecesFrom names text i ps → pieces_text text ps ≡ drop i text
 joined-from names text i [] h = sym (ap (λ n. drop n text) h ∙ drop-length text)
 joined-from names text i (Plain s ∷ ps) h =
-    ap (λ n. slice_range text n s.end ++ joined text ps) h.0 ∙
+    ap (λ n. slice_range text n s.end ++ pieces_text text ps) h.0 ∙
     ap (λ rest. slice_range text i s.end ++ rest) (joined-from names text s.end ps h.4) ∙
     sym (drop_split text i s.end (omega (arith, h.1)))
 joined-from names text i (Match whole n a c o x ∷ ps) h =
     let lies = match_at-lies names text i _ h.0 in
-    ap (λ n. slice_range text n whole.end ++ joined text ps) lies.0 ∙
+    ap (λ n. slice_range text n whole.end ++ pieces_text text ps) lies.0 ∙
     ap (λ rest. slice_range text i whole.end ++ rest) (joined-from names text whole.end ps h.1) ∙
     sym (drop_split text i whole.end (omega (arith, lies.1)))
 
-pub joined-pieces : (names : List (List ℕ)) (text : List ℕ) (ps : List Piece) → IsPieces names text ps → joined text ps ≡ text
+pub joined-pieces : (names : List (List ℕ)) (text : List ℕ) (ps : List Piece) → IsPieces names text ps → pieces_text text ps ≡ text
 joined-pieces names text ps h = joined-from names text 0 ps h

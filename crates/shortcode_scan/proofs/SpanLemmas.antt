@@ -16,7 +16,7 @@ use Rattle.shortcode_scan.specs.declared.Span.{Span}
 use Rattle.shortcode_scan.specs.declared.matches.Core.{Core}
 use Rattle.shortcode_scan.specs.declared.Piece.{Piece}
 use Rattle.shortcode_scan.specs.declared.Piece.TheVariants.{Plain, Match}
-use Rattle.shortcode_scan.specs.Spans.{IsSpanOf, HasSpansOf, unescaped}
+use Rattle.shortcode_scan.specs.Spans.{IsSpanOf, HasSpansOf, inner_span}
 use Rattle.shortcode_scan.specs.Matches.{span, name_start, name_at, is_doubled, closing_tag, closing_from, bracket_from, core_of, without_content}
 use Rattle.shortcode_scan.specs.Matches.{with_closing, with_extras, match_at}
 use Rattle.shortcode_scan.specs.Pieces.{PiecesFrom, IsPieces, BeginsNotPlain}
@@ -120,7 +120,7 @@ module _ (text : List ℕ) (utf8 : IsUtf8 text) where
 
   -- without the brackets round it, if a further one closes it
   unescaped_span : (i : ℕ) (core : Core) (closing : Bool) → i < core.end → IsCharBoundary text (i + 1) → IsCharBoundary text core.end → closing ≡ true
-      → IsSpanOf text (unescaped (span i (if closing then core.end + 1 else core.end)))
+      → IsSpanOf text (inner_span (span i (if closing then core.end + 1 else core.end)))
   unescaped_span i core true lt b last e =
       let same : core.end + 1 - 1 ≡ core.end = omega arith in
       subst (λ n. IsSpanOf text (span (i + 1) n)) (sym same) (record { ordered = omega arith; first = b; last = last })

@@ -2,18 +2,18 @@
 use Rattle.std.specs.Prelude.{◌≡◌, ℕ, ◌<◌, List, [], None, false, length, map, bytes_eq, slice_index_or}
 use Rattle.std.specs.List.{list_any}
 use Rattle.memchr.specs.Find.{occurs_at}
-use Rattle.shortcode_scan.specs.declared.ahead.Ahead.{Ahead}
+use Rattle.shortcode_scan.specs.declared.ahead.Lookahead.{Lookahead}
 use Rattle.shortcode_scan.specs.declared.ahead.Memory.{Memory}
 use Rattle.shortcode_scan.specs.Places.{first_place}
 use Rattle.shortcode_scan.specs.Matches.{bracket_from, closing_tag}
 
 -- what is known of the places of a tag is true of the text
-abbrev pub IsAheadOf : List ℕ → List ℕ → Ahead → Type 0
+abbrev pub IsAheadOf : List ℕ → List ℕ → Lookahead → Type 0
 IsAheadOf text tag a = a.next ≡ first_place (occurs_at text tag) a.from (length text)
 
 -- what is known before a search: nothing begins at the text's end
-abbrev pub unsearched : List ℕ → Ahead
-unsearched text = record { from = length text; next = None }
+abbrev pub nothing_searched : List ℕ → Lookahead
+nothing_searched text = record { from = length text; next = None }
 
 -- none of the names is empty
 abbrev pub IsNamed : List (List ℕ) → Type 0
@@ -25,5 +25,5 @@ pub record Knows (names : List (List ℕ)) (text : List ℕ) (m : Memory) : Type
   pub bracket : m.bracket.next ≡ bracket_from text m.bracket.from
   pub tags : m.tags.items ≡ map closing_tag names
   pub count : length m.closings.items ≡ length names
-  pub closings : (k : ℕ) (n : List ℕ) (a : Ahead) → k < length names
+  pub closings : (k : ℕ) (n : List ℕ) (a : Lookahead) → k < length names
       → IsAheadOf text (closing_tag (slice_index_or names k n)) (slice_index_or m.closings.items k a)

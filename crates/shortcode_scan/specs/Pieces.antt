@@ -47,12 +47,12 @@ abbrev pub IsPieces : List (List ℕ) → List ℕ → List Piece → Type 0
 IsPieces names text ps = PiecesFrom names text 0 ps
 
 -- what the text shows at a piece
-abbrev pub shown : List ℕ → Piece → List ℕ
-shown text p = slice_range text (start_of p) (end_of p)
+abbrev pub piece_text : List ℕ → Piece → List ℕ
+piece_text text p = slice_range text (start_of p) (end_of p)
 
 -- the pieces' texts, joined
-abbrev pub joined : List ℕ → List Piece → List ℕ
-joined text ps = flat_map (shown text) ps
+abbrev pub pieces_text : List ℕ → List Piece → List ℕ
+pieces_text text ps = flat_map (piece_text text) ps
 
 -- a plain piece from i to j, unless it is empty
 abbrev pub plain_between : ℕ → ℕ → List Piece

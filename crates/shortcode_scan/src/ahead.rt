@@ -1,9 +1,11 @@
-//! What a scan has found ahead of its place, so that no part of the text is searched twice for the same thing.
-ghost use Rattle.std.specs.Prelude.{◌≡◌, ◌+◌, ◌<◌, ◌≤◌, ◌++◌, ◌∷◌, [], length, IsTrue, IfOk, IfSome, OnOk};
+//! What a scan has found ahead of its place, so that no part of the text is searched twice for the
+//! same thing.
+ghost use Rattle.std.specs.Prelude.{◌≡◌, ◌+◌, ◌<◌, ◌≤◌, ◌++◌, ◌∷◌, [], length, IsTrue, IfOk};
+ghost use Rattle.std.specs.Prelude.{IfSome, OnOk};
 ghost use Rattle.memchr.specs.Find.{occurs_at};
 ghost use Rattle.shortcode_scan.specs.Places.{first_place};
 ghost use Rattle.shortcode_scan.specs.Matches.{bracket_from, closing_tag};
-ghost use Rattle.shortcode_scan.specs.Memory.{IsAheadOf, Knows, unsearched};
+ghost use Rattle.shortcode_scan.specs.Memory.{IsAheadOf, Knows, nothing_searched};
 
 use crate::places::{bracket_from, closing_tag, tag_from};
 use hook_changes::TagName;
@@ -12,7 +14,7 @@ use std::alloc::{AllocError, Global};
 
 /// The result of a search from a place on. Up to what it found, nothing has to be searched again.
 #[derive(Clone, Copy)]
-pub(crate) struct Ahead {
+pub(crate) struct Lookahead {
     pub(crate) from: usize,
     pub(crate) next: Option<usize>,
 }
@@ -21,25 +23,26 @@ pub(crate) struct Ahead {
 #[derive(Drop)]
 pub(crate) struct Memory {
     /// The next `]`.
-    pub(crate) bracket: Ahead,
+    pub(crate) bracket: Lookahead,
     /// The searches for the closing tags of the names, in their order.
     pub(crate) tags: Vec<Finder<'static>>,
     /// For each name the next closing tag, or that there is none.
-    pub(crate) closings: Vec<Ahead>,
+    pub(crate) closings: Vec<Lookahead>,
 }
 
-impl Ahead {
+impl Lookahead {
     /// Returns what is known before any search: that nothing begins at the end of the text.
-    fn unsearched(text: &[u8]) -> Ahead
-        ensures { result ≡ unsearched text.now }
+    fn unsearched(text: &[u8]) -> Lookahead
+        ensures { result ≡ nothing_searched text.now }
     {
-        Ahead {
+        Lookahead {
             from: text.len(),
             next: None,
         }
     }
 
-    /// Returns whether it covers a search from the place on: that is not before `from`, nor after what was found.
+    /// Returns whether it covers a search from the place on: that is not before `from`, nor after
+    /// what was found.
     fn covers(&self, from: usize) -> bool
         ensures { IsTrue result → (self.now.from ≤ from) × IfSome self.now.next (λ k. from ≤ k) }
     {
@@ -52,7 +55,7 @@ impl Ahead {
 }
 
 /// Finds the first `]` from a place on.
-pub(crate) fn next_bracket(text: &[u8], ahead: &mut Ahead, from: usize) -> Option<usize>
+pub(crate) fn next_bracket(text: &[u8], ahead: &mut Lookahead, from: usize) -> Option<usize>
     requires in_text { from ≤ length text.now }
     requires known { ahead.old.next ≡ bracket_from text.now ahead.old.from }
     ensures value { result ≡ bracket_from text.now from }
@@ -62,7 +65,7 @@ pub(crate) fn next_bracket(text: &[u8], ahead: &mut Ahead, from: usize) -> Optio
     if ahead.covers(from) {
         return ahead.next;
     }
-    *ahead = Ahead {
+    *ahead = Lookahead {
         from,
         next: bracket_from(text, from),
     };
@@ -73,7 +76,7 @@ pub(crate) fn next_bracket(text: &[u8], ahead: &mut Ahead, from: usize) -> Optio
 pub(crate) fn next_closing(
     text: &[u8],
     tag: &Finder<'static>,
-    ahead: &mut Ahead,
+    ahead: &mut Lookahead,
     from: usize,
 ) -> Option<usize>
     requires in_text { from ≤ length text.now }
@@ -86,7 +89,7 @@ pub(crate) fn next_closing(
     if ahead.covers(from) {
         return ahead.next;
     }
-    *ahead = Ahead {
+    *ahead = Lookahead {
         from,
         next: tag_from(text, tag, from),
     };
@@ -99,13 +102,15 @@ fn push_search(
     name: &[u8],
     text: &[u8],
     tags: &mut Vec<Finder<'static>>,
-    closings: &mut Vec<Ahead>,
+    closings: &mut Vec<Lookahead>,
 ) -> Result<(), AllocError>
     ensures tags { OnOk result (tags.new.items ≡ tags.old.items ++ closing_tag name.now ∷ []) }
-    ensures closings { OnOk result (closings.new.items ≡ closings.old.items ++ unsearched text.now ∷ []) }
+    ensures closings { OnOk result (closings.new.items ≡ closings.old.items
+        ++ nothing_searched text.now
+        ∷ []) }
 {
     tags.push(closing_tag(alloc, name)?)?;
-    closings.push(Ahead::unsearched(text))?;
+    closings.push(Lookahead::unsearched(text))?;
     Ok(())
 }
 
@@ -124,7 +129,7 @@ pub(crate) fn first_memory(
         push_search(alloc, name, text, &mut tags, &mut closings)?;
     }
     Ok(Memory {
-        bracket: Ahead::unsearched(text),
+        bracket: Lookahead::unsearched(text),
         tags,
         closings,
     })

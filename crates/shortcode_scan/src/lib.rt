@@ -1,15 +1,17 @@
 //! Shortcodes in a text: which names it opens, and the pieces that the shortcodes cut it into.
 //!
-//! A shortcode is `[name attributes]`, `[name attributes/]` or `[name attributes]content[/name]` (Shortcode API). The
-//! pieces of a text are found leftmost first, in one pass, and no part of it is searched twice for the same thing.
+//! A shortcode is `[name attributes]`, `[name attributes/]` or `[name attributes]content[/name]`
+//! (Shortcode API). The pieces of a text are found leftmost first, in one pass, and no part of it
+//! is searched twice for the same thing.
 #![tactic(auto)]
 
-ghost use Rattle.std.specs.Prelude.{◌≡◌, ◌≢◌, ◌<◌, ◌↔◌, ℕ, List, [], length, slice_index, slice_range};
+ghost use Rattle.std.specs.Prelude.{◌≡◌, ◌≢◌, ◌<◌, ◌↔◌, ℕ, List, [], length, slice_index};
+ghost use Rattle.std.specs.Prelude.{slice_range};
 ghost use Rattle.std.specs.Prelude.{AllPairs, IfOk, IsTrue};
 ghost use Rattle.std.specs.List.{AllByRecursion};
 ghost use Rattle.hook_changes.specs.Names.{is_tag_name};
 ghost use Rattle.shortcode_scan.specs.Spans.{IsSpanOf, HasSpansOf};
-ghost use Rattle.shortcode_scan.specs.Pieces.{IsPieces, pieces_of, plain_between, joined};
+ghost use Rattle.shortcode_scan.specs.Pieces.{IsPieces, pieces_of, plain_between, pieces_text};
 ghost use Rattle.shortcode_scan.specs.Live.{is_live, live, AreSameNames};
 ghost use Rattle.shortcode_scan.specs.Opened.{is_among};
 
@@ -43,8 +45,8 @@ pub enum Piece {
         name: Span,
         /// The attribute text: what lies between the name and the end of the opening tag.
         atts: Span,
-        /// The text up to the closing tag. If there is no closing tag, an empty span at the end of the shortcode,
-        /// before a closing extra.
+        /// The text up to the closing tag. If there is no closing tag, an empty span at the end of
+        /// the shortcode, before a closing extra.
         content: Span,
         /// Whether there is a second `[` before the name.
         opening_extra: bool,
@@ -53,12 +55,12 @@ pub enum Piece {
     },
 }
 
-/// The maximum number of names that are searched for one by one. For a few names that is faster than collecting all
-/// that a text opens.
+/// The maximum number of names that are searched for one by one. For a few names that is faster
+/// than collecting all that a text opens.
 const FEW_NAMES: usize = 8;
 
-/// Returns whether no `[` of the text has a `]` after it. No shortcode ends in such a text, so it is one plain piece,
-/// whatever names there are.
+/// Returns whether no `[` of the text has a `]` after it. No shortcode ends in such a text, so it
+/// is one plain piece, whatever names there are.
 pub fn is_plain(text: &str) -> bool
     ensures brackets { IsTrue result
         ↔ ((i : ℕ) (j : ℕ) → i < j → slice_index text.now i ≡ 91 → slice_index text.now j ≢ 93) }
@@ -79,9 +81,9 @@ fn opens_nothing(text: &str) -> bool
     opening_from(text.as_bytes(), 0).is_none()
 }
 
-/// Finds the names that the text opens, in the order of `names`: those that occur in it as `[` and the name, followed
-/// by the end or by one of `<`, `>`, `&`, `/`, `[`, `]`, `=` and the bytes up to the space (Shortcode API,
-/// do_shortcode).
+/// Finds the names that the text opens, in the order of `names`: those that occur in it as `[` and
+/// the name, followed by the end or by one of `<`, `>`, `&`, `/`, `[`, `]`, `=` and the bytes up to
+/// the space (Shortcode API, do_shortcode).
 ///
 /// It fails only if memory runs out.
 pub fn live(alloc: Global, names: &[TagName], text: &str) -> Result<Vec<TagName>, AllocError>
@@ -97,8 +99,9 @@ pub fn live(alloc: Global, names: &[TagName], text: &str) -> Result<Vec<TagName>
     }
 }
 
-/// Finds all names that the text opens in the sense of [`live`], each once, in the order in which it first opens them,
-/// whether or not there are shortcodes of these names. Goes through the text once.
+/// Finds all names that the text opens in the sense of [`live`], each once, in the order in which
+/// it first opens them, whether or not there are shortcodes of these names. Goes through the text
+/// once.
 ///
 /// It fails only if memory runs out.
 pub fn opened_names(alloc: Global, text: &str) -> Result<Vec<&str>, AllocError>
@@ -110,8 +113,9 @@ pub fn opened_names(alloc: Global, text: &str) -> Result<Vec<&str>, AllocError>
     Vec::from_slice(alloc, names.as_slice())
 }
 
-/// Returns the pieces of the text, with `live` as the names that count (Shortcode API, get_shortcode_regex): from its
-/// first byte to its last, leftmost shortcode first, none within another.
+/// Returns the pieces of the text, with `live` as the names that count (Shortcode API,
+/// get_shortcode_regex): from its first byte to its last, leftmost shortcode first, none within
+/// another.
 ///
 /// It fails only if memory runs out.
 pub fn pieces(alloc: Global, live: &[TagName], text: &str) -> Result<Vec<Piece>, AllocError>
@@ -123,8 +127,8 @@ pub fn pieces(alloc: Global, live: &[TagName], text: &str) -> Result<Vec<Piece>,
     Ok(pieces)
 }
 
-/// Returns the part of the text at a span. The span begins and ends between two characters of the text, as each span of
-/// its pieces does.
+/// Returns the part of the text at a span. The span begins and ends between two characters of the
+/// text, as each span of its pieces does.
 pub fn text_at(text: &str, span: Span) -> &str
     requires { IsSpanOf text.now span }
     ensures { result.now ≡ slice_range text.now span.start span.end }
@@ -140,7 +144,8 @@ pub fn one_cut()
         → IsPieces names text pieces → pieces ≡ pieces_of names text }
 {}
 
-/// A law: how names cut a text depends neither on their order nor on how often each of them is given.
+/// A law: how names cut a text depends neither on their order nor on how often each of them is
+/// given.
 pub fn names_cut_alike()
     ensures { (names : List (List ℕ)) (others : List (List ℕ)) (text : List ℕ)
         → AreSameNames names others → pieces_of names text ≡ pieces_of others text }
@@ -149,5 +154,5 @@ pub fn names_cut_alike()
 /// A law: the pieces of a text, joined, are the text.
 pub fn pieces_join()
     ensures { (names : List (List ℕ)) (text : List ℕ) (pieces : List Piece)
-        → IsPieces names text pieces → joined text pieces ≡ text }
+        → IsPieces names text pieces → pieces_text text pieces ≡ text }
 {}

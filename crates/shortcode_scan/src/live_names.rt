@@ -1,5 +1,6 @@
 //! The names that a text opens.
-ghost use Rattle.std.specs.Prelude.{◌≡◌, ◌<◌, ◌≤◌, ◌==◌, true, length, slice_index, option_map, IfOk};
+ghost use Rattle.std.specs.Prelude.{◌≡◌, ◌<◌, ◌≤◌, ◌==◌, true, length, slice_index, option_map};
+ghost use Rattle.std.specs.Prelude.{IfOk};
 ghost use Rattle.shortcode_scan.specs.Live.{ends_name, has_opening, is_live, is_name_end, live};
 ghost use Rattle.shortcode_scan.specs.Opened.{is_among, name_opened, AreOpened};
 
@@ -28,7 +29,8 @@ fn is_name_end(text: &[u8], end: usize) -> bool
     end == text.len() || ends_name(text[end])
 }
 
-/// Returns whether the text has this opening, `[` and a name, at a place at which the name ends after it.
+/// Returns whether the text has this opening, `[` and a name, at a place at which the name ends
+/// after it.
 fn has_opening(text: &[u8], opening: &[u8]) -> bool
     requires { 0 < length opening.now }
     ensures { result ≡ has_opening text.now opening.now }
@@ -52,7 +54,8 @@ pub(crate) fn is_live(alloc: Global, text: &[u8], name: &[u8]) -> Result<bool, A
     Ok(has_opening(text, &opening))
 }
 
-/// Finds those of the names that the text opens, by a search for each: it goes through the text once for each name.
+/// Finds those of the names that the text opens, by a search for each: it goes through the text
+/// once for each name.
 pub(crate) fn live_few(
     alloc: Global,
     names: &[TagName],
@@ -69,8 +72,8 @@ pub(crate) fn live_few(
     Ok(found)
 }
 
-/// Returns what the `[` at a place opens: the bytes of names after it, if there are any and a name may end at the place
-/// at which they end.
+/// Returns what the `[` at a place opens: the bytes of names after it, if there are any and a name
+/// may end at the place at which they end.
 #[tactic(auto, unfolding(crate::specs::Opened::name_opened))]
 fn name_opened(text: &str, at: usize) -> Option<&str>
     requires within { at < length text.now }
@@ -87,8 +90,8 @@ fn name_opened(text: &str, at: usize) -> Option<&str>
     }
 }
 
-/// Finds the names that a text opens, each once: it goes through the text once, however many names are looked for among
-/// them.
+/// Finds the names that a text opens, each once: it goes through the text once, however many names
+/// are looked for among them.
 pub(crate) fn opened(alloc: Global, text: &str) -> Result<IndexSet<&str>, AllocError>
     ensures { IfOk result (λ names. AreOpened text.now names.keys) }
 {

@@ -1,13 +1,15 @@
 //! The shortcodes of a text, leftmost first.
 ghost use Rattle.std.specs.Prelude.{◌≡◌, ◌+◌, ◌<◌, ◌≤◌, ◌++◌, [], true, false, None};
-ghost use Rattle.std.specs.Prelude.{Some, bytes_eq, length, slice_index_or, slice_range, IfNone, IfOk, IfSome, OnOk};
+ghost use Rattle.std.specs.Prelude.{Some, bytes_eq, length, slice_index_or, slice_range, IfNone};
+ghost use Rattle.std.specs.Prelude.{IfOk, IfSome, OnOk};
 ghost use Rattle.std.specs.List.{list_any, prefix_len};
 ghost use Rattle.shortcode_atts.specs.NameByte.{is_name_byte};
 ghost use Rattle.shortcode_scan.specs.Memory.{IsAheadOf, IsNamed, Knows};
-ghost use Rattle.shortcode_scan.specs.Matches.{closing_tag, core_of, match_at, name_at, name_start, with_extras};
+ghost use Rattle.shortcode_scan.specs.Matches.{closing_tag, core_of, match_at, name_at, name_start};
+ghost use Rattle.shortcode_scan.specs.Matches.{with_extras};
 ghost use Rattle.shortcode_scan.specs.Pieces.{end_of, plain_between, start_of, IsPieces, NoMatch};
 
-use crate::ahead::{Ahead, Memory, first_memory, next_bracket, next_closing};
+use crate::ahead::{Lookahead, Memory, first_memory, next_bracket, next_closing};
 use crate::places::{has_byte_at, opening_from};
 use crate::{Piece, Span};
 use hook_changes::TagName;
@@ -25,7 +27,7 @@ struct Core {
 
 /// A match, and where it begins and ends.
 #[derive(Clone, Copy)]
-struct Found {
+struct FoundMatch {
     start: usize,
     end: usize,
     piece: Piece,
@@ -107,7 +109,7 @@ fn core_of(
     text: &[u8],
     name: &[u8],
     tag: &Finder<'static>,
-    ahead: &mut Ahead,
+    ahead: &mut Lookahead,
     name_end: usize,
     bracket: usize,
 ) -> Core
@@ -161,7 +163,8 @@ fn core_named(
     requires after_name { name.end ≤ bracket }
     requires in_text { bracket < length text.now }
     requires known { Knows names.now text.now memory.old }
-    ensures value { result ≡ core_of text.now (slice_index_or names.now name.index []) name.end bracket }
+    ensures value { result ≡ core_of text.now (slice_index_or names.now name.index []) name.end
+        bracket }
     ensures within { (bracket < result.end) × (result.end ≤ length text.now) }
     ensures known { Knows names.now text.now memory.new }
 {
@@ -175,7 +178,7 @@ fn core_named(
 
 /// Makes the match at a place with this core.
 #[tactic(auto, unfolding(crate::specs::Matches::with_extras))]
-fn with_extras(text: &[u8], start: usize, name: Span, core: Core) -> Found
+fn with_extras(text: &[u8], start: usize, name: Span, core: Core) -> FoundMatch
     requires { (start < core.end) × (core.end ≤ length text.now) }
     ensures piece { result.piece ≡ with_extras text.now start name core }
     ensures start { (result.start ≡ start) × (start_of result.piece ≡ start) }
@@ -197,12 +200,12 @@ fn with_extras(text: &[u8], start: usize, name: Span, core: Core) -> Found
         opening_extra,
         closing_extra,
     };
-    Found { start, end, piece }
+    FoundMatch { start, end, piece }
 }
 
 /// Finds the match at a place, if there is one.
 #[tactic(auto, unfolding(crate::specs::Matches::match_at))]
-fn match_at(names: &[TagName], text: &[u8], memory: &mut Memory, at: usize) -> Option<Found>
+fn match_at(names: &[TagName], text: &[u8], memory: &mut Memory, at: usize) -> Option<FoundMatch>
     requires { Knows names.now text.now memory.old }
     ensures none { IfNone result (match_at names.now text.now at ≡ None) }
     ensures some { IfSome result (λ found. match_at names.now text.now at ≡ Some found.piece) }
@@ -219,12 +222,19 @@ fn match_at(names: &[TagName], text: &[u8], memory: &mut Memory, at: usize) -> O
     Some(with_extras(text, at, Span { start, end }, core))
 }
 
-/// Finds the first match from a place on. If there is no `]` ahead, no shortcode ends, and the search is over.
-fn next_match(names: &[TagName], text: &[u8], memory: &mut Memory, from: usize) -> Option<Found>
+/// Finds the first match from a place on. If there is no `]` ahead, no shortcode ends, and the
+/// search is over.
+fn next_match(
+    names: &[TagName],
+    text: &[u8],
+    memory: &mut Memory,
+    from: usize,
+) -> Option<FoundMatch>
     requires in_text { from ≤ length text.now }
     requires known { Knows names.now text.now memory.old }
     ensures none { IfNone result (NoMatch names.now text.now from (length text.now)) }
-    ensures some { IfSome result (λ found. match_at names.now text.now found.start ≡ Some found.piece) }
+    ensures some { IfSome result (λ found. match_at names.now text.now found.start
+        ≡ Some found.piece) }
     ensures before { IfSome result (λ found. NoMatch names.now text.now from found.start) }
     ensures end { IfSome result (λ found. end_of found.piece ≡ found.end) }
     ensures within { IfSome result (λ found.

@@ -1,5 +1,6 @@
 //! The first places of bytes and of tags in a text.
-ghost use Rattle.std.specs.Prelude.{◌≡◌, ◌+◌, ◌<◌, ◌≤◌, ◌==◌, length, slice_index, IsTrue, IfOk, IfSome};
+ghost use Rattle.std.specs.Prelude.{◌≡◌, ◌+◌, ◌<◌, ◌≤◌, ◌==◌, length, slice_index, IsTrue, IfOk};
+ghost use Rattle.std.specs.Prelude.{IfSome};
 ghost use Rattle.memchr.specs.Find.{occurs_at};
 ghost use Rattle.shortcode_scan.specs.Places.{first_place};
 ghost use Rattle.shortcode_scan.specs.Matches.{bracket_from, closing_tag};
@@ -21,7 +22,8 @@ pub(crate) fn has_byte_at(text: &[u8], at: usize, byte: u8) -> bool
 /// Finds the first place of a byte in the text, from a place on.
 fn byte_from(text: &[u8], byte: u8, from: usize) -> Option<usize>
     requires { from ≤ length text.now }
-    ensures value { result ≡ first_place (λ k. slice_index text.now k == byte) from (length text.now) }
+    ensures value { result ≡ first_place (λ k. slice_index text.now k == byte) from
+        (length text.now) }
     ensures within { IfSome result (λ k. (from ≤ k) × (k < length text.now)) }
 {
     match memchr(byte, &text[from..]) {
@@ -33,7 +35,8 @@ fn byte_from(text: &[u8], byte: u8, from: usize) -> Option<usize>
 /// Finds the first `[` in the text, from a place on.
 pub(crate) fn opening_from(text: &[u8], from: usize) -> Option<usize>
     requires { from ≤ length text.now }
-    ensures value { result ≡ first_place (λ k. slice_index text.now k == 91) from (length text.now) }
+    ensures value { result ≡ first_place (λ k. slice_index text.now k == 91) from
+        (length text.now) }
     ensures within { IfSome result (λ k. (from ≤ k) × (k < length text.now)) }
 {
     // Brackets in a row need no search.

@@ -125,8 +125,8 @@ fn serve_file(
     };
     let mut journal = LogJournal::new(rt.alloc(), log, Writing::new(io::writer(rt)));
     match serve(rt, site, &mut journal, trace) {
-        // What was committed is copied into the file, which then has the history by itself. If the disk has no room for
-        // that, the file and its log have it together, as before.
+        // What was committed is copied into the file, which then has the history by itself. If the
+        // disk has no room for that, the file and its log have it together, as before.
         Ok(()) => match journal.into_log().close() {
             Ok(_files) => ExitCode::SUCCESS,
             Err((_fault, _store)) => ExitCode::SUCCESS,
@@ -163,7 +163,8 @@ fn export(
     ExitCode::SUCCESS
 }
 
-/// Puts the lines that rebuild the site of a file in the place of its history. The copy is an empty site.
+/// Puts the lines that rebuild the site of a file in the place of its history. The copy is an empty
+/// site.
 fn compact(
     rt: &HostRuntime,
     plugins: &Plugins<Stored>,

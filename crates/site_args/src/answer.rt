@@ -11,7 +11,8 @@ ghost use Rattle.site_args.specs.CommandLine.{
   is_given,
   reasons,
 };
-ghost use Rattle.site_args.specs.Answers.{AsksFor, HasRanges, HasNumbers, IsOutcome, IsReadFrom, IsRefusal};
+ghost use Rattle.site_args.specs.Answers.{AsksFor, HasRanges, HasNumbers, IsOutcome, IsReadFrom};
+ghost use Rattle.site_args.specs.Answers.{IsRefusal};
 
 use crate::options::site_command;
 use clap::Error;
@@ -160,7 +161,8 @@ fn read_options(alloc: Global, words: &[String]) -> Result<Options, Error>
 
 /// Copies the text of an option, if it is given.
 fn copy_of(alloc: Global, text: Option<&str>) -> Result<Option<String>, AllocError>
-    ensures { IfOk result (λ copy. option_map string_bytes copy ≡ option_map (λ text. text.now) text.entry) }
+    ensures { IfOk result (λ copy. option_map string_bytes copy
+        ≡ option_map (λ text. text.now) text.entry) }
 {
     match text {
         Some(text) => Ok(Some(String::from_str(alloc, text)?)),
@@ -168,7 +170,8 @@ fn copy_of(alloc: Global, text: Option<&str>) -> Result<Option<String>, AllocErr
     }
 }
 
-/// Returns whether a flag is given, by the text that clap has for it: `true` if it is, else `false`.
+/// Returns whether a flag is given, by the text that clap has for it: `true` if it is, else
+/// `false`.
 fn is_given(text: Option<&str>) -> bool
     ensures { result ≡ is_given (option_map (λ text. text.now) text.entry) }
 {

@@ -1,10 +1,12 @@
 //! Worked command lines that are theorems: each clause below is computed from clap's definitions.
 ghost use Rattle.std.specs.Prelude.{◌≡◌, ◌∷◌, [], codes, true, false, Some, None};
-ghost use Rattle.site_args.specs.CommandLine.{calls_of, cache_of, trace_of, database_of, export_of, compact_of, reasons};
+ghost use Rattle.site_args.specs.CommandLine.{calls_of, cache_of, trace_of, database_of, export_of};
+ghost use Rattle.site_args.specs.CommandLine.{compact_of, reasons};
 
 use clap::error::ErrorKind;
 
-/// States what some command-line arguments mean. The call itself does nothing: it carries these facts.
+/// States what some command-line arguments mean. The call itself does nothing: it carries these
+/// facts.
 pub fn worked_args()
     ensures no_words { reasons [] ≡ [] }
     ensures default_calls { calls_of [] ≡ 10000 }
@@ -26,7 +28,8 @@ pub fn worked_args()
     ensures database { database_of (codes "--database" ∷ codes "a.db" ∷ codes "--export" ∷ [])
         ≡ Some (codes "a.db") }
     ensures export { export_of (codes "--database" ∷ codes "a.db" ∷ codes "--export" ∷ []) ≡ true }
-    ensures not_compact { compact_of (codes "--database" ∷ codes "a.db" ∷ codes "--export" ∷ []) ≡ false }
+    ensures not_compact { compact_of (codes "--database" ∷ codes "a.db" ∷ codes "--export" ∷ [])
+        ≡ false }
     ensures compact { compact_of (codes "--compact" ∷ []) ≡ true }
 
     // What clap refuses, and why.

@@ -7,14 +7,16 @@ use Rattle.serde_json.specs.Data.{null, string, array, no_items, item, object, n
 use Rattle.site_records.specs.declared.post.PostKind.TheVariants.{Post, Page}
 use Rattle.site_records.specs.declared.post.PostStatus.TheVariants.{Publish, Draft}
 use Rattle.site_commands.specs.Tree.{tree_of}
-use Rattle.site_commands.specs.Asked.{put, edit, delete, option, activate, deactivate, template, import, get, begin, turns, command_of, put_of, edit_of, delete_of}
+use Rattle.site_commands.specs.Asked.{put, edit, delete, option, activate, deactivate, template, import, get, begin, turns, command_of, put_of, edit_of}
+use Rattle.site_commands.specs.Asked.{delete_of}
 use Rattle.site_commands.specs.Asked.{option_of, activate_of, deactivate_of, template_of, import_of, get_of, begin_of, turns_of}
 use Rattle.site_values.specs.Named.{option_named}
 use Rattle.site_commands.specs.Worked.{line_command}
 
 -- what computes in the lines below
 computes : ℕ
-unfolding tree_of command_of put_of edit_of delete_of option_of activate_of deactivate_of template_of import_of get_of begin_of turns_of serde_json_on_literals is_utf8
+unfolding tree_of command_of put_of edit_of delete_of option_of activate_of deactivate_of template_of import_of get_of begin_of turns_of serde_json_on_literals
+    is_utf8
     chars
 computes = 0
 

@@ -93,7 +93,8 @@ pub fn worked_commands()
         ≡ Some (get (codes "/?p=1")) }
     ensures no_path { line_command (codes "{\"cmd\":\"get\"}") ≡ None }
 
-    // A page is begun by its path. It is given turns by its number, 1 to 8, with a count of 1 to 1,000,000.
+    // A page is begun by its path. It is given turns by its number, 1 to 8, with a count of 1 to
+    // 1,000,000.
     ensures begun { line_command (codes "{\"cmd\":\"begin\",\"path\":\"/?p=1\"}")
         ≡ Some (begin (codes "/?p=1")) }
     ensures no_path_to_begin { line_command (codes "{\"cmd\":\"begin\"}") ≡ None }

@@ -16,7 +16,7 @@ use Rattle.site_replies.specs.Reply.{ReplyData}
 use Rattle.site_edits.specs.Edits.{put, edit, edited, delete, set_option, set_active, if_given}
 use Rattle.site_records.specs.Ids.{max_id}
 use Rattle.site_values.specs.Limits.{fits, max_title, max_content, max_value}
-use Rattle.site_edits.specs.Templates.{stored, set_template}
+use Rattle.site_edits.specs.Templates.{with_template, set_template}
 
 module _ (P : Rows → Type 0) where
   -- it holds of the rows that are left
@@ -65,7 +65,7 @@ module _ (P : Rows → Type 0) where
 
     -- ---- and whatever templates they have
     module _ (whatever : (templates : Named) → P (record rows { templates = templates })) where
-      stored-after : (name : Text) (body : Data) (read : Result Template TemplateFault) → After (stored rows name body read)
+      stored-after : (name : Text) (body : Data) (read : Result Template TemplateFault) → After (with_template rows name body read)
       stored-after name body (Ok template) = whatever _
       stored-after name body (Err why) = now
 

@@ -3,8 +3,8 @@ use Rattle.std.specs.Prelude.{◌≡◌, true, Result, IfOk, IfErr, OnErr}
 use Rattle.post_tables.specs.Rows.{Rows}
 use Rattle.site_replies.specs.declared.reply.SiteReply.{SiteReply}
 use Rattle.site_replies.specs.Reply.{ReplyData, reply_data}
-use Rattle.site_edits.specs.declared.fault.StoreFault.{StoreFault}
-use Rattle.site_edits.specs.declared.fault.StoreFault.TheVariants.{Store}
+use Rattle.post_tables.specs.declared.fault.StoreFault.{StoreFault}
+use Rattle.post_tables.specs.declared.fault.StoreFault.TheVariants.{Store}
 use Rattle.site_edits.specs.Late.{may_be_late}
 
 -- the rows and the reply are those that are meant; or an allocation failed or the database refused, and no row has

@@ -23,18 +23,18 @@ abbrev pub are_known : List Shape → List Text → Bool
 are_known plugins names = list_all (λ name. is_some (load_of plugins name)) names
 
 -- the records are added, if no two of their posts have the same ID and no stored post has one of them
-abbrev pub added : Rows → SiteRecords → Rows × ReplyData
-added rows records =
+abbrev pub rows_with_records : Rows → SiteRecords → Rows × ReplyData
+rows_with_records rows records =
     if are_new records.posts rows.posts
     then (with_records records rows, done)
     else (rows, refused DuplicateId)
 
 -- all of a site file's records are added, or none: each plugin that is active in it has to exist
-abbrev pub imported : List Shape → Rows → Read SiteRecords → Rows × ReplyData
-imported plugins rows (Err why) = (rows, import_refusal why)
-imported plugins rows (Ok records) =
-    if are_known plugins records.active then added rows records else (rows, refused UnknownPlugin)
+abbrev pub rows_after_import : List Shape → Rows → Read SiteRecords → Rows × ReplyData
+rows_after_import plugins rows (Err why) = (rows, import_refusal why)
+rows_after_import plugins rows (Ok records) =
+    if are_known plugins records.active then rows_with_records rows records else (rows, refused UnknownPlugin)
 
 -- `import`: what a site file holds is added to what there is (WordPress Importer)
 unfoldable pub import : List Shape → Rows → Data → Rows × ReplyData
-import plugins rows site = imported plugins rows (site_file_of site)
+import plugins rows site = rows_after_import plugins rows (site_file_of site)

@@ -1,6 +1,5 @@
 pub mod Carried
 pub mod Edits
-pub mod Faults
 pub mod Imports
 pub mod Late
 pub mod Templates

@@ -18,13 +18,13 @@ template_refusal fault.TooLarge = refused TooLarge
 template_refusal fault.OutOfMemory = refused OutOfMemory
 
 -- a template is stored as the compact JSON text of its body
-abbrev pub stored : Rows → Text → Data → Result Template TemplateFault → Rows × ReplyData
-stored rows name body (Ok template) = (record rows { templates = insert rows.templates name (compact_text body) }, done)
-stored rows name body (Err why) = (rows, template_refusal why)
+abbrev pub with_template : Rows → Text → Data → Result Template TemplateFault → Rows × ReplyData
+with_template rows name body (Ok template) = (record rows { templates = insert rows.templates name (compact_text body) }, done)
+with_template rows name body (Err why) = (rows, template_refusal why)
 
 -- no template is stored under the name any more
-abbrev pub removed : Rows → Text → Rows × ReplyData
-removed rows name =
+abbrev pub without_template : Rows → Text → Rows × ReplyData
+without_template rows name =
     if is_template_name name
     then (record rows { templates = remove rows.templates name }, done)
     else (rows, refused BadTemplate)
@@ -32,4 +32,4 @@ removed rows name =
 -- `template`: a body is stored in place of the one before, and `null` removes it
 unfoldable pub set_template : Rows → Text → Data → Rows × ReplyData
 set_template rows name body =
-    if is_some (as_null body) then removed rows name else stored rows name body (template_of name body)
+    if is_some (as_null body) then without_template rows name else with_template rows name body (template_of name body)

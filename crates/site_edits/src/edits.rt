@@ -2,13 +2,13 @@
 ghost use Rattle.std.specs.Prelude.{◌≡◌, option_map, true, false, nat_le, length};
 ghost use Rattle.callback_store.specs.Shape.{shapes_of};
 ghost use Rattle.site_values.specs.Limits.{fits};
-ghost use Rattle.site_edits.specs.Edits.{put, edit, edited, delete, set_option, set_active, if_given};
+ghost use Rattle.site_edits.specs.Edits.{put, edit, edited, delete, set_option, set_active};
+ghost use Rattle.site_edits.specs.Edits.{if_given};
 ghost use Rattle.site_edits.specs.Carried.{CarriesOut};
 ghost use Rattle.post_tables.specs.Rows.{edit_by};
 
-use crate::fault::StoreFault;
 use callback_store::{Plugins, Stated};
-use post_tables::{PostDate, PostKind, PostStatus, Tables, TablesFault};
+use post_tables::{PostDate, PostKind, PostStatus, StoreFault, Tables, TablesFault};
 use site_replies::{Refusal, SiteReply};
 use site_values::{MAX_CONTENT, MAX_TITLE, MAX_VALUE};
 
@@ -31,7 +31,8 @@ pub fn put(
     content: &str,
     date: &str,
 ) -> Result<SiteReply, StoreFault>
-    ensures { CarriesOut tables.old (put tables.old kind status title.now content.now date.now) result tables.new }
+    ensures { CarriesOut tables.old (put tables.old kind status title.now content.now date.now)
+        result tables.new }
 {
     if title.len() > MAX_TITLE || content.len() > MAX_CONTENT {
         return Ok(SiteReply::Refused(Refusal::TooLarge));
@@ -46,7 +47,8 @@ pub fn put(
     }
 }
 
-/// Replaces the given fields of a post, and keeps the others. Refused as `TooLarge`, `BadDate` or `NoSuchPost`.
+/// Replaces the given fields of a post, and keeps the others. Refused as `TooLarge`, `BadDate` or
+/// `NoSuchPost`.
 #[tactic(auto, unfolding(crate::specs::Edits::edit))]
 pub fn edit(
     tables: &mut Tables,
@@ -56,7 +58,8 @@ pub fn edit(
     content: Option<&str>,
     date: Option<&str>,
 ) -> Result<SiteReply, StoreFault>
-    ensures { CarriesOut tables.old (edit tables.old id (edit_by status title.entry content.entry date.entry))
+    ensures { CarriesOut tables.old
+        (edit tables.old id (edit_by status title.entry content.entry date.entry))
         result tables.new }
 {
     if !fits_if_given(title, MAX_TITLE) || !fits_if_given(content, MAX_CONTENT) {
@@ -81,7 +84,8 @@ fn edit_post(
     content: Option<&str>,
     date: Option<&PostDate>,
 ) -> Result<SiteReply, StoreFault>
-    ensures { CarriesOut tables.old (edited tables.old id (edit_by status title.entry content.entry date.entry))
+    ensures { CarriesOut tables.old
+        (edited tables.old id (edit_by status title.entry content.entry date.entry))
         result tables.new }
 {
     match tables.edit_post(id, status, title, content, date) {
@@ -123,7 +127,8 @@ pub fn set_active<S: Stated>(
     plugin: &str,
     active: bool,
 ) -> Result<SiteReply, StoreFault>
-    ensures { CarriesOut tables.old (set_active (shapes_of S.number plugins.now) tables.old plugin.now active)
+    ensures { CarriesOut tables.old
+        (set_active (shapes_of S.number plugins.now) tables.old plugin.now active)
         result tables.new }
 {
     if plugins.load_of(plugin).is_none() {

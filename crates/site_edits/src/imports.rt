@@ -3,21 +3,21 @@ ghost use Rattle.std.specs.Prelude.{◌≡◌, ◌≢◌, ◌≤◌, Ok, IfOk, I
 ghost use Rattle.callback_store.specs.Shape.{shapes_of};
 ghost use Rattle.serde_json.specs.View.{view};
 ghost use Rattle.site_replies.specs.Reply.{reply_data};
-ghost use Rattle.site_edits.specs.Imports.{import, imported, import_refusal, added, are_known};
+ghost use Rattle.site_edits.specs.Imports.{import, rows_after_import, import_refusal};
+ghost use Rattle.site_edits.specs.Imports.{rows_with_records, are_known};
 ghost use Rattle.site_edits.specs.Carried.{CarriesOut};
 
-use crate::fault::StoreFault;
 use callback_store::{Plugins, Stated};
 use hook_changes::Text;
-use post_tables::{Tables, TablesFault};
+use post_tables::{StoreFault, Tables, TablesFault};
 use serde_json::Value;
 use site_import::{ImportFault, read_site_value};
 use site_records::SiteRecords;
 use site_replies::{Refusal, SiteReply};
 use std::alloc::Global;
 
-/// Adds all records of a site file, or none. Refused as `BadImport`, `BadDate`, `BadTemplate`, `TooLarge`,
-/// `UnknownPlugin` or `DuplicateId`.
+/// Adds all records of a site file, or none. Refused as `BadImport`, `BadDate`, `BadTemplate`,
+/// `TooLarge`, `UnknownPlugin` or `DuplicateId`.
 #[tactic(auto, unfolding(crate::specs::Imports::import))]
 pub fn import<S: Stated>(
     alloc: Global,
@@ -25,7 +25,8 @@ pub fn import<S: Stated>(
     tables: &mut Tables,
     site: &Value,
 ) -> Result<SiteReply, StoreFault>
-    ensures { CarriesOut tables.old (import (shapes_of S.number plugins.now) tables.old (view site.now))
+    ensures { CarriesOut tables.old (import (shapes_of S.number plugins.now) tables.old
+        (view site.now))
         result tables.new }
 {
     match read_site_value(alloc, site) {
@@ -41,7 +42,8 @@ fn add_known<S: Stated>(
     records: &SiteRecords,
 ) -> Result<SiteReply, StoreFault>
     requires { All (λ p. (1 ≤ p.id) × (p.id ≤ 2147483647)) records.now.posts }
-    ensures { CarriesOut tables.old (imported (shapes_of S.number plugins.now) tables.old (Ok records.now))
+    ensures { CarriesOut tables.old (rows_after_import (shapes_of S.number plugins.now) tables.old
+        (Ok records.now))
         result tables.new }
 {
     if !are_known(plugins, records.active.as_slice()) {
@@ -61,7 +63,8 @@ fn are_known<S: Stated>(plugins: &Plugins<S>, names: &[Text]) -> bool
 /// Returns the reply to a site file that is refused.
 fn refused_import(fault: ImportFault) -> Result<SiteReply, StoreFault>
     ensures ok { IfOk result (λ reply. reply_data reply ≡ import_refusal fault) }
-    ensures err { IfErr result (λ e. (e ≡ StoreFault.OutOfMemory) × (fault ≡ ImportFault.OutOfMemory)) }
+    ensures err { IfErr result (λ e. (e ≡ StoreFault.OutOfMemory)
+        × (fault ≡ ImportFault.OutOfMemory)) }
     ensures other { OnOk result (fault ≢ ImportFault.OutOfMemory) }
 {
     match fault {
@@ -75,7 +78,7 @@ fn refused_import(fault: ImportFault) -> Result<SiteReply, StoreFault>
 
 fn add_records(tables: &mut Tables, records: &SiteRecords) -> Result<SiteReply, StoreFault>
     requires { All (λ p. (1 ≤ p.id) × (p.id ≤ 2147483647)) records.now.posts }
-    ensures { CarriesOut tables.old (added tables.old records.now) result tables.new }
+    ensures { CarriesOut tables.old (rows_with_records tables.old records.now) result tables.new }
 {
     match tables.import(records) {
         Ok(()) => Ok(SiteReply::Ok),

@@ -134,5 +134,5 @@ pub record FitsLines (rows : Rows) : Type 0 where
 
 -- ---- a post as the code shows it
 
-abbrev pub shown : ShownPost → Post
-shown p = record { id = p.id; kind = p.kind; status = p.status; title = p.title.now; content = p.content.now; date = p.date.now }
+abbrev pub exported_post : ShownPost → Post
+exported_post p = record { id = p.id; kind = p.kind; status = p.status; title = p.title.now; content = p.content.now; date = p.date.now }

@@ -1,5 +1,6 @@
 //! All lines of a site.
-ghost use Rattle.std.specs.Prelude.{◌≡◌, ◌++◌, string_bytes, map, filter, nat_lt, All, IfOk, IfErr, OnOk};
+ghost use Rattle.std.specs.Prelude.{◌≡◌, ◌++◌, string_bytes, map, filter, nat_lt, All, IfOk, IfErr};
+ghost use Rattle.std.specs.Prelude.{OnOk};
 ghost use Rattle.post_tables.specs.Rows.{IsReadFault};
 ghost use Rattle.site_export.specs.Lines.{gone_lines, AppendsPosts, IsHistory, IsShort, FitsLines};
 
@@ -11,7 +12,8 @@ use std::alloc::Global;
 /// How many posts are read at a time.
 const STEP: u32 = 100;
 
-/// Appends the lines that are there for the largest ID alone: if no post has it, it was a post's that is deleted.
+/// Appends the lines that are there for the largest ID alone: if no post has it, it was a post's
+/// that is deleted.
 fn push_largest(
     alloc: Global,
     lines: &mut Vec<String>,
@@ -53,15 +55,17 @@ fn push_all_posts(
     }
 }
 
-/// Returns the command lines after which a site that has just begun stores the same posts, options, templates and
-/// active plugins, and has given the same largest ID. Each is without its newline. An empty site has none.
+/// Returns the command lines after which a site that has just begun stores the same posts, options,
+/// templates and active plugins, and has given the same largest ID. Each is without its newline. An
+/// empty site has none.
 ///
-/// Each line is within a site's limit of 1,048,576 bytes, if each text of the rows fits into a line of its own, as it
-/// does if it came by such a line. It fails as `OutOfMemory` if memory runs out, and as `Store` only if a limit is set
-/// on the steps of statements.
+/// Each line is within a site's limit of 1,048,576 bytes, if each text of the rows fits into a line
+/// of its own, as it does if it came by such a line. It fails as `OutOfMemory` if memory runs out,
+/// and as `Store` only if a limit is set on the steps of statements.
 pub fn history_of(alloc: Global, tables: &mut Tables) -> Result<Vec<String>, TablesFault>
     ensures lines { IfOk result (λ lines. IsHistory tables.old (map string_bytes lines.items)) }
-    ensures short { FitsLines tables.old → IfOk result (λ lines. All IsShort (map string_bytes lines.items)) }
+    ensures short { FitsLines tables.old
+        → IfOk result (λ lines. All IsShort (map string_bytes lines.items)) }
     ensures same { tables.new ≡ tables.old }
     ensures fault { IfErr result (IsReadFault tables.old.step_limit) }
 {

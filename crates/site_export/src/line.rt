@@ -24,7 +24,8 @@ pub(crate) fn put(line: &mut Writer, tokens: &[Token<'_>]) -> Result<(), AllocEr
 /// Appends a member whose value is a text.
 pub(crate) fn put_text(line: &mut Writer, name: &str, text: &str) -> Result<(), AllocError>
     ensures before { line.new.before ≡ line.old.before }
-    ensures tokens { OnOk result (line.new.tokens ≡ line.old.tokens ++ with_text name.now text.now) }
+    ensures tokens { OnOk result (line.new.tokens ≡ line.old.tokens
+        ++ with_text name.now text.now) }
 {
     line.key(name)?;
     line.string(text)
@@ -33,7 +34,8 @@ pub(crate) fn put_text(line: &mut Writer, name: &str, text: &str) -> Result<(), 
 /// Appends a member whose value is a number.
 pub(crate) fn put_number(line: &mut Writer, name: &str, number: u32) -> Result<(), AllocError>
     ensures before { line.new.before ≡ line.old.before }
-    ensures tokens { OnOk result (line.new.tokens ≡ line.old.tokens ++ with_number name.now number) }
+    ensures tokens { OnOk result (line.new.tokens ≡ line.old.tokens
+        ++ with_number name.now number) }
 {
     line.key(name)?;
     line.u64(u64::from(number))
@@ -42,7 +44,8 @@ pub(crate) fn put_number(line: &mut Writer, name: &str, number: u32) -> Result<(
 /// Begins the line of a command, up to what the command is given.
 pub(crate) fn begin_command(alloc: Global, name: &str) -> Result<Writer, AllocError>
     ensures before { IfOk result (λ line. line.before ≡ []) }
-    ensures tokens { IfOk result (λ line. line.tokens ≡ begin_object ∷ with_text (codes "cmd") name.now) }
+    ensures tokens { IfOk result (λ line. line.tokens ≡ begin_object
+        ∷ with_text (codes "cmd") name.now) }
 {
     let mut line = Writer::new(Vec::new(alloc));
     line.begin_object()?;

@@ -7,7 +7,8 @@ use hook_changes::Text;
 use std::alloc::{AllocError, Global};
 
 fn option_line(alloc: Global, name: &str, value: &str) -> Result<String, AllocError>
-    ensures { IfOk result (λ line. string_bytes line ≡ option_line (record { 0 = name.now; 1 = value.now })) }
+    ensures { IfOk result (λ line. string_bytes line
+        ≡ option_line (record { 0 = name.now; 1 = value.now })) }
 {
     let mut line = begin_command(alloc, "option")?;
     put_text(&mut line, "name", name)?;
@@ -15,9 +16,11 @@ fn option_line(alloc: Global, name: &str, value: &str) -> Result<String, AllocEr
     end_command(line)
 }
 
-/// Returns the line that stores a template. What is stored of it is JSON, and stands in the line as it is.
+/// Returns the line that stores a template. What is stored of it is JSON, and stands in the line as
+/// it is.
 fn template_line(alloc: Global, name: &str, tree: &str) -> Result<String, AllocError>
-    ensures { IfOk result (λ line. string_bytes line ≡ template_line (record { 0 = name.now; 1 = tree.now })) }
+    ensures { IfOk result (λ line. string_bytes line
+        ≡ template_line (record { 0 = name.now; 1 = tree.now })) }
 {
     let mut front = begin_command(alloc, "template")?;
     put_text(&mut front, "name", name)?;

@@ -4,7 +4,7 @@ ghost use Rattle.std.specs.Prelude.{string_bytes, map, take, length, IfOk, OnOk}
 ghost use Rattle.json.specs.Print.{print};
 ghost use Rattle.post_tables.specs.Stored.{kind_text, status_text};
 ghost use Rattle.site_export.specs.Lines.{
-  shown,
+  exported_post,
   gone,
   bare,
   room_of,
@@ -25,8 +25,9 @@ use json::{Token, Writer};
 use post_tables::{Post, PostKind, PostStatus};
 use std::alloc::{AllocError, Global};
 
-/// The maximum room of posts that one line imports. For each byte of it they have at most six bytes of JSON, so that
-/// the line is within the limit of 1,048,576 bytes, and they are fewer than the 10,000 that an import may have.
+/// The maximum room of posts that one line imports. For each byte of it they have at most six bytes
+/// of JSON, so that the line is within the limit of 1,048,576 bytes, and they are fewer than the
+/// 10,000 that an import may have.
 const MAX_ROOM: usize = 170_000;
 
 /// The room of a post beside its title and its content.
@@ -66,7 +67,7 @@ fn status_name(status: PostStatus) -> &'static str
 
 /// Shows a post whole.
 fn whole(post: &Post) -> ShownPost<'_>
-    ensures { shown result ≡ post.now }
+    ensures { exported_post result ≡ post.now }
 {
     ShownPost {
         id: post.id,
@@ -80,7 +81,7 @@ fn whole(post: &Post) -> ShownPost<'_>
 
 /// Shows a post without its title and content.
 fn bare(post: &Post) -> ShownPost<'_>
-    ensures { shown result ≡ bare post.now }
+    ensures { exported_post result ≡ bare post.now }
 {
     ShownPost {
         title: "",
@@ -92,7 +93,8 @@ fn bare(post: &Post) -> ShownPost<'_>
 /// Appends a post to the line of an import.
 fn put_post(line: &mut Writer, post: &ShownPost<'_>) -> Result<(), AllocError>
     ensures before { line.new.before ≡ line.old.before }
-    ensures tokens { OnOk result (line.new.tokens ≡ line.old.tokens ++ post_tokens (shown post.now)) }
+    ensures tokens { OnOk result (line.new.tokens ≡ line.old.tokens
+        ++ post_tokens (exported_post post.now)) }
 {
     put(line, &[Token::BeginObject])?;
     put_number(line, "id", post.id)?;
@@ -140,7 +142,7 @@ fn end_import(mut line: Writer) -> Result<String, AllocError>
 
 /// Returns the line that imports one post.
 fn import_one(alloc: Global, post: &ShownPost<'_>) -> Result<String, AllocError>
-    ensures { IfOk result (λ line. string_bytes line ≡ import_line (shown post.now ∷ [])) }
+    ensures { IfOk result (λ line. string_bytes line ≡ import_line (exported_post post.now ∷ [])) }
 {
     let mut line = begin_import(alloc)?;
     put_post(&mut line, post)?;
@@ -193,7 +195,8 @@ fn push_edit(
     Ok(())
 }
 
-/// Appends the lines of a post that is too long for one: it is imported without its texts, and then given each.
+/// Appends the lines of a post that is too long for one: it is imported without its texts, and then
+/// given each.
 fn push_apart(alloc: Global, lines: &mut Vec<String>, post: &Post) -> Result<(), AllocError>
     ensures { OnOk result (map string_bytes lines.new.items
         ≡ map string_bytes lines.old.items ++ apart post.now) }

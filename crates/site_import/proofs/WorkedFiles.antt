@@ -66,7 +66,8 @@ pub other_keys : site_file_in (codes "{\"version\":1,\"front\":0,\"x\":null}") �
 unfolding computes
 other_keys = refl
 
-pub page : site_file_in (codes "{\"version\":1,\"posts\":[{\"id\":7,\"kind\":\"page\",\"status\":\"draft\",\"title\":\"T\",\"content\":\"C\",\"date\":\"2024-05-01 10:00:00\"}]}")
+pub page : site_file_in
+    (codes "{\"version\":1,\"posts\":[{\"id\":7,\"kind\":\"page\",\"status\":\"draft\",\"title\":\"T\",\"content\":\"C\",\"date\":\"2024-05-01 10:00:00\"}]}")
     ≡ Ok (record no_records {
       posts = record {
         id = 7;
@@ -84,22 +85,26 @@ pub null_posts : site_file_in (codes "{\"version\":1,\"posts\":null}") ≡ Err (
 unfolding computes
 null_posts = refl
 
-pub post_without_content : site_file_in (codes "{\"version\":1,\"posts\":[{\"id\":1,\"kind\":\"post\",\"status\":\"publish\",\"title\":\"T\",\"date\":\"2024-05-01 10:00:00\"}]}")
+pub post_without_content : site_file_in
+    (codes "{\"version\":1,\"posts\":[{\"id\":1,\"kind\":\"post\",\"status\":\"publish\",\"title\":\"T\",\"date\":\"2024-05-01 10:00:00\"}]}")
     ≡ Err (BadImport (entry_of Posts 0))
 unfolding computes
 post_without_content = refl
 
-pub id_0 : site_file_in (codes "{\"version\":1,\"posts\":[{\"id\":0,\"kind\":\"post\",\"status\":\"publish\",\"title\":\"T\",\"content\":\"C\",\"date\":\"2024-05-01 10:00:00\"}]}")
+pub id_0 : site_file_in
+    (codes "{\"version\":1,\"posts\":[{\"id\":0,\"kind\":\"post\",\"status\":\"publish\",\"title\":\"T\",\"content\":\"C\",\"date\":\"2024-05-01 10:00:00\"}]}")
     ≡ Err (BadImport (entry_of Posts 0))
 unfolding computes
 id_0 = refl
 
-pub second_date : site_file_in (codes "{\"version\":1,\"posts\":[{\"id\":1,\"kind\":\"post\",\"status\":\"publish\",\"title\":\"T\",\"content\":\"C\",\"date\":\"2024-05-01 10:00:00\"},{\"id\":2,\"kind\":\"post\",\"status\":\"publish\",\"title\":\"T\",\"content\":\"C\",\"date\":\"2024-02-30 10:00:00\"}]}")
+pub second_date : site_file_in
+    (codes "{\"version\":1,\"posts\":[{\"id\":1,\"kind\":\"post\",\"status\":\"publish\",\"title\":\"T\",\"content\":\"C\",\"date\":\"2024-05-01 10:00:00\"},{\"id\":2,\"kind\":\"post\",\"status\":\"publish\",\"title\":\"T\",\"content\":\"C\",\"date\":\"2024-02-30 10:00:00\"}]}")
     ≡ Err (BadDate (entry_of Posts 1))
 unfolding computes
 second_date = refl
 
-pub first_post_first : site_file_in (codes "{\"version\":1,\"posts\":[{\"id\":1,\"kind\":\"post\",\"status\":\"publish\",\"title\":\"T\",\"content\":\"C\",\"date\":\"2024-02-30 10:00:00\"},0]}")
+pub first_post_first : site_file_in
+    (codes "{\"version\":1,\"posts\":[{\"id\":1,\"kind\":\"post\",\"status\":\"publish\",\"title\":\"T\",\"content\":\"C\",\"date\":\"2024-02-30 10:00:00\"},0]}")
     ≡ Err (BadDate (entry_of Posts 0))
 unfolding computes
 first_post_first = refl

@@ -26,8 +26,8 @@ pub enum Section {
 #[derive(Clone, Copy, Debug, PartialEq, Eq)]
 pub struct Place {
     pub section: Section,
-    /// Counted from 0 in the order in which the section's entries are read; `None` if the section itself is at
-    /// fault.
+    /// Counted from 0 in the order in which the section's entries are read; `None` if the section
+    /// itself is at fault.
     pub entry: Option<usize>,
 }
 

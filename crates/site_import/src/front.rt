@@ -13,29 +13,29 @@ use std::alloc::{AllocError, Global};
 
 /// What a front shows: posts, or the page with an ID.
 #[derive(Clone, Copy)]
-pub(crate) enum Shown {
+pub(crate) enum FrontShown {
     Posts,
     Page(u32),
 }
 
-fn read_shown(value: &Value) -> Option<Shown>
+fn read_shown(value: &Value) -> Option<FrontShown>
     ensures { result ≡ shown_in (view value.now) }
 {
     match text_at(value, "show")? {
-        "posts" => Some(Shown::Posts),
-        "page" => Some(Shown::Page(id_at(value, "page")?)),
+        "posts" => Some(FrontShown::Posts),
+        "page" => Some(FrontShown::Page(id_at(value, "page")?)),
         _ => None,
     }
 }
 
 /// Returns the options that say what the front shows.
-fn options_for(alloc: Global, shown: Shown) -> Result<Listed<(Text, Text)>, AllocError>
+fn options_for(alloc: Global, shown: FrontShown) -> Result<Listed<(Text, Text)>, AllocError>
     ensures { IfOk result (λ options. options ≡ options_for shown) }
 {
     let mut options = Listed::empty(alloc);
     match shown {
-        Shown::Posts => options.push(option(alloc, "show_on_front", "posts")?)?,
-        Shown::Page(id) => {
+        FrontShown::Posts => options.push(option(alloc, "show_on_front", "posts")?)?,
+        FrontShown::Page(id) => {
             options.push(option(alloc, "show_on_front", "page")?)?;
             options.push(option(alloc, "page_on_front", Buffer::new().format(id))?)?;
         }

@@ -41,7 +41,14 @@ fn read_texts(value: &Value, id: u32, kind: PostKind, status: PostStatus) -> Opt
         ≡ with_found (text_at (codes "title") (view value.now)) (λ title.
         with_found (text_at (codes "content") (view value.now)) (λ content.
         with_found (text_at (codes "date") (view value.now)) (λ date.
-        Some (record { id = id; kind = kind; status = status; title = title; content = content; date = date })))) }
+        Some (record {
+          id = id;
+          kind = kind;
+          status = status;
+          title = title;
+          content = content;
+          date = date;
+        })))) }
 {
     let title = text_at(value, "title")?;
     let content = text_at(value, "content")?;

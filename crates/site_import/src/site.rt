@@ -3,7 +3,8 @@ ghost use Rattle.std.specs.Prelude.{◌≡◌, ◌≢◌, ◌≤◌, ◌++◌, O
 ghost use Rattle.serde_json.specs.View.{view};
 ghost use Rattle.site_records.specs.Ids.{max_id};
 ghost use Rattle.site_import.specs.Walks.{Reads};
-ghost use Rattle.site_import.specs.Site.{version_of, front_in, options_in, records_in, site_file_of, site_file_in};
+ghost use Rattle.site_import.specs.Site.{version_of, front_in, options_in, records_in};
+ghost use Rattle.site_import.specs.Site.{site_file_of, site_file_in};
 
 use crate::active::read_active;
 use crate::fault::{ImportFault, Place, Section};
@@ -92,9 +93,9 @@ fn read_records(alloc: Global, value: &Value) -> Result<SiteRecords, ImportFault
     read_sections(alloc, value, version)
 }
 
-/// Reads the records of a tree of version 1 or 2. Keys other than `version`, `posts`, `options`, `templates`, `active`
-/// and, in version 2, `front` are ignored. What `front` says becomes options after the others. Whether the IDs are new
-/// and the plugins exist isn't checked.
+/// Reads the records of a tree of version 1 or 2. Keys other than `version`, `posts`, `options`,
+/// `templates`, `active` and, in version 2, `front` are ignored. What `front` says becomes options
+/// after the others. Whether the IDs are new and the plugins exist isn't checked.
 pub fn read_site_value(alloc: Global, value: &Value) -> Result<SiteFile, ImportFault>
     ensures ok { IfOk result (λ file. site_file_of (view value.now) ≡ Ok file.records) }
     ensures err { IfErr result (λ fault. fault ≢ ImportFault.OutOfMemory

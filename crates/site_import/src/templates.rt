@@ -47,7 +47,8 @@ fn read_each(
     alloc: Global,
     members: &Map<String, Value>,
 ) -> Result<Listed<(Text, Text)>, ImportFault>
-    ensures { Reads (each_from template_at 0 (members_of (members_view members.now.entries))) result }
+    ensures { Reads (each_from template_at 0 (members_of (members_view members.now.entries)))
+        result }
 {
     let count = members.len();
     let mut pairs = Listed::empty(alloc);

@@ -8,10 +8,11 @@ ghost use Rattle.site_import.specs.Walks.{whole, entry_of};
 ghost use Rattle.site_import.specs.Site.{site_file_in};
 ghost use Rattle.site_import.specs.Worked.{no_records};
 
-/// States what some site files hold, and what the first fault of others is. The call itself does nothing: it carries
-/// these facts.
+/// States what some site files hold, and what the first fault of others is. The call itself does
+/// nothing: it carries these facts.
 pub fn worked_site_files()
-    // Bytes that are not a JSON text, a value that is not an object, and a version that is not known.
+    // Bytes that are not a JSON text, a value that is not an object, and a version that is not
+    // known.
     ensures no_text { site_file_in (codes "{\"version\":1")
         ≡ Err (ImportFault.BadImport (whole Section.Text)) }
     ensures no_object { site_file_in (codes "[]")
@@ -36,7 +37,8 @@ pub fn worked_site_files()
         ≡ Ok no_records }
 
     // Posts, with each of their keys.
-    ensures page { site_file_in (codes "{\"version\":1,\"posts\":[{\"id\":7,\"kind\":\"page\",\"status\":\"draft\",\"title\":\"T\",\"content\":\"C\",\"date\":\"2024-05-01 10:00:00\"}]}")
+    ensures page { site_file_in
+        (codes "{\"version\":1,\"posts\":[{\"id\":7,\"kind\":\"page\",\"status\":\"draft\",\"title\":\"T\",\"content\":\"C\",\"date\":\"2024-05-01 10:00:00\"}]}")
         ≡ Ok (record no_records {
           posts = record {
             id = 7;
@@ -49,18 +51,24 @@ pub fn worked_site_files()
         }) }
     ensures null_posts { site_file_in (codes "{\"version\":1,\"posts\":null}")
         ≡ Err (ImportFault.BadImport (whole Section.Posts)) }
-    ensures post_without_content { site_file_in (codes "{\"version\":1,\"posts\":[{\"id\":1,\"kind\":\"post\",\"status\":\"publish\",\"title\":\"T\",\"date\":\"2024-05-01 10:00:00\"}]}")
+    ensures post_without_content { site_file_in
+        (codes "{\"version\":1,\"posts\":[{\"id\":1,\"kind\":\"post\",\"status\":\"publish\",\"title\":\"T\",\"date\":\"2024-05-01 10:00:00\"}]}")
         ≡ Err (ImportFault.BadImport (entry_of Section.Posts 0)) }
-    ensures id_0 { site_file_in (codes "{\"version\":1,\"posts\":[{\"id\":0,\"kind\":\"post\",\"status\":\"publish\",\"title\":\"T\",\"content\":\"C\",\"date\":\"2024-05-01 10:00:00\"}]}")
+    ensures id_0 { site_file_in
+        (codes "{\"version\":1,\"posts\":[{\"id\":0,\"kind\":\"post\",\"status\":\"publish\",\"title\":\"T\",\"content\":\"C\",\"date\":\"2024-05-01 10:00:00\"}]}")
         ≡ Err (ImportFault.BadImport (entry_of Section.Posts 0)) }
-    ensures second_date { site_file_in (codes "{\"version\":1,\"posts\":[{\"id\":1,\"kind\":\"post\",\"status\":\"publish\",\"title\":\"T\",\"content\":\"C\",\"date\":\"2024-05-01 10:00:00\"},{\"id\":2,\"kind\":\"post\",\"status\":\"publish\",\"title\":\"T\",\"content\":\"C\",\"date\":\"2024-02-30 10:00:00\"}]}")
+    ensures second_date { site_file_in
+        (codes "{\"version\":1,\"posts\":[{\"id\":1,\"kind\":\"post\",\"status\":\"publish\",\"title\":\"T\",\"content\":\"C\",\"date\":\"2024-05-01 10:00:00\"},{\"id\":2,\"kind\":\"post\",\"status\":\"publish\",\"title\":\"T\",\"content\":\"C\",\"date\":\"2024-02-30 10:00:00\"}]}")
         ≡ Err (ImportFault.BadDate (entry_of Section.Posts 1)) }
-    ensures first_post_first { site_file_in (codes "{\"version\":1,\"posts\":[{\"id\":1,\"kind\":\"post\",\"status\":\"publish\",\"title\":\"T\",\"content\":\"C\",\"date\":\"2024-02-30 10:00:00\"},0]}")
+    ensures first_post_first { site_file_in
+        (codes "{\"version\":1,\"posts\":[{\"id\":1,\"kind\":\"post\",\"status\":\"publish\",\"title\":\"T\",\"content\":\"C\",\"date\":\"2024-02-30 10:00:00\"},0]}")
         ≡ Err (ImportFault.BadDate (entry_of Section.Posts 0)) }
 
     // Options and templates are read by name in the order of bytes.
     ensures options { site_file_in (codes "{\"version\":1,\"options\":{\"b\":\"2\",\"a\":\"1\"}}")
-        ≡ Ok (record no_records { options = (codes "a", codes "1") ∷ (codes "b", codes "2") ∷ [] }) }
+        ≡ Ok (record no_records {
+          options = (codes "a", codes "1") ∷ (codes "b", codes "2") ∷ [];
+        }) }
     ensures later_option { site_file_in (codes "{\"version\":1,\"options\":{\"b\":2,\"a\":\"1\"}}")
         ≡ Err (ImportFault.BadImport (entry_of Section.Options 1)) }
     ensures unnamed_option { site_file_in (codes "{\"version\":1,\"options\":{\"\":\"1\"}}")
@@ -69,7 +77,8 @@ pub fn worked_site_files()
         ≡ Err (ImportFault.BadImport (whole Section.Options)) }
     ensures template { site_file_in (codes "{\"version\":1,\"templates\":{\"index\":[ \"x\" ]}}")
         ≡ Ok (record no_records { templates = (codes "index", codes "[\"x\"]") ∷ [] }) }
-    ensures unknown_template { site_file_in (codes "{\"version\":1,\"templates\":{\"x\":[],\"index\":[]}}")
+    ensures unknown_template { site_file_in
+        (codes "{\"version\":1,\"templates\":{\"x\":[],\"index\":[]}}")
         ≡ Err (ImportFault.BadTemplate (entry_of Section.Templates 1)) }
     ensures null_template { site_file_in (codes "{\"version\":1,\"templates\":{\"index\":null}}")
         ≡ Err (ImportFault.BadTemplate (entry_of Section.Templates 0)) }
@@ -79,25 +88,31 @@ pub fn worked_site_files()
         ≡ Err (ImportFault.BadImport (entry_of Section.Active 1)) }
 
     // What the front shows: options after the others, in version 2 alone.
-    ensures front_page { site_file_in (codes "{\"version\":2,\"front\":{\"show\":\"page\",\"page\":7}}")
+    ensures front_page { site_file_in
+        (codes "{\"version\":2,\"front\":{\"show\":\"page\",\"page\":7}}")
         ≡ Ok (record no_records {
           options =
               (codes "show_on_front", codes "page") ∷ (codes "page_on_front", codes "7") ∷ [];
         }) }
-    ensures front_posts { site_file_in (codes "{\"version\":2,\"front\":{\"show\":\"posts\",\"page\":0}}")
+    ensures front_posts { site_file_in
+        (codes "{\"version\":2,\"front\":{\"show\":\"posts\",\"page\":0}}")
         ≡ Ok (record no_records { options = (codes "show_on_front", codes "posts") ∷ [] }) }
-    ensures front_after_options { site_file_in (codes "{\"version\":2,\"front\":{\"show\":\"posts\"},\"options\":{\"show_on_front\":\"page\",\"x\":\"1\"}}")
+    ensures front_after_options { site_file_in
+        (codes "{\"version\":2,\"front\":{\"show\":\"posts\"},\"options\":{\"show_on_front\":\"page\",\"x\":\"1\"}}")
         ≡ Ok (record no_records {
           options = (codes "show_on_front", codes "page")
               ∷ (codes "x", codes "1") ∷ (codes "show_on_front", codes "posts") ∷ [];
         }) }
-    ensures front_in_version_1 { site_file_in (codes "{\"version\":1,\"front\":{\"show\":\"page\",\"page\":7}}")
+    ensures front_in_version_1 { site_file_in
+        (codes "{\"version\":1,\"front\":{\"show\":\"page\",\"page\":7}}")
         ≡ Ok no_records }
     ensures front_x { site_file_in (codes "{\"version\":2,\"front\":{\"show\":\"x\"}}")
         ≡ Err (ImportFault.BadImport (whole Section.Front)) }
-    ensures front_without_page { site_file_in (codes "{\"version\":2,\"front\":{\"show\":\"page\"}}")
+    ensures front_without_page { site_file_in
+        (codes "{\"version\":2,\"front\":{\"show\":\"page\"}}")
         ≡ Err (ImportFault.BadImport (whole Section.Front)) }
-    ensures front_page_0 { site_file_in (codes "{\"version\":2,\"front\":{\"show\":\"page\",\"page\":0}}")
+    ensures front_page_0 { site_file_in
+        (codes "{\"version\":2,\"front\":{\"show\":\"page\",\"page\":0}}")
         ≡ Err (ImportFault.BadImport (whole Section.Front)) }
     ensures null_front { site_file_in (codes "{\"version\":2,\"front\":null}")
         ≡ Err (ImportFault.BadImport (whole Section.Front)) }
@@ -105,12 +120,15 @@ pub fn worked_site_files()
     // The first fault is that of the first section, wherever its key is.
     ensures posts_before_options { site_file_in (codes "{\"version\":1,\"options\":0,\"posts\":0}")
         ≡ Err (ImportFault.BadImport (whole Section.Posts)) }
-    ensures options_before_templates { site_file_in (codes "{\"version\":1,\"templates\":0,\"options\":0}")
+    ensures options_before_templates { site_file_in
+        (codes "{\"version\":1,\"templates\":0,\"options\":0}")
         ≡ Err (ImportFault.BadImport (whole Section.Options)) }
     ensures options_before_front { site_file_in (codes "{\"version\":2,\"front\":0,\"options\":0}")
         ≡ Err (ImportFault.BadImport (whole Section.Options)) }
-    ensures front_before_templates { site_file_in (codes "{\"version\":2,\"templates\":0,\"front\":0}")
+    ensures front_before_templates { site_file_in
+        (codes "{\"version\":2,\"templates\":0,\"front\":0}")
         ≡ Err (ImportFault.BadImport (whole Section.Front)) }
-    ensures templates_before_active { site_file_in (codes "{\"version\":1,\"active\":0,\"templates\":{\"x\":[]}}")
+    ensures templates_before_active { site_file_in
+        (codes "{\"version\":1,\"active\":0,\"templates\":{\"x\":[]}}")
         ≡ Err (ImportFault.BadTemplate (entry_of Section.Templates 0)) }
 {}

@@ -11,7 +11,13 @@ Grows-nil (Some x) = sym (append-nil x)
 -- some bytes of a reply wait after others
 pub front_waits : (a : Option (List ℕ)) (x y bytes : List ℕ) → AppendsFront (Some x) (Some y) bytes → AppendsFront (append_known a x) (append_known a y) bytes
 front_waits None x y bytes h = record { taken = h.taken; rest = h.rest; whole = h.whole; appends = tt }
-front_waits (Some s) x y bytes h = record { taken = h.taken; rest = h.rest; whole = h.whole; appends = ap (λ l. s ++ l) h.appends ∙ sym (append_assoc s x h.taken) }
+front_waits (Some s) x y bytes h = record {
+  taken = h.taken;
+  rest = h.rest;
+  whole = h.whole;
+  appends = ap (λ l. s ++ l) h.appends
+      ∙ sym (append_assoc s x h.taken);
+}
 
 -- all of them do
 pub whole_waits : (a : Option (List ℕ)) (x y bytes : List ℕ) → Appends (Some x) (Some y) bytes → AppendsFront (append_known a x) (append_known a y) bytes

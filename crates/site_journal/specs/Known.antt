@@ -14,8 +14,8 @@ module _ {S : Type 0} (g : Ghosts S) where
   IsOpenIfClean h = HasCleanDisk (state g h) → IsOpen g h
 
   -- the lines of the log and these, as long as the log is open
-  abbrev pub known : Held S → List (List ℕ) → Option (List (List ℕ))
-  known h more = if (state g h).is_open then Some (lines_of g h ++ more) else None
+  abbrev pub known_lines : Held S → List (List ℕ) → Option (List (List ℕ))
+  known_lines h more = if (state g h).is_open then Some (lines_of g h ++ more) else None
 
   -- with an honest disk a crash at this moment may leave these lines
   abbrev pub MayHold : Held S → List (List ℕ) → Type 0

@@ -2,13 +2,14 @@
 ghost use Rattle.std.specs.Prelude.{◌≡◌, ◌⊎◌, ◌∷◌, ◌++◌, [], List, ℕ, Some, map, OnOk};
 ghost use Rattle.std.specs.String.{string_bytes};
 ghost use Rattle.ends.specs.Journal.{Grows};
-ghost use Rattle.site_journal.specs.Known.{IsOpenIfClean, MayHold, known};
+ghost use Rattle.site_journal.specs.Known.{IsOpenIfClean, MayHold, known_lines};
 
 use command_log::{CommandLog, LogFault};
 use sqlite_trees::store::Alter;
 use std::alloc::Global;
 
-/// Appends a copy of the line. The fault is `NotText` if it is not UTF-8, as the line of an edit that was done always is.
+/// Appends a copy of the line. The fault is `NotText` if it is not UTF-8, as the line of an edit
+/// that was done always is.
 pub(crate) fn hold(alloc: Global, lines: &mut Vec<String>, line: &[u8]) -> Result<(), LogFault>
     ensures ok { OnOk result (map string_bytes lines.new.items
         ≡ map string_bytes lines.old.items ++ line.now ∷ []) }
@@ -28,13 +29,15 @@ pub(crate) fn commit<S: Alter>(
     lines: &mut Vec<String>,
 ) -> Result<(), LogFault>
     ensures none { OnOk result (lines.new.items ≡ []) }
-    ensures noted { Grows (known S.Store log.old (map string_bytes lines.old.items))
-        (known S.Store log.new (map string_bytes lines.new.items)) [] }
+    ensures noted { Grows (known_lines S.Store log.old (map string_bytes lines.old.items))
+        (known_lines S.Store log.new (map string_bytes lines.new.items)) [] }
     ensures stays { IsOpenIfClean S.Store log.old → OnOk result (IsOpenIfClean S.Store log.new) }
 
     // Whatever a crash leaves was left before, or it is the log with all of the lines.
     ensures commits { (held : List (List ℕ)) → MayHold S.Store log.new held
-        → MayHold S.Store log.old held ⊎ (known S.Store log.old (map string_bytes lines.old.items) ≡ Some held) }
+        → MayHold S.Store log.old held
+        ⊎ (known_lines S.Store log.old (map string_bytes lines.old.items)
+        ≡ Some held) }
 {
     if lines.is_empty() {
         return Ok(());

@@ -2,7 +2,7 @@
 ghost use Rattle.std.specs.Prelude.{◌≡◌, ◌||◌, Some, IsSome, IsTrue, List, ℕ, [], map, is_some};
 ghost use Rattle.std.specs.String.{string_bytes};
 ghost use Rattle.ends.specs.Journal.{IsSettled};
-ghost use Rattle.site_journal.specs.Known.{IsOpenIfClean, MayHold, fault_in, known};
+ghost use Rattle.site_journal.specs.Known.{IsOpenIfClean, MayHold, fault_in, known_lines};
 
 use crate::commit::{commit, hold};
 use crate::steady::Steady;
@@ -17,10 +17,12 @@ const MAX_WAITING: usize = 1_048_576;
 
 /// A journal over a log and a sink.
 ///
-/// While no line waits to be committed, a reply goes straight to the sink. From the first line that is noted on, each
-/// reply waits until `settle` has committed the lines. More than 1,048,576 waiting bytes settle the journal at once.
+/// While no line waits to be committed, a reply goes straight to the sink. From the first line that
+/// is noted on, each reply waits until `settle` has committed the lines. More than 1,048,576
+/// waiting bytes settle the journal at once.
 ///
-/// If a commit fails, none of the replies that wait is written, and [`fault`](LogJournal::fault) says why.
+/// If a commit fails, none of the replies that wait is written, and [`fault`](LogJournal::fault)
+/// says why.
 pub struct LogJournal<S: Alter, W> {
     log: CommandLog<S>,
     sink: W,
@@ -47,7 +49,7 @@ impl<S: Alter, W: Steady> LogJournal<S, W> {
     /// Makes a journal in which nothing waits.
     pub fn new(alloc: Global, log: CommandLog<S>, sink: W) -> Self
         ensures written { ⟦<LogJournal<S, W> as Journal>⟧.written result ≡ W.contents sink }
-        ensures noted { ⟦<LogJournal<S, W> as Journal>⟧.noted result ≡ known S.Store log [] }
+        ensures noted { ⟦<LogJournal<S, W> as Journal>⟧.noted result ≡ known_lines S.Store log [] }
         ensures sound { ⟦<LogJournal<S, W> as Journal>⟧.has_failed result ≡ W.has_failed sink }
 
         // Over an open log it is settled.
@@ -67,11 +69,12 @@ impl<S: Alter, W: Steady> LogJournal<S, W> {
         }
     }
 
-    /// Returns why lines could not be committed, or `OutOfMemory` if a line or a reply could not wait. It is `None` as
-    /// long as no call has failed, and if only the sink has.
+    /// Returns why lines could not be committed, or `OutOfMemory` if a line or a reply could not
+    /// wait. It is `None` as long as no call has failed, and if only the sink has.
     pub fn fault(&self) -> Option<LogFault>
         ensures kept { result ≡ fault_in self.now }
-        ensures failed { IsSome result → IsTrue (⟦<LogJournal<S, W> as Journal>⟧.has_failed self.now) }
+        ensures failed { IsSome result
+            → IsTrue (⟦<LogJournal<S, W> as Journal>⟧.has_failed self.now) }
     {
         self.fault
     }
@@ -80,7 +83,8 @@ impl<S: Alter, W: Steady> LogJournal<S, W> {
 impl<S: Alter + Drop, W: Steady + Drop> LogJournal<S, W> {
     /// Returns the log. What waits is lost.
     pub fn into_log(self) -> CommandLog<S>
-        ensures opened { ⟦<LogJournal<S, W> as Journal>⟧.is_open self → IsOpenIfClean S.Store result }
+        ensures opened { ⟦<LogJournal<S, W> as Journal>⟧.is_open self
+            → IsOpenIfClean S.Store result }
         ensures held { (held : List (List ℕ)) → MayHold S.Store result held
             → ⟦<LogJournal<S, W> as Journal>⟧.may_hold self held }
     {
@@ -103,7 +107,7 @@ impl<S: Alter, W: Steady> Journal for LogJournal<S, W> {
 
     ghost has_failed = { λ j. is_some (fault_in j) || (W.has_failed j.sink || j.waiting.failed) };
 
-    ghost noted = { λ j. known S.Store j.log (map string_bytes j.lines.items) };
+    ghost noted = { λ j. known_lines S.Store j.log (map string_bytes j.lines.items) };
 
     ghost written = { λ j. W.contents j.sink };
 

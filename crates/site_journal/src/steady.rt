@@ -6,8 +6,8 @@ use std::io::{Print, Printer};
 
 /// A sink that always tells its bytes, or never.
 ///
-/// A journal tells the bytes that it has taken by those that its sink tells and those that wait, so no write may change
-/// whether the sink tells them.
+/// A journal tells the bytes that it has taken by those that its sink tells and those that wait, so
+/// no write may change whether the sink tells them.
 pub trait Steady: Sink {
     /// Whether it tells its bytes.
     ghost tells: { Bool };

@@ -3,15 +3,17 @@ use Rattle.std.proofs.Common.{ℕ, ◌+◌, ◌≤◌, List, [], ◌∷◌, ◌+
 use Rattle.hook_changes.specs.declared.reply.Change.{Change}
 use Rattle.hook_changes.specs.declared.reply.Change.TheVariants.{Add, Remove, RemoveAll, AddTag, RemoveTag, RemoveAllTags}
 use Rattle.callback_store.specs.Shape.{Shape}
-use Rattle.hook_machine.specs.World.{Text, World, changed, changed_all, core_changes, load_changes, fresh, loaded}
+use Rattle.hook_machine.specs.World.{Text, World, world_after_change, world_after_changes, core_changes, load_changes, fresh, loaded}
 use Rattle.hook_machine.specs.Meaning.{Engine}
 use Rattle.hook_machine.specs.Throughout.{IsWithinCalls, IsWithinDepth}
 use Rattle.post_tables.specs.Rows.{Rows}
 use Rattle.template_parts.proofs.Keeping.{calls-page, depth-page}
-use Rattle.site_program.specs.Requests.{Texts, HasRunNothing, first_world, settings_for, found_by, options_of, templates_of, active_of, page_pass, work_of, requested}
+use Rattle.site_program.specs.Requests.{Texts, HasRunNothing, first_world, settings_for, found_by, options_of, templates_of, active_of, page_pass, work_of}
+use Rattle.site_program.specs.Requests.{requested}
 
 -- a change touches registrations and tags alone
-changed-still : (most : ℕ) (plugins : List Shape) (world : World) (c : Change) → HasRunNothing most world → HasRunNothing most (changed plugins world c)
+changed-still : (most : ℕ) (plugins : List Shape) (world : World) (c : Change) → HasRunNothing most world
+    → HasRunNothing most (world_after_change plugins world c)
 changed-still most plugins world (Add hook priority callback accepted) is = is
 changed-still most plugins world (Remove hook priority callback) is = is
 changed-still most plugins world (RemoveAll hook priority) is = is
@@ -20,9 +22,10 @@ changed-still most plugins world (RemoveTag tag) is = is
 changed-still most plugins world RemoveAllTags is = is
 
 changed_all-still : (most : ℕ) (plugins : List Shape) (world : World) (cs : List Change) → HasRunNothing most world
-    → HasRunNothing most (changed_all plugins world cs)
+    → HasRunNothing most (world_after_changes plugins world cs)
 changed_all-still most plugins world [] is = is
-changed_all-still most plugins world (c ∷ cs) is = changed_all-still most plugins (changed plugins world c) cs (changed-still most plugins world c is)
+changed_all-still most plugins world (c ∷ cs) is = changed_all-still most plugins (world_after_change plugins world c) cs
+    (changed-still most plugins world c is)
 
 module _ (engine : Engine) (calls : ℕ) where
   pub begins : (options : Texts) (active : List Text) → HasRunNothing calls (first_world engine calls options active)

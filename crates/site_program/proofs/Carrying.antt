@@ -16,10 +16,10 @@ use Rattle.site_replies.specs.declared.reply.Refusal.TheVariants.{TooLarge, NoSu
 use Rattle.site_replies.specs.declared.reply.SiteReply.{SiteReply}
 use Rattle.site_replies.specs.declared.reply.SiteReply.TheVariants as reply
 use Rattle.site_replies.specs.Reply.{ReplyData, reply_data}
-use Rattle.site_edits.specs.declared.fault.StoreFault.{StoreFault}
-use Rattle.site_edits.specs.declared.fault.StoreFault.TheVariants as store
+use Rattle.post_tables.specs.declared.fault.StoreFault.{StoreFault}
+use Rattle.post_tables.specs.declared.fault.StoreFault.TheVariants as store
 use Rattle.site_edits.specs.Carried.{CarriesOut}
-use Rattle.site_edits.specs.Faults.{IsReadFault}
+use Rattle.post_tables.specs.Faults.{IsStoreReadFault}
 use Rattle.site_edits.specs.Late.{rests_on_rows, may_be_late}
 use Rattle.site_program.specs.Requests.{Opened, requested, refusal_of}
 use Rattle.site_program.specs.State.{State, page_in, with_page, without_page, after_turns}
@@ -69,7 +69,8 @@ lifted_got engine calls site path result rows done =
 -- ---- `begin`
 
 module _ (engine : Engine) (calls : ℕ) (site : State) (path : List ℕ) where
-  pub begun-long : nat_le (length path) max_path ≡ false → CarriesOn (Some (asked.begin path)) site (begun engine calls site path) (Ok (reply.Refused TooLarge)) site
+  pub begun-long : nat_le (length path) max_path ≡ false → CarriesOn (Some (asked.begin path)) site (begun engine calls site path) (Ok (reply.Refused TooLarge))
+      site
   unfolding begun
   begun-long long = record { ok = rw long refl; err = tt; late = tt }
 
@@ -86,14 +87,14 @@ module _ (engine : Engine) (calls : ℕ) (site : State) (path : List ℕ) where
     begun-in place new free is = record { ok = rw (le-leb _ _ short, free, is) refl; err = tt; late = tt }
 
     -- the database refuses it only with a limit on steps
-    begun-late : (place : ℕ) (why : StoreFault) → position is_none site.pages ≡ Some place → IsReadFault site.rows.step_limit why → why ≡ store.Store
+    begun-late : (place : ℕ) (why : StoreFault) → position is_none site.pages ≡ Some place → IsStoreReadFault site.rows.step_limit why → why ≡ store.Store
         → (is_some site.rows.step_limit && rests_on_rows (begun engine calls site path).1) ≡ true
     unfolding begun
     begun-late place why free (inl memory) is = absurd (let clash = sym memory ∙ is in cc)
     begun-late place why free (inr late) is = rw (le-leb _ _ short, free, late.1) refl
 
     pub begun-stopped : (place : ℕ) (new : State) (why : StoreFault) → position is_none site.pages ≡ Some place → new ≡ site
-        → IsReadFault site.rows.step_limit why → CarriesOn (Some (asked.begin path)) site (begun engine calls site path) (Err why) new
+        → IsStoreReadFault site.rows.step_limit why → CarriesOn (Some (asked.begin path)) site (begun engine calls site path) (Err why) new
     begun-stopped place new why free same stopped = record {
       ok = tt;
       err = inl same;

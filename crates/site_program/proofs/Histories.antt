@@ -3,11 +3,11 @@ use Rattle.std.proofs.Common.{◌≡◌, ◌∙◌, List, [], ◌∷◌, ◌++�
 use Rattle.std.proofs.lemmas.List.{map-append}
 use Rattle.std.proofs.lemmas.List.Elements.{filter-append}
 use Rattle.site_replies.specs.Reply.{ReplyData}
-use Rattle.site_program.specs.History.{Replied, Serves, is_kept, lines_in, kept, history}
+use Rattle.site_program.specs.History.{Replied, Serves, is_kept, lines_in, kept_history, history}
 use Rattle.site_program.specs.State.{State}
 
 pub history-append : (before after : List Replied) → history (before ++ after) ≡ history before ++ history after
-history-append before after = ap lines_in (filter-append is_kept before after) ∙ map-append (λ r. r.line) (kept before) (kept after)
+history-append before after = ap lines_in (filter-append is_kept before after) ∙ map-append (λ r. r.line) (kept_history before) (kept_history after)
 
 module _ (steps : State → List ℕ → State × ReplyData) where
   pub Serves-append : (old mid new : State) (before after : List Replied) → Serves steps old before mid → Serves steps mid after new

@@ -14,7 +14,7 @@ use Rattle.site_commands.specs.Worked.{line_command}
 use Rattle.site_replies.specs.declared.reply.Refusal.TheVariants.{TooLarge}
 use Rattle.site_replies.specs.Reply.{ReplyData, refused}
 use Rattle.template_parts.specs.Pages as template
-use Rattle.site_program.specs.Requests.{Texts, settings_for, page_pass, Opened, opened, requested, request, found_by, options_of, templates_of, active_of}
+use Rattle.site_program.specs.Requests.{Texts, settings_for, page_pass, Opened, opened_page, requested, request, found_by, options_of, templates_of, active_of}
 use Rattle.site_program.specs.History.{Replied, lines_in, AreCarriedOut, Serves, site_after, replies_to}
 use Rattle.site_program.specs.State.{State, empty_site}
 use Rattle.site_program.specs.Step.{got, begun, opened_in, max_path, over_rows, carried_out, step}
@@ -40,7 +40,7 @@ module _ (one other : Engine) (calls : ℕ) where
   pub requested-same : (rows : Rows) (path : Text) → AgreeOn (active_of rows) one other → requested one calls rows path ≡ requested other calls rows path
   unfolding requested
   requested-same rows path agree =
-      ap (opened (found_by rows path).status) (page-same (found_by rows path) (options_of rows) (templates_of rows) (active_of rows) agree)
+      ap (opened_page (found_by rows path).status) (page-same (found_by rows path) (options_of rows) (templates_of rows) (active_of rows) agree)
 
   pub request-same : (rows : Rows) (path : Text) → AgreeOn (active_of rows) one other → request one calls rows path ≡ request other calls rows path
   request-same rows path agree = ap (λ (page : Opened). page.answer) (requested-same rows path agree)
@@ -84,12 +84,14 @@ module _ (one other : Engine) (calls : ℕ) where
 
 -- ---- whole lists of lines, of any steps
 
-module _ {X : Type 0} (first second : X → List ℕ → X × ReplyData) (Good : X → Type 0) (same : (x : X) (line : List ℕ) → Good x → first x line ≡ second x line) where
-  pub through-same : (x : X) (lines : List (List ℕ)) → Good x → AllByRecursion (λ s. Good s.0) (through first x lines) → through first x lines ≡ through second x lines
-  through-same x [] good all = refl
-  through-same x (line ∷ lines) good all =
-      ap (λ rest. first x line ∷ rest) (through-same (first x line).0 lines all.0 all.1)
-      ∙ ap (λ s. s ∷ through second s.0 lines) (same x line good)
+module _ {X : Type 0} (first second : X → List ℕ → X × ReplyData) (Good : X → Type 0) (same : (x : X) (line : List ℕ) → Good x → first x line ≡ second x line)
+  where
+    pub through-same : (x : X) (lines : List (List ℕ)) → Good x → AllByRecursion (λ s. Good s.0) (through first x lines) → through first x lines
+        ≡ through second x lines
+    through-same x [] good all = refl
+    through-same x (line ∷ lines) good all =
+        ap (λ rest. first x line ∷ rest) (through-same (first x line).0 lines all.0 all.1)
+        ∙ ap (λ s. s ∷ through second s.0 lines) (same x line good)
 
 -- the lines, each with the reply to it
 abbrev told : List (List ℕ) → List (State × ReplyData) → List Replied

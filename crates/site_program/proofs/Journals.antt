@@ -1,5 +1,6 @@
 -- Lemmas on what serving notes in a journal, and what it lets out of it.
-use Rattle.std.proofs.Common.{◌≡◌, ◌⊎◌, inl, inr, ℕ, List, [], ◌∷◌, ◌++◌, ◌∙◌, Option, Some, None, Bool, true, false, refl, sym, ap, subst, append_assoc, append-nil, flat_map}
+use Rattle.std.proofs.Common.{◌≡◌, ◌⊎◌, inl, inr, ℕ, List, [], ◌∷◌, ◌++◌, ◌∙◌, Option, Some, None, Bool, true, false, refl, sym, ap, subst, append_assoc}
+use Rattle.std.proofs.Common.{append-nil, flat_map}
 use Rattle.std.proofs.Common.{Result, Ok, Err, ◌<◌, length, arith}
 use Rattle.std.specs.Prelude.{All, OnOk, OnErr, IfSome}
 use Rattle.std.specs.Io.KnownBytes.{Appends, Consumes, append_known}
@@ -14,8 +15,9 @@ use Rattle.ends.specs.Journal.{Grows, IsFront}
 use Rattle.ends.specs.declared.journal.Journal.{Ghosts}
 use Rattle.site_replies.specs.Reply.{ReplyData, bytes_of}
 use Rattle.site_program.specs.History.{Replied, Serves, is_kept, lines_in, written_for, history}
-use Rattle.site_program.specs.Journaled.{IsSettled, IsQuiet, LetsOut, IsAhead, IsNoted, KeepsAhead, noted_of, Enters, GoesAhead, Outgoing, Handles, Records, Stopped}
-use Rattle.site_program.specs.Lines.{lines_of, IsLine, ended}
+use Rattle.site_program.specs.Journaled.{IsSettled, IsQuiet, LetsOut, IsAhead, IsNoted, KeepsAhead, noted_of, Enters, GoesAhead, Outgoing, Handles, Records}
+use Rattle.site_program.specs.Journaled.{Stopped}
+use Rattle.site_program.specs.Lines.{lines_of, IsLine, with_newline}
 use Rattle.site_program.specs.Serving.{FailsAt}
 use Rattle.site_program.specs.State.{State}
 use Rattle.site_program.specs.Step.{IsReply}
@@ -185,7 +187,8 @@ module _ {J : Type 0} (g : Ghosts J) where
       inr (replied, [], append-nil replied, subst (λ n. Grows (g.noted old) n (history replied)) is grows, front)
 
   -- what was let out at lines whose edits are noted
-  Outgoing-noted : (meant : Option (List (List ℕ))) (old new : J) (replied : List Replied) → LetsOut g meant old new → Grows (g.noted old) meant (history replied)
+  Outgoing-noted : (meant : Option (List (List ℕ))) (old new : J) (replied : List Replied) → LetsOut g meant old new
+      → Grows (g.noted old) meant (history replied)
       → (IsFront (g.written old) (g.contents old) → IsFront (g.written new) (append_known (g.contents old) (written_for replied)))
       → Outgoing g old new replied
   Outgoing-noted meant old new replied out grows front = record {
@@ -275,15 +278,16 @@ module _ {J : Type 0} (g : Ghosts J) where
       out = Outgoing-quiet j j [] (record { same = refl; held = λ held h. h });
     }
 
-    one_line : (line rest : List ℕ) (reply : ReplyData) → ended line ++ rest ≡ flat_map ended (lines_in (record { line = line; reply = reply } ∷ [])) ++ rest
-    one_line line rest reply = ap (λ l. l ++ rest) (sym (append-nil (ended line)))
+    one_line : (line rest : List ℕ) (reply : ReplyData) → with_newline line ++ rest
+        ≡ flat_map with_newline (lines_in (record { line = line; reply = reply } ∷ [])) ++ rest
+    one_line line rest reply = ap (λ l. l ++ rest) (sym (append-nil (with_newline line)))
 
     written_one : (line : List ℕ) (reply : ReplyData) → written_for (record { line = line; reply = reply } ∷ []) ≡ bytes_of reply
     written_one line reply = append-nil (bytes_of reply)
 
     -- a line was handled
     pub Records-one : {E : Type 0} (site after : State) (line rest : List ℕ) (old new : J) (result : Result (Unit {0}) E) (x : Unit {0}) → result ≡ Ok x
-        → IsLine line → Handles g steps site line old new result after → Records g steps site (ended line ++ rest) old new after rest
+        → IsLine line → Handles g steps site line old new result after → Records g steps site (with_newline line ++ rest) old new after rest
     Records-one {E} site after line rest old new result x ok line_is h =
         let r : Replied = record { line = line; reply = h.reply } in
         let known = subst (λ t. OnOk t (Grows h.enters.meant (g.noted new) [])) ok h.enters.noted in
@@ -318,12 +322,13 @@ module _ {J : Type 0} (g : Ghosts J) where
           (λ f. IsFront-taken _ _ _ _ (out.front f) (rw same (Appends-nil (g.contents old))));
     }
 
-    joined : (xs ys : List Replied) (s t held rest : List ℕ) → s ≡ flat_map ended (lines_in xs) ++ held → held ++ t ≡ flat_map ended (lines_in ys) ++ rest
-        → s ++ t ≡ flat_map ended (lines_in (xs ++ ys)) ++ rest
+    joined : (xs ys : List Replied) (s t held rest : List ℕ) → s ≡ flat_map with_newline (lines_in xs) ++ held → held ++ t ≡ flat_map with_newline (lines_in ys)
+        ++ rest
+        → s ++ t ≡ flat_map with_newline (lines_in (xs ++ ys)) ++ rest
     joined xs ys s t held rest p q =
-        ap (λ l. l ++ t) p ∙ append_assoc (flat_map ended (lines_in xs)) held t ∙ ap (λ l. flat_map ended (lines_in xs) ++ l) q
-        ∙ sym (append_assoc (flat_map ended (lines_in xs)) (flat_map ended (lines_in ys)) rest)
-        ∙ ap (λ l. l ++ rest) (sym (flat_map-append ended (lines_in xs) (lines_in ys)) ∙ ap (flat_map ended) (sym (lines-append xs ys)))
+        ap (λ l. l ++ t) p ∙ append_assoc (flat_map with_newline (lines_in xs)) held t ∙ ap (λ l. flat_map with_newline (lines_in xs) ++ l) q
+        ∙ sym (append_assoc (flat_map with_newline (lines_in xs)) (flat_map with_newline (lines_in ys)) rest)
+        ∙ ap (λ l. l ++ rest) (sym (flat_map-append with_newline (lines_in xs) (lines_in ys)) ∙ ap (flat_map with_newline) (sym (lines-append xs ys)))
 
     pub Records-trans : (one two three : State) (stretch held more rest : List ℕ) (a b c : J) → Records g steps one stretch a b two held
         → Records g steps two (held ++ more) b c three rest → Records g steps one (stretch ++ more) a c three rest
@@ -342,14 +347,15 @@ module _ {J : Type 0} (g : Ghosts J) where
     -- more bytes come
     pub Records-more : (site after : State) (stretch held more : List ℕ) (a b : J) → Records g steps site stretch a b after held
         → Records g steps site (stretch ++ more) a b after (held ++ more)
-    Records-more site after stretch held more a b p = Records-trans site after after stretch held more (held ++ more) a b b p (Records-nil after b (held ++ more))
+    Records-more site after stretch held more a b p = Records-trans site after after stretch held more (held ++ more) a b b p
+        (Records-nil after b (held ++ more))
 
     -- ---- a fault
 
     lines_of-records : (site after : State) (stretch rest later : List ℕ) (a b : J) (p : Records g steps site stretch a b after rest)
         → lines_of (stretch ++ later) ≡ lines_in p.replied ++ lines_of (rest ++ later)
     lines_of-records site after stretch rest later a b p =
-        ap lines_of (ap (λ l. l ++ later) p.whole ∙ append_assoc (flat_map ended (lines_in p.replied)) rest later)
+        ap lines_of (ap (λ l. l ++ later) p.whole ∙ append_assoc (flat_map with_newline (lines_in p.replied)) rest later)
         ∙ lines_of-ended (lines_in p.replied) (rest ++ later) p.each
 
     pub Stopped-at : (site after : State) (stretch rest : List ℕ) (a b : J) → Records g steps site stretch a b after rest
@@ -389,13 +395,14 @@ module _ {J : Type 0} (g : Ghosts J) where
 
     -- the reply to a line that ends was not entered whole
     pub Stopped-one : {E : Type 0} (site after : State) (line rest : List ℕ) (old new : J) (result : Result (Unit {0}) E) (e : E) → result ≡ Err e
-        → IsLine line → Handles g steps site line old new result after → Stopped g steps site (ended line ++ rest) old new after
+        → IsLine line → Handles g steps site line old new result after → Stopped g steps site (with_newline line ++ rest) old new after
     Stopped-one {E} site after line rest old new result e err line_is h = record {
       replied = record { line = line; reply = h.reply } ∷ [];
       served = (after, h.replied, refl);
       first = λ later. (
         lines_of (rest ++ later),
-        ap lines_of (append_assoc (ended line) rest later ∙ append_assoc line (10 ∷ []) (rest ++ later)) ∙ lines_of-line line (rest ++ later) line_is.one,
+        ap lines_of (append_assoc (with_newline line) rest later ∙ append_assoc line (10 ∷ []) (rest ++ later))
+            ∙ lines_of-line line (rest ++ later) line_is.one,
       );
       out = Outgoing-failed site after line old new result e err h;
     }
@@ -424,7 +431,8 @@ module _ {J : Type 0} (g : Ghosts J) where
     }
 
     -- the reply was taken, and still waits
-    pub Handles-waiting : {E F : Type 0} (site after : State) (line : List ℕ) (a b c : J) (x : Unit {0}) (e : F) → Handles g steps {E = E} site line a b (Ok x) after
+    pub Handles-waiting : {E F : Type 0} (site after : State) (line : List ℕ) (a b c : J) (x : Unit {0}) (e : F) → Handles g steps {E = E} site line a b
+        (Ok x) after
         → LetsOut g (g.noted b) b c → g.contents c ≡ g.contents b → Grows (g.noted b) (g.noted c) [] → Handles g steps {E = F} site line a c (Err e) after
     Handles-waiting {E} {F} site after line a b c x e h out contents noted = record {
       reply = h.reply;
@@ -437,8 +445,8 @@ module _ {J : Type 0} (g : Ghosts J) where
     -- ---- one line more
 
     -- the line that ends with the part
-    ended_part : (held part : List ℕ) → ended (held ++ part) ++ [] ≡ held ++ (part ++ 10 ∷ [])
-    ended_part held part = append-nil (ended (held ++ part)) ∙ append_assoc held part (10 ∷ [])
+    ended_part : (held part : List ℕ) → with_newline (held ++ part) ++ [] ≡ held ++ (part ++ 10 ∷ [])
+    ended_part held part = append-nil (with_newline (held ++ part)) ∙ append_assoc held part (10 ∷ [])
 
     pub Records-line : {E : Type 0} (one two three : State) (stretch held part : List ℕ) (a b c : J) (x : Unit {0}) → Records g steps one stretch a b two held
         → IsLine (held ++ part) → Handles g steps {E = E} two (held ++ part) b c (Ok x) three
@@ -478,7 +486,7 @@ module _ {J : Type 0} (g : Ghosts J) where
         → stretch ++ (part ++ (10 ∷ back)) ≡ all → Stopped g steps one all a c three
     Stopped-line one two three stretch held part back all a b c e p line h whole =
         let last = Stopped-one two three (held ++ part) back b c (Err e) e refl line h in
-        let cut : ended (held ++ part) ++ back ≡ held ++ (part ++ (10 ∷ back)) =
+        let cut : with_newline (held ++ part) ++ back ≡ held ++ (part ++ (10 ∷ back)) =
         append_assoc (held ++ part) (10 ∷ []) back ∙ append_assoc held part (10 ∷ back) in
         subst (λ s. Stopped g steps one s a c three) whole
         (Stopped-after one two three stretch held (part ++ (10 ∷ back)) a b c p (subst (λ s. Stopped g steps two s b c three) cut last))
@@ -521,7 +529,8 @@ module _ {J : Type 0} (g : Ghosts J) where
         → lines_in (replied ++ record { line = line; reply = reply } ∷ []) ≡ lines_in replied ++ line ∷ []
     with_last replied line reply = lines-append replied (record { line = line; reply = reply } ∷ [])
 
-    pub KeepsAhead-last : {E : Type 0} (site mid after : State) (stretch held line : List ℕ) (given left : Option (List ℕ)) (a b c : J) (result : Result (Unit {0}) E)
+    pub KeepsAhead-last : {E : Type 0} (site mid after : State) (stretch held line : List ℕ) (given left : Option (List ℕ)) (a b c : J)
+        (result : Result (Unit {0}) E)
         → IsSettled g a → Consumes given left stretch → IsAtEnd left → Records g steps site stretch a b mid held → IsLine held → 0 < length held
         → line ≡ held → Handles g steps mid line b c result after → KeepsAhead g steps site given a c after
     KeepsAhead-last site mid after stretch held line given left a b c result settled read end p is_line some same handled =
@@ -529,8 +538,11 @@ module _ {J : Type 0} (g : Ghosts J) where
         let r : Replied = record { line = held; reply = h.reply } in record {
           replied = p.replied ++ r ∷ [];
           served = Serves-append steps site mid after p.replied (r ∷ []) p.served (after, h.replied, refl);
-          first = at_end steps (λ input. (further : List (List ℕ)) × (lines_of input ≡ lines_in (p.replied ++ r ∷ []) ++ further)) given left stretch read end
-              ([], lines_of-all site mid stretch held a b p is_line some ∙ sym (with_last p.replied held h.reply) ∙ sym (append-nil (lines_in (p.replied ++ r ∷ []))));
+          first = at_end steps (λ input. (further : List (List ℕ)) × (lines_of input ≡ lines_in (p.replied ++ r ∷ []) ++ further)) given left stretch read end (
+            [],
+            lines_of-all site mid stretch held a b p is_line some ∙ sym (with_last p.replied held h.reply)
+                ∙ sym (append-nil (lines_in (p.replied ++ r ∷ []))),
+          );
           ahead = ahead_from a c (p.replied ++ r ∷ []) settled
               (Outgoing-trans a b c p.replied (r ∷ []) p.noted p.taken p.front p.stays p.out (Outgoing-one mid after held b c result h));
         }
@@ -545,9 +557,11 @@ module _ {J : Type 0} (g : Ghosts J) where
           served = Serves-append steps site mid after p.replied (r ∷ []) p.served (after, h.replied, refl);
           whole = at_end steps (λ input. lines_of input ≡ lines_in (p.replied ++ r ∷ [])) given left stretch read end
               (lines_of-all site mid stretch held a b p is_line some ∙ sym (with_last p.replied held h.reply));
-          taken = subst (Appends (g.contents a) (g.contents c)) (sym (written-append p.replied (r ∷ []) ∙ ap (λ l. written_for p.replied ++ l) (written_one held h.reply)))
+          taken = subst (Appends (g.contents a) (g.contents c))
+              (sym (written-append p.replied (r ∷ []) ∙ ap (λ l. written_for p.replied ++ l) (written_one held h.reply)))
               (Appends-trans _ _ _ _ _ p.taken h.taken);
-          noted = subst (Grows (g.noted a) (g.noted c)) (sym (history-append p.replied (r ∷ []))) (Grows-trans _ _ _ _ _ p.noted (Grows-same _ _ _ _ h.enters.grows h.enters.noted));
+          noted = subst (Grows (g.noted a) (g.noted c)) (sym (history-append p.replied (r ∷ [])))
+              (Grows-trans _ _ _ _ _ p.noted (Grows-same _ _ _ _ h.enters.grows h.enters.noted));
         }
 
     pub IsNoted-end : (site after : State) (stretch held : List ℕ) (given left : Option (List ℕ)) (a b : J) → Consumes given left stretch → IsAtEnd left

@@ -102,7 +102,8 @@ module _ (rows : Rows) (options templates : Option Texts) (active : Option (List
         options = tt;
         templates = up.templates;
         active = up.active;
-        found = All-weaker (λ t. t.1 ≡ found_by rows t.0) (λ t. t.1 ≡ found_by changed t.0) (λ t is. is ∙ sym (finds_the_same rows name value unread t.0)) kept up.found;
+        found = All-weaker (λ t. t.1 ≡ found_by rows t.0) (λ t. t.1 ≡ found_by changed t.0) (λ t is. is ∙ sym (finds_the_same rows name value unread t.0)) kept
+            up.found;
       }
 
       either : (b : Bool) (p q : Rows × ReplyData) → KeepsUp p.0 None templates active kept → KeepsUp q.0 None templates active kept

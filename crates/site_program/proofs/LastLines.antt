@@ -9,7 +9,7 @@ use Rattle.ends.specs.Known.{AppendsFront}
 use Rattle.site_replies.specs.Reply.{ReplyData, bytes_of}
 use Rattle.site_replies.specs.declared.fault.ServeFault.{ServeFault}
 use Rattle.site_replies.specs.declared.fault.ServeFault.TheVariants as fault_of
-use Rattle.site_program.specs.Lines.{IsLine, ended}
+use Rattle.site_program.specs.Lines.{IsLine, with_newline}
 use Rattle.site_program.specs.Serving.{IsReplies, FailsAt}
 use Rattle.site_program.specs.State.{State}
 use Rattle.site_program.specs.Step.{IsReply}
@@ -67,15 +67,15 @@ module _ (steps : State → List ℕ → State × ReplyData) where
       let p = parted before after r.2 (bytes_of r.1) (subst (Appends before after) r.5 t.written) in
       let each = All-pop IsLine t.lines l.before (Some l.last) (sym l.whole) t.each in
       let counted : length l.before + 1 ≡ length t.lines = sym (length-append l.before (l.last ∷ [])) ∙ ap length l.whole in
-      let cut : stretch ≡ flat_map ended l.before ++ (ended l.last ++ rest) =
-      t.whole ∙ ap (λ lines. flat_map ended lines ++ rest) (sym l.whole) ∙ ap (λ s. s ++ rest) (flat_map-append ended l.before (l.last ∷ []))
-      ∙ append_assoc (flat_map ended l.before) (flat_map ended (l.last ∷ [])) rest
-      ∙ ap (λ s. flat_map ended l.before ++ (s ++ rest)) (append-nil (ended l.last)) in
+      let cut : stretch ≡ flat_map with_newline l.before ++ (with_newline l.last ++ rest) =
+      t.whole ∙ ap (λ lines. flat_map with_newline lines ++ rest) (sym l.whole) ∙ ap (λ s. s ++ rest) (flat_map-append with_newline l.before (l.last ∷ []))
+      ∙ append_assoc (flat_map with_newline l.before) (flat_map with_newline (l.last ∷ [])) rest
+      ∙ ap (λ s. flat_map with_newline l.before ++ (s ++ rest)) (append-nil (with_newline l.last)) in
       record {
         mid = r.0;
         between = p.0;
         left = left + 1;
-        rest = ended l.last ++ rest;
+        rest = with_newline l.last ++ rest;
         taken = record {
           lines = l.before;
           out = r.2;

@@ -3,7 +3,7 @@ use Rattle.std.proofs.Common.{arith, ◌≡◌, ◌≢◌, inl, inr, ℕ, suc, �
 use Rattle.std.specs.Prelude.{All, ◌==◌}
 use Rattle.std.proofs.lemmas.List.Elements.{All-head, All-tail}
 use Rattle.std.proofs.lemmas.Bool.{eqb-true, cases_Bool}
-use Rattle.site_program.specs.Lines.{lines_of, onto_first, IsLine, HasNoNewline, max_line, max_lines, ended}
+use Rattle.site_program.specs.Lines.{lines_of, onto_first, IsLine, HasNoNewline, max_line, max_lines, with_newline}
 use Rattle.site_program.specs.Serving.{GoesPast}
 
 not_newline : (b : ℕ) → b ≢ 10 → (b == 10) ≡ false
@@ -27,13 +27,13 @@ lines_of-line (b ∷ line) rest h =
     lines_of-other b (line ++ (10 ∷ rest)) (All-head (λ b. b ≢ 10) b line h) ∙ ap (onto_first b) (lines_of-line line rest (All-tail (λ b. b ≢ 10) b line h))
 
 -- the lines that end in a stretch, and those of what follows
-pub lines_of-ended : (lines : List (List ℕ)) (rest : List ℕ) → All IsLine lines → lines_of (flat_map ended lines ++ rest) ≡ lines ++ lines_of rest
+pub lines_of-ended : (lines : List (List ℕ)) (rest : List ℕ) → All IsLine lines → lines_of (flat_map with_newline lines ++ rest) ≡ lines ++ lines_of rest
 lines_of-ended [] rest h = refl
 lines_of-ended (line ∷ lines) rest h =
     let first = All-head IsLine line lines h in
-    let cut : (ended line ++ flat_map ended lines) ++ rest ≡ line ++ (10 ∷ (flat_map ended lines ++ rest)) =
-    append_assoc (ended line) (flat_map ended lines) rest ∙ append_assoc line (10 ∷ []) (flat_map ended lines ++ rest) in
-    ap lines_of cut ∙ lines_of-line line (flat_map ended lines ++ rest) first.one
+    let cut : (with_newline line ++ flat_map with_newline lines) ++ rest ≡ line ++ (10 ∷ (flat_map with_newline lines ++ rest)) =
+    append_assoc (with_newline line) (flat_map with_newline lines) rest ∙ append_assoc line (10 ∷ []) (flat_map with_newline lines ++ rest) in
+    ap lines_of cut ∙ lines_of-line line (flat_map with_newline lines ++ rest) first.one
     ∙ ap (λ ls. line ∷ ls) (lines_of-ended lines rest (All-tail IsLine line lines h))
 
 -- a last stretch with a byte is a line

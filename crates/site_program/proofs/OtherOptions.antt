@@ -14,7 +14,8 @@ use Rattle.site_records.specs.declared.post.PostKind.TheVariants.{Page as OfPage
 use Rattle.site_records.specs.declared.found.FoundKind.TheVariants.{Front, FrontPage, Home, Month}
 use Rattle.post_tables.specs.Rows.{Rows, by_bytes}
 use Rattle.permalink_query.specs.Months.{is_month}
-use Rattle.permalink_query.specs.Found.{found, nothing, unless_empty, front_of, part_of_posts, published_posts, published_with, posts_of_month, part_size}
+use Rattle.permalink_query.specs.Found.{query_result, nothing, unless_empty, front_of, part_of_posts, published_posts, published_with, posts_of_month}
+use Rattle.permalink_query.specs.Found.{part_size}
 use Rattle.permalink_query.specs.Found.{posts_per_page, fronts_a_page, page_on_front, page_number}
 use Rattle.permalink_query.specs.Paths.{query_of}
 use Rattle.permalink_query.specs.declared.query.Query.{Query}
@@ -56,7 +57,7 @@ module _ (a b : Texts) (size : text_named (codes "posts_per_page") a ≡ text_na
   same_front : page_on_front a ≡ page_on_front b
   same_front = λ i. if same_fronts i then option_and_then page_number (page i) else None
 
-  same_found : (posts : List Post) (asked : Query) → found posts a asked ≡ found posts b asked
+  same_found : (posts : List Post) (asked : Query) → query_result posts a asked ≡ query_result posts b asked
   same_found posts (query.Front part) =
       λ i. option_map_or (λ id. unless_empty FrontPage (published_with OfPage id posts)) (same_front i)
       (option_map_or (λ n. front_of (if same_fronts i then Home else Front) n (part_of_posts (same_size i) n (published_posts posts))) part nothing)
@@ -82,4 +83,5 @@ finds_the_same rows other value unread path =
     let stays : (name : Text) → bytes_eq other name ≡ false
     → text_named name (entries (insert rows.options other value)) ≡ text_named name (entries rows.options) =
     λ name far. ap (text_named name) (entries-insert nat_list_cmp_total rows.options other value) ∙ other_stays name other value far (entries rows.options) in
-    same_found (entries (insert rows.options other value)) (entries rows.options) (stays (codes "posts_per_page") apart.0) (stays (codes "show_on_front") apart.1) (stays (codes "page_on_front") apart.2) rows.posts (query_of path)
+    same_found (entries (insert rows.options other value)) (entries rows.options) (stays (codes "posts_per_page") apart.0)
+    (stays (codes "show_on_front") apart.1) (stays (codes "page_on_front") apart.2) rows.posts (query_of path)

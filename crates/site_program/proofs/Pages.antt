@@ -17,12 +17,13 @@ use Rattle.template_parts.specs.Open.{open_left, status_of}
 use Rattle.site_replies.specs.declared.reply.SiteReply.{SiteReply}
 use Rattle.site_replies.specs.Reply.{ReplyData, reply_data, page}
 use Rattle.site_edits.specs.Carried.{CarriesOut}
-use Rattle.site_edits.specs.Faults.{IsReadFault}
+use Rattle.post_tables.specs.Faults.{IsStoreReadFault}
 use Rattle.site_edits.specs.Late.{is_done, rests_on_rows, may_be_late}
-use Rattle.site_edits.specs.declared.fault.StoreFault.{StoreFault}
-use Rattle.site_edits.specs.declared.fault.StoreFault.TheVariants as store
+use Rattle.post_tables.specs.declared.fault.StoreFault.{StoreFault}
+use Rattle.post_tables.specs.declared.fault.StoreFault.TheVariants as store
 use Rattle.site_program.specs.Step.{got, max_path}
-use Rattle.site_program.specs.Requests.{Texts, Opened, opened, settings_for, page_pass, page_of, options_of, templates_of, active_of, found_by, shown, refusal_of, requested, request}
+use Rattle.site_program.specs.Requests.{Texts, Opened, opened_page, settings_for, page_pass, page_of, options_of, templates_of, active_of, found_by, page_data}
+use Rattle.site_program.specs.Requests.{refusal_of, requested, request}
 use Rattle.site_program.specs.Site.{opened_as}
 
 -- ---- the page of what was found
@@ -40,27 +41,28 @@ module _ (engine : Engine) (calls : ℕ) (found : Found) (options templates : Te
       → status_of kept ≡ found.status → opened_as engine kept ≡ page_of engine calls found options templates active
   opened-page kept settings world settings_are world_is left status =
       let work = left ∙ work_is settings found world settings_are refl world_is in
-      ap (λ (s : ℕ). opened s (open_left engine kept)) status ∙ ap (opened found.status) work
+      ap (λ (s : ℕ). opened_page s (open_left engine kept)) status ∙ ap (opened_page found.status) work
 
 -- ---- how a page ends
 
-pub shown_made : (work : Work) (status given : ℕ) (text : Text) → IsPage work text → given ≡ status → page given text ≡ shown status (outcome_of work)
+pub shown_made : (work : Work) (status given : ℕ) (text : Text) → IsPage work text → given ≡ status → page given text ≡ page_data status (outcome_of work)
 shown_made work status given text made is = rw (is, made.whole, made.made) refl
 
-pub shown_refused : (work : Work) (status : ℕ) (why : RunFault) → IsRefusedBy work why → why ≢ fault.OutOfMemory → refusal_of why ≡ shown status (outcome_of work)
+pub shown_refused : (work : Work) (status : ℕ) (why : RunFault) → IsRefusedBy work why → why ≢ fault.OutOfMemory → refusal_of why
+    ≡ page_data status (outcome_of work)
 shown_refused work status why refused other = rw (refused other) refl
 
 -- ---- the reply to a path
 
 -- however a page ended, its reply rests on the rows
-shown-rests : (status : ℕ) (end : Outcome (Unit {0})) → rests_on_rows (shown status end) ≡ true
+shown-rests : (status : ℕ) (end : Outcome (Unit {0})) → rests_on_rows (page_data status end) ≡ true
 shown-rests status (Ended world nothing) = refl
 shown-rests status (Fault fault.TooManyCalls) = refl
 shown-rests status (Fault fault.TooDeep) = refl
 shown-rests status (Fault fault.OutOfMemory) = refl
 
 -- and is no `ok`
-shown-undone : (status : ℕ) (end : Outcome (Unit {0})) → is_done (shown status end) ≡ false
+shown-undone : (status : ℕ) (end : Outcome (Unit {0})) → is_done (page_data status end) ≡ false
 shown-undone status (Ended world nothing) = refl
 shown-undone status (Fault fault.TooManyCalls) = refl
 shown-undone status (Fault fault.TooDeep) = refl
@@ -93,14 +95,14 @@ module _ (engine : Engine) (calls : ℕ) (rows : Rows) (path : Text) where
   got-undone = cond_both (nat_le (length path) max_path) _ _ (λ (p : Rows × ReplyData). is_done p.1 ≡ false) (λ fits. shown-undone _ _) (λ long. refl)
 
   -- the database refuses it only with a limit on steps, in place of a reply that rests on the rows
-  pub got-late : length path ≤ max_path → (why : StoreFault) → IsReadFault rows.step_limit why → why ≡ store.Store
+  pub got-late : length path ≤ max_path → (why : StoreFault) → IsStoreReadFault rows.step_limit why → why ≡ store.Store
       → may_be_late rows.step_limit (got engine calls rows path).1 ≡ true
   unfolding got
   got-late short why (inl none) is = absurd (let clash = sym none ∙ is in cc)
   got-late short why (inr late) is = rw (le-leb _ _ short, late.1, rests) (or_true _)
 
   -- a page that was not begun
-  pub got-stopped : length path ≤ max_path → (new : Rows) (why : StoreFault) → new ≡ rows → IsReadFault rows.step_limit why
+  pub got-stopped : length path ≤ max_path → (new : Rows) (why : StoreFault) → new ≡ rows → IsStoreReadFault rows.step_limit why
       → CarriesOut rows (got engine calls rows path) (Err why) new
   got-stopped short new why same stopped = record { ok = tt; err = same; late = λ is. got-late short why stopped is }
 

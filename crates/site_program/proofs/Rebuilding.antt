@@ -14,7 +14,7 @@ use Rattle.site_edits.proofs.Limits.{limited}
 use Rattle.site_program.specs.State.{State, empty_under}
 use Rattle.site_program.specs.Step.{step, got, place_turned, is_edit, IsReply, IsCarriedOut}
 use Rattle.site_program.specs.Serving.{IsReplies}
-use Rattle.site_program.specs.History.{Replied, is_kept, lines_in, written_for, kept, history, AreCarriedOut, Serves, site_after, replies_to}
+use Rattle.site_program.specs.History.{Replied, is_kept, lines_in, written_for, kept_history, history, AreCarriedOut, Serves, site_after, replies_to}
 use Rattle.site_program.proofs.Carrying.{left_rows, left_limit}
 use Rattle.site_program.proofs.Limits.{Follows, step-same, step-limit}
 use Rattle.site_program.proofs.Refusals.{step-keeps}
@@ -43,10 +43,10 @@ module _ (engine : Engine) (calls : ℕ) (limit : Option ℕ) where
       Follows limit new (site_after (step engine calls) again (lines_in rs)) × (replies_to (step engine calls) again (lines_in rs) ≡ rs)
 
   pub history-rebuilds : (old new again : State) (replied : List Replied) → Serves (step engine calls) old replied new → Follows limit old again
-      → Rebuilds new again (kept replied)
+      → Rebuilds new again (kept_history replied)
   history-rebuilds old new again [] served follows = (subst (λ site. Follows limit site again) (sym served) follows, refl)
   history-rebuilds old new again (r ∷ later) (mid, first, served) follows =
-      cond_both (is_kept r) (r ∷ kept later) (kept later) (Rebuilds new again)
+      cond_both (is_kept r) (r ∷ kept_history later) (kept_history later) (Rebuilds new again)
       (λ stands.
       let done = reply-kept old mid r first stands in
       let same = step-same engine calls limit old again r.line (and_parts (is_edit (line_command r.line)) (is_done r.reply) stands).0 follows in
@@ -83,7 +83,8 @@ module _ (engine : Engine) (calls : ℕ) (limit : Option ℕ) where
       (history-rebuilds engine calls limit (empty_under limit) new (empty_under limit) replied served refl).0
       ∙ ap (λ l. limited l new.rows) (sym (Serves-limit engine calls (empty_under limit) new replied served))
 
-  pub replies-rebuilt : (new : State) (replied : List Replied) → ServedFrom replied new → replies_to steps (empty_under limit) (history replied) ≡ kept replied
+  pub replies-rebuilt : (new : State) (replied : List Replied) → ServedFrom replied new → replies_to steps (empty_under limit) (history replied)
+      ≡ kept_history replied
   replies-rebuilt new replied served = (history-rebuilds engine calls limit (empty_under limit) new (empty_under limit) replied served refl).1
 
   pub rows-agree : (one two : State) (first second : List Replied) → ServedFrom first one → ServedFrom second two → history first ≡ history second
@@ -123,7 +124,7 @@ module _ (engine : Engine) (calls : ℕ) (limit : Option ℕ) where
         ap (λ site. site.rows) (served-whole (empty_under limit) copy again also all).0
         ∙ ap (λ lines. (site_after steps (empty_under limit) lines).rows) same ∙ rows-rebuilt new replied served
 
-    pub copy-replies : again ≡ kept replied
+    pub copy-replies : again ≡ kept_history replied
     copy-replies =
         (served-whole (empty_under limit) copy again also all).1 ∙ ap (λ lines. replies_to steps (empty_under limit) lines) same
         ∙ replies-rebuilt new replied served

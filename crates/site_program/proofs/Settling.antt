@@ -24,7 +24,8 @@ module _ {J : Type 0} (g : Ghosts J) (steps : State → List ℕ → State × Re
   -- the lines of a chunk were carried out, and what waits may have been let out
   abbrev Waits : State → ℕ → List ℕ → J → J → State → ℕ → ServeFault → Type 0
   Waits site limit stretch a b after left e =
-      e ≢ fault_of.Write → (rest : List ℕ) × Takes steps site limit stretch (g.contents a) (g.contents b) after left rest × Records g steps site stretch a b after rest
+      e ≢ fault_of.Write → (rest : List ℕ) × Takes steps site limit stretch (g.contents a) (g.contents b) after left rest
+      × Records g steps site stretch a b after rest
 
   pub opened_by : (c : J) (result : Result (Unit {0}) ServeFault) → OnOk result (IsSettled g c) → OnOk result (g.is_open c)
   opened_by c (Ok x) settled = settled.opened
@@ -37,7 +38,8 @@ module _ {J : Type 0} (g : Ghosts J) (steps : State → List ℕ → State × Re
       → Faults steps site limit stretch (g.contents a) (g.contents b) after fault_of.Write
   fault_here site after limit left stretch a b (Ok x) held ok err waits some = fails_at_last steps _ _ _ _ _ _ _ _ ok some
   fault_here site after limit left stretch a b (Err fault_of.Write) held ok err waits some = err
-  fault_here site after limit left stretch a b (Err fault_of.Read) held ok err waits some = fails_at_last steps _ _ _ _ _ _ _ _ (waits (λ e. absurd (cc))).1 some
+  fault_here site after limit left stretch a b (Err fault_of.Read) held ok err waits some = fails_at_last steps _ _ _ _ _ _ _ _ (waits (λ e. absurd (cc))).1
+      some
   fault_here site after limit left stretch a b (Err fault_of.TooMuchInput) held ok err waits some =
       fails_at_last steps _ _ _ _ _ _ _ _ (waits (λ e. absurd (cc))).1 some
   fault_here site after limit left stretch a b (Err fault_of.OutOfMemory) held ok err waits some =

@@ -69,13 +69,15 @@ module _ (place : ℕ) (page : Opened) where
   carried_out-stays engine calls site (Some (asked.turns number count)) is_open differ =
       turned-stays site number count is_open (λ e. differ (ap Some (sym e)))
 
-  step-stays : (engine : Engine) (calls : ℕ) (site : State) (line : List ℕ) → Stays site → place_turned line ≢ Some place → Stays (step engine calls site line).0
+  step-stays : (engine : Engine) (calls : ℕ) (site : State) (line : List ℕ) → Stays site → place_turned line ≢ Some place
+      → Stays (step engine calls site line).0
   unfolding step
   step-stays engine calls site line is_open differ = carried_out-stays engine calls site (line_command line) is_open differ
 
   pub reply-stays : (engine : Engine) (calls : ℕ) (old new : State) (line : List ℕ) (reply : ReplyData) → IsReply (step engine calls) old line reply new
       → Stays old → place_turned line ≢ Some place → Stays new
-  reply-stays engine calls old new line reply (inl done) is_open differ = subst Stays (sym (ap (λ p. p.0) done)) (step-stays engine calls old line is_open differ)
+  reply-stays engine calls old new line reply (inl done) is_open differ = subst Stays (sym (ap (λ p. p.0) done))
+      (step-stays engine calls old line is_open differ)
   reply-stays engine calls old new line reply (inr (inl (memory, inl same))) is_open differ = subst Stays (sym same) is_open
   reply-stays engine calls old new line reply (inr (inl (memory, inr closed))) is_open differ =
       subst Stays (sym closed) (without_page-stays old (place_turned line) is_open differ)

@@ -3,8 +3,8 @@ use Rattle.std.specs.Prelude.{◌≡◌, true, Option, Result, Ok, Err, IfOk, If
 use Rattle.site_commands.specs.Asked.{Asked}
 use Rattle.site_replies.specs.declared.reply.SiteReply.{SiteReply}
 use Rattle.site_replies.specs.Reply.{ReplyData, reply_data}
-use Rattle.site_edits.specs.declared.fault.StoreFault.{StoreFault}
-use Rattle.site_edits.specs.declared.fault.StoreFault.TheVariants.{Store}
+use Rattle.post_tables.specs.declared.fault.StoreFault.{StoreFault}
+use Rattle.post_tables.specs.declared.fault.StoreFault.TheVariants.{Store}
 use Rattle.site_program.specs.State.{State}
 use Rattle.site_program.specs.declared.line_reply.LineReply.{LineReply}
 use Rattle.site_program.specs.Step.{IsLeftBy, place_given, may_be_late_at}

@@ -23,11 +23,11 @@ abbrev pub written_for : List Replied → List ℕ
 written_for replied = flat_map (λ r. bytes_of r.reply) replied
 
 -- the history, with its replies and without
-abbrev pub kept : List Replied → List Replied
-kept replied = filter is_kept replied
+abbrev pub kept_history : List Replied → List Replied
+kept_history replied = filter is_kept replied
 
 abbrev pub history : List Replied → List (List ℕ)
-history replied = lines_in (kept replied)
+history replied = lines_in (kept_history replied)
 
 -- memory and the database refused none of the lines
 abbrev pub AreCarriedOut : List Replied → Type 0

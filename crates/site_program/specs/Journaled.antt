@@ -7,7 +7,7 @@ use Rattle.ends.specs.Journal as ends
 use Rattle.ends.specs.declared.journal.Journal.{Ghosts}
 use Rattle.site_replies.specs.Reply.{ReplyData, bytes_of}
 use Rattle.site_program.specs.History.{Replied, Serves, lines_in, written_for, history}
-use Rattle.site_program.specs.Lines.{lines_of, IsLine, ended}
+use Rattle.site_program.specs.Lines.{lines_of, IsLine, with_newline}
 use Rattle.site_program.specs.State.{State}
 use Rattle.site_program.specs.Step.{IsReply}
 
@@ -89,7 +89,7 @@ module _ {J : Type 0} (g : Ghosts J) where
     pub record Records (site : State) (stretch : List ℕ) (old new : J) (after : State) (rest : List ℕ) : Type 0 where
       pub replied : List Replied
       pub served : Serves steps site replied after
-      pub whole : stretch ≡ flat_map ended (lines_in replied) ++ rest
+      pub whole : stretch ≡ flat_map with_newline (lines_in replied) ++ rest
       pub each : All IsLine (lines_in replied)
       pub taken : Appends (g.contents old) (g.contents new) (written_for replied)
       pub noted : Grows (g.noted old) (g.noted new) (history replied)

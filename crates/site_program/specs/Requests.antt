@@ -11,7 +11,7 @@ use Rattle.site_records.specs.Texts.{text_named}
 use Rattle.site_records.specs.declared.found.Found.{Found}
 use Rattle.site_records.specs.declared.found.FoundKind.{FoundKind}
 use Rattle.permalink_query.specs.Paths.{query_of}
-use Rattle.permalink_query.specs.Found.{found}
+use Rattle.permalink_query.specs.Found.{query_result}
 use Rattle.template_trees.specs.Trees.{stored_template, default_index}
 use Rattle.template_trees.specs.declared.tree.Template.{Template}
 use Rattle.template_parts.specs.Choice.{template_choice}
@@ -27,9 +27,9 @@ refusal_of fault.TooDeep = refused TooDeep
 refusal_of fault.OutOfMemory = refused OutOfMemory
 
 -- a page as it ended: all that was printed, or why it was refused
-abbrev pub shown : ℕ → Outcome (Unit {0}) → ReplyData
-shown status (Ended world nothing) = page status world.output
-shown status (Fault why) = refusal_of why
+abbrev pub page_data : ℕ → Outcome (Unit {0}) → ReplyData
+page_data status (Ended world nothing) = page status world.output
+page_data status (Fault why) = refusal_of why
 
 -- names with their texts
 abbrev pub Texts : Type 0
@@ -47,7 +47,7 @@ active_of rows = keys rows.active
 
 -- what a path finds in a site
 abbrev pub found_by : Rows → Text → Found
-found_by rows path = found rows.posts (options_of rows) (query_of path)
+found_by rows path = query_result rows.posts (options_of rows) (query_of path)
 
 -- the template of that name, if one is stored
 abbrev pub template_named : Text → Texts → Option Template
@@ -93,12 +93,12 @@ pub record Opened : Type 0 where
   pub left : ℕ
 
 -- the page that some work prints: a turn for each of its invocations, and the last one
-abbrev pub opened : ℕ → Work → Opened
-opened status work = record { answer = shown status (outcome_of work); left = length (turns_of work) + 1 }
+abbrev pub opened_page : ℕ → Work → Opened
+opened_page status work = record { answer = page_data status (outcome_of work); left = length (turns_of work) + 1 }
 
 -- the page of a request that found this
 abbrev pub page_of : Engine → ℕ → Found → (options templates : Texts) → List Text → Opened
-page_of engine calls found options templates active = opened found.status (page_pass engine calls found options templates active)
+page_of engine calls found options templates active = opened_page found.status (page_pass engine calls found options templates active)
 
 -- the page of a path, before its first turn
 unfoldable pub requested : Engine → ℕ → Rows → Text → Opened

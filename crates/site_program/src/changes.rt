@@ -1,4 +1,5 @@
-//! The commands that change what a site has stored. Each first forgets what it may change of what is kept.
+//! The commands that change what a site has stored. Each first forgets what it may change of what
+//! is kept.
 ghost use Rattle.std.specs.Prelude.{◌≡◌};
 ghost use Rattle.callback_store.specs.Shape.{shapes_of};
 ghost use Rattle.serde_json.specs.View.{view};
@@ -10,7 +11,7 @@ ghost use Rattle.site_edits.specs.Carried.{CarriesOut};
 ghost use Rattle.site_program.specs.Kept.{decides_what_is_found};
 
 use crate::kept_finds::KeptFinds;
-use crate::stored::Stored;
+use crate::stored::SiteStore;
 use callback_store::{Plugins, Stated};
 use serde_json::Value;
 use site_edits::{StoreFault, delete, edit, import, put, set_active, set_option, set_template};
@@ -18,7 +19,7 @@ use site_records::{PostKind, PostStatus};
 use site_replies::SiteReply;
 use std::alloc::Global;
 
-impl Stored {
+impl SiteStore {
     /// Stores one more post.
     pub(crate) fn put(
         &mut self,
@@ -29,7 +30,8 @@ impl Stored {
         content: &str,
         date: &str,
     ) -> Result<SiteReply, StoreFault>
-        ensures { CarriesOut self.old (put self.old kind status title.now content.now date.now) result self.new }
+        ensures { CarriesOut self.old (put self.old kind status title.now content.now date.now)
+            result self.new }
     {
         self.found = KeptFinds::none(alloc);
         put(&mut self.tables, kind, status, title, content, date)
@@ -45,7 +47,8 @@ impl Stored {
         content: Option<&str>,
         date: Option<&str>,
     ) -> Result<SiteReply, StoreFault>
-        ensures { CarriesOut self.old (edit self.old id (edit_by status title.entry content.entry date.entry))
+        ensures { CarriesOut self.old
+            (edit self.old id (edit_by status title.entry content.entry date.entry))
             result self.new }
     {
         self.found = KeptFinds::none(alloc);
@@ -84,7 +87,8 @@ impl Stored {
         plugin: &str,
         active: bool,
     ) -> Result<SiteReply, StoreFault>
-        ensures { CarriesOut self.old (set_active (shapes_of S.number plugins.now) self.old plugin.now active)
+        ensures { CarriesOut self.old
+            (set_active (shapes_of S.number plugins.now) self.old plugin.now active)
             result self.new }
     {
         self.active = None;
@@ -98,7 +102,8 @@ impl Stored {
         name: &str,
         body: &Value,
     ) -> Result<SiteReply, StoreFault>
-        ensures { CarriesOut self.old (set_template self.old name.now (view body.now)) result self.new }
+        ensures { CarriesOut self.old (set_template self.old name.now (view body.now)) result
+            self.new }
     {
         self.templates = None;
         set_template(alloc, &mut self.tables, name, body)
@@ -111,10 +116,11 @@ impl Stored {
         plugins: &Plugins<S>,
         site: &Value,
     ) -> Result<SiteReply, StoreFault>
-        ensures { CarriesOut self.old (import (shapes_of S.number plugins.now) self.old (view site.now))
+        ensures { CarriesOut self.old (import (shapes_of S.number plugins.now) self.old
+            (view site.now))
             result self.new }
     {
-        let Stored {
+        let SiteStore {
             tables,
             options,
             templates,

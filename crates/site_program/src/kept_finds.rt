@@ -2,23 +2,23 @@
 ghost use Rattle.std.specs.Prelude.{◌≡◌, ◌≤◌, ◌⊎◌, [], IsTrue, length, find, option_map, bytes_eq};
 ghost use Rattle.site_program.specs.Kept.{IsKeepable, IsKeptFrom};
 
-use hook_changes::{Listed, Text};
-use site_records::Post;
+use hook_changes::{Listed, Shared, Text};
+use site_records::{Found, Post};
 use std::alloc::{AllocError, Global};
 use std::marker::Model;
-use template_parts::SharedFound;
 
 /// The maximum number of paths that are kept with what they found.
 const MOST_PATHS: usize = 64;
 
-/// The maximum number of bytes of titles and contents that are kept for a path, so that all paths keep at most 64 MiB.
+/// The maximum number of bytes of titles and contents that are kept for a path, so that all paths
+/// keep at most 64 MiB.
 const MOST_BYTES: usize = 1_048_576;
 
-/// Paths, each with what it found: at most 64, of which each found posts with at most 1 MiB of titles and contents. When
-/// one more is to be kept, all others are forgotten.
+/// Paths, each with what it found: at most 64, of which each found posts with at most 1 MiB of
+/// titles and contents. When one more is to be kept, all others are forgotten.
 #[derive(Drop)]
 pub struct KeptFinds {
-    finds: Listed<(Text, SharedFound)>,
+    finds: Listed<(Text, Shared<Found>)>,
 }
 
 impl Model for KeptFinds {
@@ -45,7 +45,7 @@ impl KeptFinds {
     }
 
     /// Returns what is kept for a path, if anything is.
-    pub(crate) fn at(&self, path: &str) -> Option<&SharedFound>
+    pub(crate) fn at(&self, path: &str) -> Option<&Shared<Found>>
         ensures { option_map (λ found. found.now) result
             ≡ option_map (λ t. t.1) (find (λ t. bytes_eq t.0 path.now) self.entry.now) }
     {
@@ -62,11 +62,11 @@ impl KeptFinds {
         &mut self,
         alloc: Global,
         path: &str,
-        found: &SharedFound,
+        found: &Shared<Found>,
     ) -> Result<(), AllocError>
         ensures { IsKeptFrom self.old (path.now, found.now) self.new }
     {
-        if !is_keepable(found.posts()) {
+        if !is_keepable(found.get().posts.as_slice()) {
             return Ok(());
         }
         self.make_room(alloc);

@@ -1,7 +1,9 @@
-//! The site that a program serves: lines of JSON come in, each is one command, and each gets one reply.
+//! The site that a program serves: lines of JSON come in, each is one command, and each gets one
+//! reply.
 //!
-//! [`Site::command`] carries out one line, and [`Site::serve`] a whole input, line by line. What a line means is the
-//! definition `step`; what an input means is `IsReplies`. The plugins come from the program that owns the site.
+//! [`Site::command`] carries out one line, and [`Site::serve`] a whole input, line by line. What a
+//! line means is the definition `step`; what an input means is `IsReplies`. The plugins come from
+//! the program that owns the site.
 #![tactic(auto)]
 
 mod changes;
@@ -13,7 +15,6 @@ mod page;
 mod serve;
 mod settings;
 mod setup;
-mod shared;
 mod site;
 mod state;
 mod stored;

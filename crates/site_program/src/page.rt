@@ -6,24 +6,25 @@ ghost use Rattle.hook_machine.specs.Outcomes.{engine_with};
 ghost use Rattle.hook_machine.specs.Runs.{world_of, IsReady};
 ghost use Rattle.hook_machine.specs.Runs as runs;
 ghost use Rattle.site_replies.specs.Reply.{reply_data};
-ghost use Rattle.site_edits.specs.Faults.{IsReadFault};
+ghost use Rattle.post_tables.specs.Faults.{IsStoreReadFault};
 ghost use Rattle.site_edits.specs.Carried.{CarriesOut};
 ghost use Rattle.site_program.specs.Requests.{page_of, requested, refusal_of};
 
 use crate::settings::settings_for;
 use crate::setup::Setup;
 use crate::state::SiteState;
-use crate::stored::Stored;
+use crate::stored::SiteStore;
 use crate::templates::Templates;
 use callback_store::{Plugins, Stated};
 use content_cache::PieceCache;
-use hook_changes::Text;
+use hook_changes::{Shared, SharedList, Text};
 use hook_machine::{KeptLoad, Run, RunFault};
 use page_log::{PageName, Watch};
 use site_edits::StoreFault;
+use site_records::Found;
 use site_replies::{Refusal, SiteReply};
 use std::alloc::{AllocError, Global};
-use template_parts::{OpenPage, SharedFound, Turned};
+use template_parts::{OpenPage, Turned};
 
 // The most bytes that a path may have.
 const MAX_PATH: usize = 8_192;
@@ -40,12 +41,13 @@ impl<'p, S: Stated> Setup<'p, S> {
     #[tactic(auto, unfolding(crate::specs::Step::got))]
     pub(crate) fn get<V: Watch>(
         &self,
-        stored: &mut Stored,
+        stored: &mut SiteStore,
         path: &str,
         cache: &mut PieceCache,
         watch: &mut V,
     ) -> Result<SiteReply, StoreFault>
-        ensures carried { CarriesOut stored.old (got (engine_of S.says S.number self.now) (calls_of self.now) stored.old
+        ensures carried { CarriesOut stored.old
+            (got (engine_of S.says S.number self.now) (calls_of self.now) stored.old
             path.now) result stored.new }
         ensures cache { cache.new ≡ cache.old }
     {
@@ -64,7 +66,8 @@ impl<'p, S: Stated> Setup<'p, S> {
         path: &str,
         watch: &mut V,
     ) -> Result<SiteReply, StoreFault>
-        ensures carried { CarriesOn (Some (begin path.now)) (seen_by S.says S.number self.now state.old)
+        ensures carried { CarriesOn (Some (begin path.now))
+            (seen_by S.says S.number self.now state.old)
             (begun (engine_of S.says S.number self.now) (calls_of self.now)
             (seen_by S.says S.number self.now state.old) path.now)
             result (seen_by S.says S.number self.now state.new) }
@@ -82,8 +85,8 @@ impl<'p, S: Stated> Setup<'p, S> {
         Ok(SiteReply::OkId(place as u32 + 1))
     }
 
-    /// Gives the page of a number up to `count` turns. A page that is printed or refused is closed, and so is one at
-    /// which memory runs out.
+    /// Gives the page of a number up to `count` turns. A page that is printed or refused is closed,
+    /// and so is one at which memory runs out.
     #[tactic(auto, unfolding(crate::specs::Step::turned))]
     pub(crate) fn turns<V: Watch>(
         &self,
@@ -92,7 +95,8 @@ impl<'p, S: Stated> Setup<'p, S> {
         count: u32,
         watch: &mut V,
     ) -> Result<SiteReply, StoreFault>
-        ensures carried { CarriesOn (Some (turns number count)) (seen_by S.says S.number self.now state.old)
+        ensures carried { CarriesOn (Some (turns number count))
+            (seen_by S.says S.number self.now state.old)
             (turned (seen_by S.says S.number self.now state.old) number count)
             result (seen_by S.says S.number self.now state.new) }
         ensures cache { state.new.cache ≡ state.old.cache }
@@ -112,23 +116,18 @@ impl<'p, S: Stated> Setup<'p, S> {
     }
 
     /// Opens the page of a path that is not too long.
-    fn page_at(&self, stored: &mut Stored, path: &str) -> Result<OpenPage, StoreFault>
-        ensures ok { IfOk result (λ page. opened_as (engine_of S.says S.number self.now) page ≡ requested
+    fn page_at(&self, stored: &mut SiteStore, path: &str) -> Result<OpenPage, StoreFault>
+        ensures ok { IfOk result (λ page. opened_as (engine_of S.says S.number self.now) page
+            ≡ requested
             (engine_of S.says S.number self.now) (calls_of self.now) stored.old path.now) }
         ensures same { stored.new ≡ stored.old }
-        ensures stopped { IfErr result (IsReadFault stored.old.step_limit) }
+        ensures stopped { IfErr result (IsStoreReadFault stored.old.step_limit) }
     {
         let options = stored.options()?;
         let found = stored.found(self.alloc, path, options.as_slice())?;
         let active = stored.active()?;
         let mut templates = stored.take_templates(self.alloc)?;
-        let page = self.page(
-            found,
-            options.as_slice(),
-            &mut templates,
-            active.as_slice(),
-            &mut stored.load,
-        );
+        let page = self.page(found, options, &mut templates, active, &mut stored.load);
         stored.keep_templates(templates);
         Ok(page?)
     }
@@ -136,22 +135,25 @@ impl<'p, S: Stated> Setup<'p, S> {
     /// Opens the page of a request, given what its path found.
     fn page(
         &self,
-        found: SharedFound,
-        options: &[(Text, Text)],
+        found: Shared<Found>,
+        options: SharedList<(Text, Text)>,
         templates: &mut Templates,
-        active: &[Text],
+        active: SharedList<Text>,
         kept: &mut KeptLoad,
     ) -> Result<OpenPage, AllocError>
-        ensures ok { IfOk result (λ page. opened_as (engine_of S.says S.number self.now) page ≡ page_of
-            (engine_of S.says S.number self.now) (calls_of self.now) found options.now templates.old active.now) }
+        ensures ok { IfOk result (λ page. opened_as (engine_of S.says S.number self.now) page
+            ≡ page_of
+            (engine_of S.says S.number self.now) (calls_of self.now) found options templates.old
+            active) }
         ensures same { templates.new ≡ templates.old }
     {
-        let settings = settings_for(self.alloc, found.kind(), options, templates)?;
+        let settings = settings_for(self.alloc, found.get().kind, options.as_slice(), templates)?;
         let run = loaded_run(self.alloc, self.plugins, active, options, self.calls, kept)?;
         Ok(OpenPage::begin(self.alloc, found, settings, run))
     }
 
-    /// Prints a page to its end, and replies with it. A page that is watched is printed turn by turn.
+    /// Prints a page to its end, and replies with it. A page that is watched is printed turn by
+    /// turn.
     fn finish<V: Watch>(
         &self,
         page: OpenPage,
@@ -187,7 +189,8 @@ impl<'p, S: Stated> Setup<'p, S> {
         }
     }
 
-    /// Makes up to `count` turns of the page of a number. If it is watched, they are made one by one.
+    /// Makes up to `count` turns of the page of a number. If it is watched, they are made one by
+    /// one.
     fn give_turns<V: Watch>(
         &self,
         page: OpenPage,
@@ -208,7 +211,8 @@ impl<'p, S: Stated> Setup<'p, S> {
 
 /// Replies with the refusal of a page, unless memory ran out.
 pub(crate) fn refused_by(fault: RunFault) -> Result<SiteReply, StoreFault>
-    ensures ok { IfOk result (λ reply. (reply_data reply ≡ refusal_of fault) × (fault ≢ RunFault.OutOfMemory)) }
+    ensures ok { IfOk result (λ reply. (reply_data reply ≡ refusal_of fault)
+        × (fault ≢ RunFault.OutOfMemory)) }
     ensures memory { IfErr result (λ why. why ≡ StoreFault.OutOfMemory) }
 {
     match fault {
@@ -222,13 +226,14 @@ pub(crate) fn refused_by(fault: RunFault) -> Result<SiteReply, StoreFault>
 fn loaded_run<'p, S: Stated>(
     alloc: Global,
     plugins: &'p Plugins<S>,
-    active: &[Text],
-    options: &[(Text, Text)],
+    active: SharedList<Text>,
+    options: SharedList<(Text, Text)>,
     calls: u32,
     kept: &mut KeptLoad,
 ) -> Result<Run<'p, S>, AllocError>
-    ensures loaded { IfOk result (λ run. world_of run ≡ loaded (shapes_of S.number plugins.entry.now)
-        (fresh calls options.now active.now)) }
+    ensures loaded { IfOk result (λ run. world_of run
+        ≡ loaded (shapes_of S.number plugins.entry.now)
+        (fresh calls options active)) }
     ensures ready { IfOk result (λ run. IsReady run) }
     ensures engine { IfOk result (λ run. runs.engine_of S.says S.number run
         ≡ engine_with S.says (shapes_of S.number plugins.entry.now)) }

@@ -1,5 +1,6 @@
 //! Serving an input, line by line.
-ghost use Rattle.std.specs.Prelude.{◌≡◌, ◌≢◌, ◌⊎◌, [], ◌++◌, false, is_err, Err, OnOk, OnErr, IfErr, IsErrOf};
+ghost use Rattle.std.specs.Prelude.{◌≡◌, ◌≢◌, ◌⊎◌, [], ◌++◌, false, is_err, Err, OnOk, OnErr};
+ghost use Rattle.std.specs.Prelude.{IfErr, IsErrOf};
 ghost use Rattle.std.specs.Io.KnownBytes.{Appends};
 ghost use Rattle.ends.specs.Journal.{Grows};
 ghost use Rattle.ends.specs.Known.{AppendsFront};
@@ -34,14 +35,16 @@ impl<'p, S: Stated> Site<'p, S> {
     ghost use Rattle.site_program.specs.Journaled.{IsNoted, KeepsAhead};
     ghost use Rattle.site_program.specs.Serving.{is_read, IsReplies, ServesAll, Stops};
 
-    /// Carries out each line of the input, and hands its reply to the journal before the next line is carried out.
-    /// Any sink is a journal that writes each reply at once. One with a log is handed each edit that was done before
-    /// its reply; it may let replies wait until such edits are committed, at the latest after each 64 KiB of input.
+    /// Carries out each line of the input, and hands its reply to the journal before the next line
+    /// is carried out. Any sink is a journal that writes each reply at once. One with a log is
+    /// handed each edit that was done before its reply; it may let replies wait until such edits
+    /// are committed, at the latest after each 64 KiB of input.
     ///
-    /// A last line without a newline counts if it has a byte. At most 1,000,000 lines of at most 1,048,576 bytes are
-    /// served. On `Read`, `TooMuchInput` and `OutOfMemory` the lines before the fault are carried out and replied to;
-    /// on `Write` the line whose reply could not be written is carried out too. If an edit could not be committed, that
-    /// is `Write` too: none of the replies that waited for it was written.
+    /// A last line without a newline counts if it has a byte. At most 1,000,000 lines of at most
+    /// 1,048,576 bytes are served. On `Read`, `TooMuchInput` and `OutOfMemory` the lines before the
+    /// fault are carried out and replied to; on `Write` the line whose reply could not be written
+    /// is carried out too. If an edit could not be committed, that is `Write` too: none of the
+    /// replies that waited for it was written.
     pub fn serve<R: Source, W: Journal>(
         &mut self,
         reader: &mut R,
@@ -54,7 +57,8 @@ impl<'p, S: Stated> Site<'p, S> {
         ensures replied { OnOk result (IfSome (R.remaining reader.old) (λ input.
             IfSome (W.contents writer.old) (λ before. (out : List ℕ)
             × IsReplies (steps_of S.says S.number (setup_of self.old))
-            (state_of S.says S.number self.old) (lines_of input) out (state_of S.says S.number self.new)
+            (state_of S.says S.number self.old) (lines_of input) out
+            (state_of S.says S.number self.new)
             × (W.contents writer.new ≡ Some (before ++ out))))) }
         ensures ok { OnOk result (ServesAll (steps_of S.says S.number (setup_of self.old))
             (state_of S.says S.number self.old) (R.remaining reader.old) (R.remaining reader.new)
@@ -69,11 +73,13 @@ impl<'p, S: Stated> Site<'p, S> {
         ensures read { R.has_failed reader.new ≡ is_read result }
         ensures write { W.has_failed writer.new ≡ is_write result }
 
-        // An input that is read to its end is noted: of its lines the edits that were done, in order.
+        // An input that is read to its end is noted: of its lines the edits that were done, in
+        // order.
         ensures kept { OnOk result (IsNoted W.Journal (steps_of S.says S.number (setup_of self.old))
             (state_of S.says S.number self.old) (R.remaining reader.old) writer.old writer.new
             (state_of S.says S.number self.new)) }
-        ensures settled { OnOk result (IsSettled W.Journal writer.old → IsSettled W.Journal writer.new) }
+        ensures settled { OnOk result (IsSettled W.Journal writer.old
+            → IsSettled W.Journal writer.new) }
 
         // At any return the log is not older than what was written.
         ensures ahead { IsSettled W.Journal writer.old → KeepsAhead W.Journal
@@ -104,7 +110,8 @@ impl<'p, S: Stated> Site<'p, S> {
         ensures replied { OnOk result (IfSome (R.remaining reader.old) (λ input.
             IfSome (W.contents writer.old) (λ before. (out : List ℕ)
             × IsReplies (steps_of S.says S.number (setup_of self.old))
-            (state_of S.says S.number self.old) (lines_of input) out (state_of S.says S.number self.new)
+            (state_of S.says S.number self.old) (lines_of input) out
+            (state_of S.says S.number self.new)
             × (W.contents writer.new ≡ Some (before ++ out))))) }
         ensures ok { OnOk result (ServesAll (steps_of S.says S.number (setup_of self.old))
             (state_of S.says S.number self.old) (R.remaining reader.old) (R.remaining reader.new)
@@ -119,11 +126,13 @@ impl<'p, S: Stated> Site<'p, S> {
         ensures read { R.has_failed reader.new ≡ is_read result }
         ensures write { W.has_failed writer.new ≡ is_write result }
 
-        // An input that is read to its end is noted: of its lines the edits that were done, in order.
+        // An input that is read to its end is noted: of its lines the edits that were done, in
+        // order.
         ensures kept { OnOk result (IsNoted W.Journal (steps_of S.says S.number (setup_of self.old))
             (state_of S.says S.number self.old) (R.remaining reader.old) writer.old writer.new
             (state_of S.says S.number self.new)) }
-        ensures settled { OnOk result (IsSettled W.Journal writer.old → IsSettled W.Journal writer.new) }
+        ensures settled { OnOk result (IsSettled W.Journal writer.old
+            → IsSettled W.Journal writer.new) }
 
         // At any return the log is not older than what was written.
         ensures ahead { IsSettled W.Journal writer.old → KeepsAhead W.Journal
@@ -166,8 +175,9 @@ impl<'p, S: Stated> Setup<'p, S> {
     ghost use Rattle.site_program.specs.Stream.{Takes, Faults};
     ghost use Rattle.site_program.specs.Journaled.{Handles, Records, Stopped};
 
-    // Carries out the lines that end in the chunk, the first of which begins with the held bytes, and holds what
-    // follows them. If there was such a line, nothing waits in the journal afterwards, unless it failed.
+    // Carries out the lines that end in the chunk, the first of which begins with the held bytes,
+    // and holds what follows them. If there was such a line, nothing waits in the journal
+    // afterwards, unless it failed.
     fn take_chunk<W: Journal, V: Watch>(
         &self,
         state: &mut SiteState,
@@ -188,17 +198,21 @@ impl<'p, S: Stated> Setup<'p, S> {
         ensures room { OnOk result (0 < length held.new.items → 0 < left.new) }
         ensures err { IfErr result (Faults (steps_of S.says S.number self.now)
             (seen_by S.says S.number self.now state.old) left.old (held.old.items ++ chunk.now)
-            (W.contents writer.old) (W.contents writer.new) (seen_by S.says S.number self.now state.new)) }
+            (W.contents writer.old) (W.contents writer.new)
+            (seen_by S.says S.number self.now state.new)) }
         ensures failed { W.has_failed writer.new ≡ is_write result }
         ensures limit { state.new.stored.step_limit ≡ state.old.stored.step_limit }
         ensures cache { state.new.cache ≡ state.old.cache }
         ensures records { OnOk result (Records W.Journal (steps_of S.says S.number self.now)
-            (seen_by S.says S.number self.now state.old) (held.old.items ++ chunk.now) writer.old writer.new
+            (seen_by S.says S.number self.now state.old) (held.old.items ++ chunk.now) writer.old
+            writer.new
             (seen_by S.says S.number self.now state.new) held.new.items) }
         ensures stopped { OnErr result (Stopped W.Journal (steps_of S.says S.number self.now)
-            (seen_by S.says S.number self.now state.old) (held.old.items ++ chunk.now) writer.old writer.new
+            (seen_by S.says S.number self.now state.old) (held.old.items ++ chunk.now) writer.old
+            writer.new
             (seen_by S.says S.number self.now state.new)) }
-        ensures settled { OnOk result (IsSettled W.Journal writer.old → IsSettled W.Journal writer.new) }
+        ensures settled { OnOk result (IsSettled W.Journal writer.old
+            → IsSettled W.Journal writer.new) }
     {
         let before = *left;
         let taken = self.take_lines(state, held, left, chunk, writer, watch);
@@ -229,15 +243,19 @@ impl<'p, S: Stated> Setup<'p, S> {
         ensures room { OnOk result (0 < length held.new.items → 0 < left.new) }
         ensures err { IfErr result (Faults (steps_of S.says S.number self.now)
             (seen_by S.says S.number self.now state.old) left.old (held.old.items ++ chunk.now)
-            (W.contents writer.old) (W.contents writer.new) (seen_by S.says S.number self.now state.new)) }
+            (W.contents writer.old) (W.contents writer.new)
+            (seen_by S.says S.number self.now state.new)) }
         ensures failed { W.has_failed writer.new ≡ is_write result }
         ensures limit { state.new.stored.step_limit ≡ state.old.stored.step_limit }
         ensures cache { state.new.cache ≡ state.old.cache }
         ensures records { OnOk result (Records W.Journal (steps_of S.says S.number self.now)
-            (seen_by S.says S.number self.now state.old) (held.old.items ++ chunk.now) writer.old writer.new
+            (seen_by S.says S.number self.now state.old) (held.old.items ++ chunk.now) writer.old
+            writer.new
             (seen_by S.says S.number self.now state.new) held.new.items) }
-        ensures stopped { IsErrOf result ServeFault.Write → Stopped W.Journal (steps_of S.says S.number self.now)
-            (seen_by S.says S.number self.now state.old) (held.old.items ++ chunk.now) writer.old writer.new
+        ensures stopped { IsErrOf result ServeFault.Write
+            → Stopped W.Journal (steps_of S.says S.number self.now)
+            (seen_by S.says S.number self.now state.old) (held.old.items ++ chunk.now) writer.old
+            writer.new
             (seen_by S.says S.number self.now state.new) }
 
         // After another fault the replies so far may still wait.
@@ -247,7 +265,8 @@ impl<'p, S: Stated> Setup<'p, S> {
             (W.contents writer.old) (W.contents writer.new)
             (seen_by S.says S.number self.now state.new) left.new rest
             × Records W.Journal (steps_of S.says S.number self.now)
-            (seen_by S.says S.number self.now state.old) (held.old.items ++ chunk.now) writer.old writer.new
+            (seen_by S.says S.number self.now state.old) (held.old.items ++ chunk.now) writer.old
+            writer.new
             (seen_by S.says S.number self.now state.new) rest) }
         ensures idle { left.new ≡ left.old → OnOk result (writer.new ≡ writer.old) }
     {
@@ -286,15 +305,20 @@ impl<'p, S: Stated> Setup<'p, S> {
             (seen_by S.says S.number self.now state.new)
             × Appends (W.contents writer.old) (W.contents writer.new) (bytes_of reply)) }
         ensures empty { OnOk result (held.new.items ≡ []) }
-        ensures write { IsErrOf result ServeFault.Write → FailsAt (steps_of S.says S.number self.now)
+        ensures write { IsErrOf result ServeFault.Write
+            → FailsAt (steps_of S.says S.number self.now)
             (seen_by S.says S.number self.now state.old) (held.old.items ++ part.now)
-            (W.contents writer.old) (W.contents writer.new) (seen_by S.says S.number self.now state.new) }
+            (W.contents writer.old) (W.contents writer.new)
+            (seen_by S.says S.number self.now state.new) }
         ensures memory { IsErrOf result ServeFault.OutOfMemory
-            → (seen_by S.says S.number self.now state.new ≡ seen_by S.says S.number self.now state.old)
+            → (seen_by S.says S.number self.now state.new
+            ≡ seen_by S.says S.number self.now state.old)
             × (W.contents writer.new ≡ W.contents writer.old) }
         ensures only { IfErr result (λ e. (e ≡ ServeFault.Write) ⊎ (e ≡ ServeFault.OutOfMemory)) }
-        ensures handled { result ≢ Err ServeFault.OutOfMemory → Handles W.Journal (steps_of S.says S.number self.now)
-            (seen_by S.says S.number self.now state.old) (held.old.items ++ part.now) writer.old writer.new result
+        ensures handled { result ≢ Err ServeFault.OutOfMemory
+            → Handles W.Journal (steps_of S.says S.number self.now)
+            (seen_by S.says S.number self.now state.old) (held.old.items ++ part.now) writer.old
+            writer.new result
             (seen_by S.says S.number self.now state.new) }
         ensures untouched { IsErrOf result ServeFault.OutOfMemory → writer.new ≡ writer.old }
         ensures failed { W.has_failed writer.new ≡ is_write result }
@@ -320,12 +344,14 @@ impl<'p, S: Stated> Setup<'p, S> {
     ) -> Result<(), ServeFault>
         requires { W.has_failed writer.old ≡ false }
         ensures ok { OnOk result ((reply : ReplyData)
-            × IsReply (steps_of S.says S.number self.now) (seen_by S.says S.number self.now state.old)
+            × IsReply (steps_of S.says S.number self.now)
+            (seen_by S.says S.number self.now state.old)
             line.now reply (seen_by S.says S.number self.now state.new)
             × Appends (W.contents writer.old) (W.contents writer.new) (bytes_of reply)) }
         ensures err { OnErr result (FailsAt (steps_of S.says S.number self.now)
             (seen_by S.says S.number self.now state.old) line.now
-            (W.contents writer.old) (W.contents writer.new) (seen_by S.says S.number self.now state.new)) }
+            (W.contents writer.old) (W.contents writer.new)
+            (seen_by S.says S.number self.now state.new)) }
         ensures fault { IfErr result (λ e. e ≡ ServeFault.Write) }
         ensures failed { W.has_failed writer.new ≡ is_err result }
         ensures limit { state.new.stored.step_limit ≡ state.old.stored.step_limit }
@@ -352,12 +378,14 @@ impl<'p, S: Stated> Setup<'p, S> {
     ) -> Result<(), ServeFault>
         requires { W.has_failed writer.old ≡ false }
         ensures ok { OnOk result ((reply : ReplyData)
-            × IsReply (steps_of S.says S.number self.now) (seen_by S.says S.number self.now state.old)
+            × IsReply (steps_of S.says S.number self.now)
+            (seen_by S.says S.number self.now state.old)
             line.now reply (seen_by S.says S.number self.now state.new)
             × Appends (W.contents writer.old) (W.contents writer.new) (bytes_of reply)) }
         ensures err { OnErr result (FailsAt (steps_of S.says S.number self.now)
             (seen_by S.says S.number self.now state.old) line.now
-            (W.contents writer.old) (W.contents writer.new) (seen_by S.says S.number self.now state.new)) }
+            (W.contents writer.old) (W.contents writer.new)
+            (seen_by S.says S.number self.now state.new)) }
         ensures fault { IfErr result (λ e. e ≡ ServeFault.Write) }
         ensures failed { W.has_failed writer.new ≡ is_err result }
         ensures limit { state.new.stored.step_limit ≡ state.old.stored.step_limit }
@@ -378,10 +406,13 @@ impl<'p, S: Stated> Setup<'p, S> {
 fn enter<W: Journal>(writer: &mut W, line: &[u8], replied: &LineReply) -> Result<(), EndFault>
     requires { W.has_failed writer.old ≡ false }
     ensures ok { OnOk result
-        (Appends (W.contents writer.old) (W.contents writer.new) (bytes_of (reply_data replied.now.reply))) }
+        (Appends (W.contents writer.old) (W.contents writer.new)
+        (bytes_of (reply_data replied.now.reply))) }
     ensures part { OnErr result
-        (AppendsFront (W.contents writer.old) (W.contents writer.new) (bytes_of (reply_data replied.now.reply))) }
-    ensures entered { Enters W.Journal (noted_of replied.now.is_kept line.now) writer.old writer.new result }
+        (AppendsFront (W.contents writer.old) (W.contents writer.new)
+        (bytes_of (reply_data replied.now.reply))) }
+    ensures entered { Enters W.Journal (noted_of replied.now.is_kept line.now) writer.old writer.new
+        result }
     ensures fault { W.has_failed writer.new ≡ is_err result }
 {
     if replied.is_kept {

@@ -5,11 +5,11 @@ ghost use Rattle.template_parts.specs.Choice.{template_choice};
 ghost use Rattle.site_program.specs.Requests.{template_for, settings_for};
 
 use crate::templates::Templates;
-use hook_changes::Text;
+use hook_changes::{Shared, Text};
 use site_records::{FoundKind, text_named};
 use std::alloc::{AllocError, Global};
 use template_parts::{Settings, choose};
-use template_trees::SharedTemplate;
+use template_trees::Template;
 
 /// Makes the settings of a page for what was found, from these options and templates.
 pub(crate) fn settings_for(
@@ -18,7 +18,8 @@ pub(crate) fn settings_for(
     options: &[(Text, Text)],
     templates: &mut Templates,
 ) -> Result<Settings, AllocError>
-    ensures settings { IfOk result (λ settings. settings ≡ settings_for kind options.now templates.old) }
+    ensures settings { IfOk result (λ settings. settings
+        ≡ settings_for kind options.now templates.old) }
     ensures same { templates.new ≡ templates.old }
 {
     Ok(Settings {
@@ -32,7 +33,8 @@ pub(crate) fn settings_for(
 
 /// Returns the option `blogname`, empty if it isn't set.
 fn site_name(alloc: Global, options: &[(Text, Text)]) -> Result<Text, AllocError>
-    ensures { IfOk result (λ name. name ≡ unwrap_or (text_named (codes "blogname") options.now) []) }
+    ensures { IfOk result (λ name. name ≡ unwrap_or (text_named (codes "blogname") options.now)
+        []) }
 {
     match text_named(options, "blogname") {
         Some(name) => Text::copied(alloc, name),
@@ -45,7 +47,7 @@ fn template_for(
     alloc: Global,
     kind: FoundKind,
     templates: &mut Templates,
-) -> Result<SharedTemplate, AllocError>
+) -> Result<Shared<Template>, AllocError>
     ensures template { IfOk result (λ template. template ≡ template_for kind templates.old) }
     ensures same { templates.new ≡ templates.old }
 {

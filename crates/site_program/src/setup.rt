@@ -2,7 +2,8 @@
 use callback_store::Plugins;
 use std::alloc::Global;
 
-/// What a site carries its commands out with: the plugins, the calls that each page has, and where memory comes from.
+/// What a site carries its commands out with: the plugins, the calls that each page has, and where
+/// memory comes from.
 #[derive(Drop)]
 pub struct Setup<'p, S> {
     pub(crate) plugins: &'p Plugins<S>,

@@ -6,7 +6,7 @@ ghost use Rattle.site_replies.specs.Reply.{reply_data};
 use crate::line_reply::{LineReply, is_done, is_edit};
 use crate::setup::Setup;
 use crate::state::SiteState;
-use crate::stored::Stored;
+use crate::stored::SiteStore;
 use callback_store::{Plugins, Stated};
 use content_cache::PieceCache;
 use page_log::{Unwatched, Watch};
@@ -19,7 +19,8 @@ use template_parts::OpenPages;
 
 /// A site with its plugins: it carries out lines of JSON, each a command, and replies to each.
 ///
-/// It borrows the plugins. Contracts see its stored rows, its open pages, and its setup, which no command changes.
+/// It borrows the plugins. Contracts see its stored rows, its open pages, and its setup, which no
+/// command changes.
 #[derive(Drop)]
 pub struct Site<'p, S> {
     pub(crate) setup: Setup<'p, S>,
@@ -31,15 +32,17 @@ impl<'p, S: Stated> Site<'p, S> {
     ghost use Rattle.callback_store.specs.Shape.{shapes_of};
     ghost use Rattle.site_replies.specs.declared.reply.Refusal.{Refusal};
     ghost use Rattle.site_replies.specs.Reply.{refused};
-    ghost use Rattle.site_edits.specs.Faults.{IsReadFault};
+    ghost use Rattle.post_tables.specs.Faults.{IsStoreReadFault};
     ghost use Rattle.site_export.specs.Lines.{IsHistory, IsShort, FitsLines};
     ghost use Rattle.site_program.specs.Requests.{Opened};
-    ghost use Rattle.site_program.specs.Site.{engine_of, calls_of, setup_of, rows_of, state_of, cache_of};
+    ghost use Rattle.site_program.specs.Site.{engine_of, calls_of, setup_of, rows_of, state_of};
+    ghost use Rattle.site_program.specs.Site.{cache_of};
     ghost use Rattle.site_program.specs.State.{empty_site, page_in};
     ghost use Rattle.site_program.specs.Step.{IsReply, steps_of, place_turned};
 
-    /// Makes an empty site: nothing is stored, no plugin is active and no page is open. Each page may make up to
-    /// `calls` calls of its callbacks, and the pieces of up to `cache` texts are kept for later pages.
+    /// Makes an empty site: nothing is stored, no plugin is active and no page is open. Each page
+    /// may make up to `calls` calls of its callbacks, and the pieces of up to `cache` texts are
+    /// kept for later pages.
     pub fn new(
         alloc: Global,
         plugins: &'p Plugins<S>,
@@ -63,17 +66,19 @@ impl<'p, S: Stated> Site<'p, S> {
             alloc,
         };
         let state = SiteState {
-            stored: Stored::new(alloc, tables),
+            stored: SiteStore::new(alloc, tables),
             pages,
             cache,
         };
         Ok(Site { setup, state })
     }
 
-    /// Limits how many rows each later statement on the site's tables may visit; with `None` there is no limit, as at
-    /// first. A command whose statement would visit more may be refused as `Store`, which leaves every row as it was.
+    /// Limits how many rows each later statement on the site's tables may visit; with `None` there
+    /// is no limit, as at first. A command whose statement would visit more may be refused as
+    /// `Store`, which leaves every row as it was.
     pub fn limit_steps(&mut self, limit: Option<u32>)
-        ensures rows { state_of S.says S.number self.new ≡ record (state_of S.says S.number self.old)
+        ensures rows { state_of S.says S.number self.new
+            ≡ record (state_of S.says S.number self.old)
             { rows = record (rows_of self.old) { step_limit = limit } } }
         ensures setup { setup_of self.new ≡ setup_of self.old }
         ensures cache { cache_of self.new ≡ cache_of self.old }
@@ -81,29 +86,32 @@ impl<'p, S: Stated> Site<'p, S> {
         self.state.stored.limit_steps(limit);
     }
 
-    /// Returns the lines that rebuild the site's rows, each without its newline: a site that has just begun and carries
-    /// them out stores the same posts, options, templates and active plugins, and has given the same largest ID. The
-    /// site stays as it is. It fails as `OutOfMemory` if memory runs out, and as `Store` only under a limit on steps.
+    /// Returns the lines that rebuild the site's rows, each without its newline: a site that has
+    /// just begun and carries them out stores the same posts, options, templates and active
+    /// plugins, and has given the same largest ID. The site stays as it is. It fails as
+    /// `OutOfMemory` if memory runs out, and as `Store` only under a limit on steps.
     pub fn history(&mut self) -> Result<Vec<String>, StoreFault>
-        ensures lines { IfOk result (λ lines. IsHistory (rows_of self.old) (map string_bytes lines.items)) }
+        ensures lines { IfOk result
+            (λ lines. IsHistory (rows_of self.old) (map string_bytes lines.items)) }
         ensures short { FitsLines (rows_of self.old)
             → IfOk result (λ lines. All IsShort (map string_bytes lines.items)) }
         ensures same { state_of S.says S.number self.new ≡ state_of S.says S.number self.old }
         ensures setup { setup_of self.new ≡ setup_of self.old }
         ensures cache { cache_of self.new ≡ cache_of self.old }
-        ensures fault { IfErr result (IsReadFault (rows_of self.old).step_limit) }
+        ensures fault { IfErr result (IsStoreReadFault (rows_of self.old).step_limit) }
     {
         self.state.stored.history(self.setup.alloc)
     }
 
-    /// Carries out one line, given without its newline. A line that isn't a command is refused as such. A refused
-    /// command leaves the rows and the open pages as they were, but for the page that `turns` names: that one is closed
-    /// if it is refused, or if memory runs out.
+    /// Carries out one line, given without its newline. A line that isn't a command is refused as
+    /// such. A refused command leaves the rows and the open pages as they were, but for the page
+    /// that `turns` names: that one is closed if it is refused, or if memory runs out.
     ///
-    /// Any command may be refused on allocation failure. The database may refuse any that would change rows and, if the
-    /// steps of a statement are limited, any that needs a statement.
+    /// Any command may be refused on allocation failure. The database may refuse any that would
+    /// change rows and, if the steps of a statement are limited, any that needs a statement.
     pub fn command(&mut self, line: &[u8]) -> SiteReply
-        ensures replies { IsReply (steps_of S.says S.number (setup_of self.old)) (state_of S.says S.number self.old)
+        ensures replies { IsReply (steps_of S.says S.number (setup_of self.old))
+            (state_of S.says S.number self.old)
             line.now (reply_data result) (state_of S.says S.number self.new) }
         ensures refused { (r : Refusal) → reply_data result ≡ refused r
             → rows_of self.new ≡ rows_of self.old }
@@ -131,7 +139,8 @@ impl<'p, S: Stated> Setup<'p, S> {
     ghost use Rattle.site_program.specs.History.{is_kept};
     ghost use Rattle.site_commands.specs.Worked.{line_command};
 
-    /// Carries out one line over a site's state, and says beside its reply whether the history has it.
+    /// Carries out one line over a site's state, and says beside its reply whether the history has
+    /// it.
     #[tactic(auto, using(crate::proofs::Carrying::left_rows, crate::proofs::Carrying::left_limit))]
     pub(crate) fn command<V: Watch>(
         &self,
@@ -139,10 +148,13 @@ impl<'p, S: Stated> Setup<'p, S> {
         line: &[u8],
         watch: &mut V,
     ) -> LineReply
-        ensures replies { IsReply (steps_of S.says S.number self.now) (seen_by S.says S.number self.now state.old)
+        ensures replies { IsReply (steps_of S.says S.number self.now)
+            (seen_by S.says S.number self.now state.old)
             line.now (reply_data result.reply) (seen_by S.says S.number self.now state.new) }
-        ensures kept { result.is_kept ≡ is_kept (record { line = line.now; reply = reply_data result.reply }) }
-        ensures refused { (r : Refusal) → reply_data result.reply ≡ refused r → state.new.stored ≡ state.old.stored }
+        ensures kept { result.is_kept
+            ≡ is_kept (record { line = line.now; reply = reply_data result.reply }) }
+        ensures refused { (r : Refusal) → reply_data result.reply ≡ refused r → state.new.stored
+            ≡ state.old.stored }
         ensures limit { state.new.stored.step_limit ≡ state.old.stored.step_limit }
         ensures cache { state.new.cache ≡ state.old.cache }
     {
@@ -161,8 +173,10 @@ impl<'p, S: Stated> Setup<'p, S> {
         line: &[u8],
         watch: &mut V,
     ) -> Result<LineReply, StoreFault>
-        ensures carried { CarriesOn (line_command line.now) (seen_by S.says S.number self.now state.old)
-            (steps_of S.says S.number self.now (seen_by S.says S.number self.now state.old) line.now)
+        ensures carried { CarriesOn (line_command line.now)
+            (seen_by S.says S.number self.now state.old)
+            (steps_of S.says S.number self.now (seen_by S.says S.number self.now state.old)
+            line.now)
             (reply_in result) (seen_by S.says S.number self.now state.new) }
         ensures kept { IfOk result (λ r. r.is_kept
             ≡ is_kept (record { line = line.now; reply = reply_data r.reply })) }
@@ -192,7 +206,8 @@ impl<'p, S: Stated> Setup<'p, S> {
         command: Command<'_>,
         watch: &mut V,
     ) -> Result<SiteReply, StoreFault>
-        ensures carried { CarriesOn (Some (asked_by command.entry)) (seen_by S.says S.number self.now state.old)
+        ensures carried { CarriesOn (Some (asked_by command.entry))
+            (seen_by S.says S.number self.now state.old)
             (carried_out (engine_of S.says S.number self.now) (calls_of self.now)
             (seen_by S.says S.number self.now state.old) (Some (asked_by command.entry)))
             result (seen_by S.says S.number self.now state.new) }

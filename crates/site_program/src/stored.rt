@@ -1,30 +1,28 @@
 //! What a site has stored, with what its pages read of it kept from one request to the next.
 ghost use Rattle.std.specs.Prelude.{◌≡◌, All, IfOk, IfErr, map, string_bytes};
 ghost use Rattle.permalink_query.specs.Paths.{query_of};
-ghost use Rattle.permalink_query.specs.Found.{found};
-ghost use Rattle.site_edits.specs.Faults.{IsReadFault};
+ghost use Rattle.permalink_query.specs.Found.{query_result};
+ghost use Rattle.post_tables.specs.Faults.{IsStoreReadFault};
 ghost use Rattle.site_export.specs.Lines.{IsHistory, IsShort, FitsLines};
 ghost use Rattle.site_program.specs.Requests.{options_of, templates_of, active_of, found_by};
 
 use crate::kept_finds::KeptFinds;
-use crate::shared::SharedList;
 use crate::templates::Templates;
-use hook_changes::Text;
+use hook_changes::{Shared, SharedList, Text};
 use hook_machine::KeptLoad;
-use permalink_query::{FindFault, Found, find, read};
+use permalink_query::{Found, find, read};
 use post_tables::Tables;
 use site_edits::StoreFault;
 use site_export::history_of;
 use std::alloc::Global;
 use std::marker::Model;
-use template_parts::SharedFound;
 
-/// The tables of a site, and what was read from them since it last changed: the options, the templates, the active
-/// names, and what paths found.
+/// The tables of a site, and what was read from them since it last changed: the options, the
+/// templates, the active names, and what paths found.
 ///
 /// Contracts see the rows of the tables, and not what is kept: that is always what the tables hold.
 #[derive(Drop)]
-pub struct Stored {
+pub struct SiteStore {
     pub(crate) tables: Tables,
     pub(crate) options: Option<SharedList<(Text, Text)>>,
     pub(crate) templates: Option<Templates>,
@@ -34,7 +32,7 @@ pub struct Stored {
     pub(crate) load: KeptLoad,
 }
 
-impl Model for Stored {
+impl Model for SiteStore {
     ghost use Rattle.post_tables.specs.Rows.{Rows, rows_code};
     ghost use Rattle.site_program.specs.Kept.{KeepsUp};
 
@@ -47,12 +45,12 @@ impl Model for Stored {
     ghost invariant = { λ s. KeepsUp s.tables s.options s.templates s.active s.found };
 }
 
-impl Stored {
+impl SiteStore {
     /// Takes over the tables. Nothing is kept of them yet.
     pub(crate) fn new(alloc: Global, tables: Tables) -> Self
         ensures { result ≡ tables }
     {
-        Stored {
+        SiteStore {
             tables,
             options: None,
             templates: None,
@@ -72,9 +70,10 @@ impl Stored {
     /// Returns the lines that rebuild the rows. What is kept of the rows stays, since none changes.
     pub(crate) fn history(&mut self, alloc: Global) -> Result<Vec<String>, StoreFault>
         ensures lines { IfOk result (λ lines. IsHistory self.old (map string_bytes lines.items)) }
-        ensures short { FitsLines self.old → IfOk result (λ lines. All IsShort (map string_bytes lines.items)) }
+        ensures short { FitsLines self.old
+            → IfOk result (λ lines. All IsShort (map string_bytes lines.items)) }
         ensures same { self.new ≡ self.old }
-        ensures fault { IfErr result (IsReadFault self.old.step_limit) }
+        ensures fault { IfErr result (IsStoreReadFault self.old.step_limit) }
     {
         Ok(history_of(alloc, &mut self.tables)?)
     }
@@ -83,12 +82,12 @@ impl Stored {
     pub(crate) fn options(&mut self) -> Result<SharedList<(Text, Text)>, StoreFault>
         ensures ok { IfOk result (λ options. options ≡ options_of self.old) }
         ensures same { self.new ≡ self.old }
-        ensures fault { IfErr result (IsReadFault self.old.step_limit) }
+        ensures fault { IfErr result (IsStoreReadFault self.old.step_limit) }
     {
         if let Some(options) = &self.options {
             return Ok(options.share()?);
         }
-        let options = SharedList::new(self.tables.options()?)?;
+        let options = SharedList::new(self.tables.options()?.into_vec())?;
         self.options = Some(options.share()?);
         Ok(options)
     }
@@ -97,22 +96,22 @@ impl Stored {
     pub(crate) fn active(&mut self) -> Result<SharedList<Text>, StoreFault>
         ensures ok { IfOk result (λ names. names ≡ active_of self.old) }
         ensures same { self.new ≡ self.old }
-        ensures fault { IfErr result (IsReadFault self.old.step_limit) }
+        ensures fault { IfErr result (IsStoreReadFault self.old.step_limit) }
     {
         if let Some(active) = &self.active {
             return Ok(active.share()?);
         }
-        let active = SharedList::new(self.tables.active()?)?;
+        let active = SharedList::new(self.tables.active()?.into_vec())?;
         self.active = Some(active.share()?);
         Ok(active)
     }
 
-    /// Takes the templates, read from the tables if they are not kept. The caller owns them until it hands them to
-    /// `keep_templates`.
+    /// Takes the templates, read from the tables if they are not kept. The caller owns them until
+    /// it hands them to `keep_templates`.
     pub(crate) fn take_templates(&mut self, alloc: Global) -> Result<Templates, StoreFault>
         ensures ok { IfOk result (λ templates. templates ≡ templates_of self.old) }
         ensures same { self.new ≡ self.old }
-        ensures fault { IfErr result (IsReadFault self.old.step_limit) }
+        ensures fault { IfErr result (IsStoreReadFault self.old.step_limit) }
     {
         if let Some(templates) = self.templates.take() {
             return Ok(templates);
@@ -128,24 +127,26 @@ impl Stored {
         self.templates = Some(templates);
     }
 
-    /// Finds what a path asks for in the site, whose options these are. The tables are read only if it is not kept.
+    /// Finds what a path asks for in the site, whose options these are. The tables are read only if
+    /// it is not kept.
     pub(crate) fn found(
         &mut self,
         alloc: Global,
         path: &str,
         options: &[(Text, Text)],
-    ) -> Result<SharedFound, StoreFault>
+    ) -> Result<Shared<Found>, StoreFault>
         requires { options.now ≡ options_of self.old }
         ensures found { IfOk result (λ found. found ≡ found_by self.old path.now) }
         ensures same { self.new ≡ self.old }
-        ensures stopped { IfErr result (IsReadFault self.old.step_limit) }
+        ensures stopped { IfErr result (IsStoreReadFault self.old.step_limit) }
     {
         if let Some(found) = self.found.at(path) {
             return Ok(found.share()?);
         }
         let found = found_by(alloc, &mut self.tables, path, options)?;
-        let found = SharedFound::new(alloc, found)?;
-        // If memory runs out here, the page is printed all the same, and the path is read again next time.
+        let found = Shared::new(alloc, found)?;
+        // If memory runs out here, the page is printed all the same, and the path is read again
+        // next time.
         let _ = self.found.keep(alloc, path, &found);
         Ok(found)
     }
@@ -159,14 +160,10 @@ fn found_by(
     options: &[(Text, Text)],
 ) -> Result<Found, StoreFault>
     ensures found { IfOk result (λ f.
-        f ≡ found tables.old.posts options.now (query_of path.now)) }
+        f ≡ query_result tables.old.posts options.now (query_of path.now)) }
     ensures same { tables.new ≡ tables.old }
-    ensures stopped { IfErr result (IsReadFault tables.old.step_limit) }
+    ensures stopped { IfErr result (IsStoreReadFault tables.old.step_limit) }
 {
     let query = read(alloc, path)?;
-    match find(alloc, tables, &query, options) {
-        Ok(found) => Ok(found),
-        Err(FindFault::OutOfMemory) => Err(StoreFault::OutOfMemory),
-        Err(FindFault::Store) => Err(StoreFault::Store),
-    }
+    find(alloc, tables, &query, options)
 }

@@ -3,11 +3,11 @@ ghost use Rattle.std.specs.Prelude.{◌≡◌, IfOk, find, map, option_map, byte
 ghost use Rattle.template_trees.specs.Trees.{default_index};
 ghost use Rattle.site_program.specs.Requests.{template_named};
 
-use hook_changes::{Listed, Text};
+use hook_changes::{Listed, Shared, Text};
 use site_records::text_named;
 use std::alloc::{AllocError, Global};
 use std::marker::Model;
-use template_trees::{SharedTemplate, default_index, read_stored};
+use template_trees::{Template, default_index, read_stored};
 
 /// The stored templates of a site: their names with their texts, which is what contracts see.
 ///
@@ -17,9 +17,9 @@ pub struct Templates {
     texts: Listed<(Text, Text)>,
     names: Listed<Text>,
     /// For each name that was asked for, the template that is stored under it, if one is.
-    trees: Listed<(Text, Option<SharedTemplate>)>,
+    trees: Listed<(Text, Option<Shared<Template>>)>,
     /// The template of a page for which none is stored, once a page has used it.
-    default: Option<SharedTemplate>,
+    default: Option<Shared<Template>>,
 }
 
 impl Model for Templates {
@@ -62,7 +62,7 @@ impl Templates {
         &mut self,
         alloc: Global,
         name: &str,
-    ) -> Result<Option<SharedTemplate>, AllocError>
+    ) -> Result<Option<Shared<Template>>, AllocError>
         ensures template { IfOk result (λ template. template ≡ template_named name.now self.old) }
         ensures same { self.new ≡ self.old }
     {
@@ -76,14 +76,14 @@ impl Templates {
     }
 
     /// Returns the template of a page for which none is stored. It is made once.
-    pub(crate) fn default_index(&mut self, alloc: Global) -> Result<SharedTemplate, AllocError>
+    pub(crate) fn default_index(&mut self, alloc: Global) -> Result<Shared<Template>, AllocError>
         ensures template { IfOk result (λ template. template.nodes ≡ default_index) }
         ensures same { self.new ≡ self.old }
     {
         if let Some(template) = &self.default {
             return template.share();
         }
-        let template = SharedTemplate::new(alloc, default_index(alloc)?)?;
+        let template = Shared::new(alloc, default_index(alloc)?)?;
         self.default = Some(template.share()?);
         Ok(template)
     }
@@ -102,9 +102,9 @@ fn names_of(alloc: Global, texts: &[(Text, Text)]) -> Result<Listed<Text>, Alloc
 
 /// Returns what is kept for a name, if anything is.
 fn tree_named<'t>(
-    trees: &'t [(Text, Option<SharedTemplate>)],
+    trees: &'t [(Text, Option<Shared<Template>>)],
     name: &str,
-) -> Option<&'t Option<SharedTemplate>>
+) -> Option<&'t Option<Shared<Template>>>
     ensures { option_map (λ tree. tree.now) result
         ≡ option_map (λ t. t.1) (find (λ t. bytes_eq t.0 name.now) trees.now) }
 {
@@ -113,7 +113,7 @@ fn tree_named<'t>(
 }
 
 /// Returns the same template for another owner.
-fn shared(tree: &Option<SharedTemplate>) -> Result<Option<SharedTemplate>, AllocError>
+fn shared(tree: &Option<Shared<Template>>) -> Result<Option<Shared<Template>>, AllocError>
     ensures { IfOk result (λ shared. shared ≡ tree.now) }
 {
     match tree {
@@ -127,14 +127,14 @@ fn template_named(
     alloc: Global,
     name: &str,
     texts: &[(Text, Text)],
-) -> Result<Option<SharedTemplate>, AllocError>
+) -> Result<Option<Shared<Template>>, AllocError>
     ensures { IfOk result (λ template. template ≡ template_named name.now texts.now) }
 {
     let Some(text) = text_named(texts, name) else {
         return Ok(None);
     };
     match read_stored(alloc, name, text)? {
-        Some(template) => Ok(Some(SharedTemplate::new(alloc, template)?)),
+        Some(template) => Ok(Some(Shared::new(alloc, template)?)),
         None => Ok(None),
     }
 }

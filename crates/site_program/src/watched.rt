@@ -44,13 +44,15 @@ impl<'p, S: Stated> Setup<'p, S> {
 
     /// Returns the name of the plugin that has a callback, if one has it.
     fn plugin_of<'t>(&'t self, callback: CallbackId) -> Option<&'t str>
-        ensures { option_map (λ name. name.now) result ≡ owner (engine_of S.says S.number self.entry.now).plugins
+        ensures { option_map (λ name. name.now) result
+            ≡ owner (engine_of S.says S.number self.entry.now).plugins
             callback }
     {
         self.plugins.owner(callback)
     }
 
-    /// Tells of the invocation that a page's last turn made. If memory runs out for what is told, it is left out.
+    /// Tells of the invocation that a page's last turn made. If memory runs out for what is told,
+    /// it is left out.
     fn tell_invocation<'t, V: Watch>(
         &'t self,
         page: &'t OpenPage,
@@ -119,7 +121,8 @@ impl<'p, S: Stated> Setup<'p, S> {
         turned
     }
 
-    /// Makes `count` turns of a page, or as many as it has left, one by one, and tells what comes of each.
+    /// Makes `count` turns of a page, or as many as it has left, one by one, and tells what comes
+    /// of each.
     pub(crate) fn turns_watched<V: Watch>(
         &self,
         page: OpenPage,

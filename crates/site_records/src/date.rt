@@ -1,6 +1,7 @@
 //! Dates of posts.
 
-ghost use Rattle.std.specs.Prelude.{◌≡◌, ◌<◌, ◌^◌, true, is_some, length, slice_range, IfSome, IsTrue, Ok};
+ghost use Rattle.std.specs.Prelude.{◌≡◌, ◌<◌, ◌^◌, true, is_some, length, slice_range, IfSome};
+ghost use Rattle.std.specs.Prelude.{IsTrue, Ok};
 ghost use Rattle.site_records.specs.Digits.{number};
 ghost use Rattle.site_records.specs.Dates.{is_day, is_clock, has_marks, is_moment, is_post_date};
 
@@ -39,8 +40,10 @@ fn has_marks(t: &[u8]) -> bool
 fn has_moment(t: &[u8]) -> bool
     requires { length t.now ≡ 19 }
     ensures { result ≡ is_moment
-        (number (slice_range t.now 0 4)) (number (slice_range t.now 5 7)) (number (slice_range t.now 8 10))
-        (number (slice_range t.now 11 13)) (number (slice_range t.now 14 16)) (number (slice_range t.now 17 19)) }
+        (number (slice_range t.now 0 4)) (number (slice_range t.now 5 7))
+        (number (slice_range t.now 8 10))
+        (number (slice_range t.now 11 13)) (number (slice_range t.now 14 16))
+        (number (slice_range t.now 17 19)) }
 {
     match (
         number(&t[0..4]),
@@ -67,9 +70,10 @@ fn is_post_date(text: &str) -> bool
     t.len() == 19 && has_marks(t) && has_moment(t)
 }
 
-/// The date and time of a post, which contracts see as its 19 bytes: `YYYY-MM-DD HH:MM:SS`, as `2024-02-29 10:00:00`
-/// (WordPress, wp_insert_post, `post_date`). The year is 0001 to 9999, the day is one of the Gregorian calendar, hours
-/// are 00 to 23, minutes and seconds 00 to 59. There is no time zone. Of two dates the earlier one is the smaller text.
+/// The date and time of a post, which contracts see as its 19 bytes: `YYYY-MM-DD HH:MM:SS`, as
+/// `2024-02-29 10:00:00` (WordPress, wp_insert_post, `post_date`). The year is 0001 to 9999, the
+/// day is one of the Gregorian calendar, hours are 00 to 23, minutes and seconds 00 to 59. There is
+/// no time zone. Of two dates the earlier one is the smaller text.
 #[derive(Drop)]
 pub struct PostDate {
     bytes: [u8; 19],
@@ -87,8 +91,8 @@ impl Model for PostDate {
 }
 
 impl PostDate {
-    /// Reads a text as a date, and returns `None` if it isn't one: another length, another byte in place of a digit or
-    /// a mark, or a day or a time that doesn't exist. Does not allocate.
+    /// Reads a text as a date, and returns `None` if it isn't one: another length, another byte in
+    /// place of a digit or a mark, or a day or a time that doesn't exist. Does not allocate.
     pub fn read(text: &str) -> Option<PostDate>
         ensures some { is_some result ≡ is_post_date text.now }
         ensures text { IfSome result (λ d. d ≡ text.now) }

@@ -2,7 +2,8 @@
 ghost use Rattle.std.specs.Prelude.{◌≡◌, ◌<◌, ◌≤◌, ◌^◌, length, IfSome};
 ghost use Rattle.site_records.specs.Digits.{number};
 
-/// Returns the number that at most 10 decimal digits spell, or `None` if there is any other byte. No digits spell 0.
+/// Returns the number that at most 10 decimal digits spell, or `None` if there is any other byte.
+/// No digits spell 0.
 pub fn number(digits: &[u8]) -> Option<u64>
     requires { length digits.now ≤ 10 }
     ensures value { result ≡ number digits.now }

@@ -1,5 +1,6 @@
-//! What a site stores, as plain data: posts and pages with their dates, options, templates, names of active plugins;
-//! and what a path finds of it. Also what several crates read of such data: numbers in digits, and the text of a name.
+//! What a site stores, as plain data: posts and pages with their dates, options, templates, names
+//! of active plugins; and what a path finds of it. Also what several crates read of such data:
+//! numbers in digits, and the text of a name.
 #![tactic(auto)]
 
 mod date;

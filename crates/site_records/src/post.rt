@@ -5,7 +5,8 @@ use hook_changes::{Listed, Text};
 /// The largest ID that a post can have: clients with signed 32-bit numbers can name no larger one.
 pub const MAX_ID: u32 = 2_147_483_647;
 
-/// The kind of an entry (Theme Handbook, Post Types): posts are listed by date, a page is shown by itself.
+/// The kind of an entry (Theme Handbook, Post Types): posts are listed by date, a page is shown by
+/// itself.
 #[derive(Clone, Copy, PartialEq, Eq)]
 pub enum PostKind {
     Post,

@@ -1,5 +1,6 @@
 -- Lines that were carried out, and those that are left.
-use Rattle.std.proofs.Common.{◌≡◌, ℕ, ◌+◌, ◌∙◌, List, [], ◌∷◌, ◌++◌, refl, sym, ap, map, take, drop, append_assoc, append-nil, take-append-drop, length, ◌<◌, get_or, subst, true, suc, arith, ◌≤◌, Result, Ok, Err}
+use Rattle.std.proofs.Common.{◌≡◌, ℕ, ◌+◌, ◌∙◌, List, [], ◌∷◌, ◌++◌, refl, sym, ap, map, take, drop, append_assoc, append-nil, take-append-drop, length, ◌<◌}
+use Rattle.std.proofs.Common.{get_or, subst, true, suc, arith, ◌≤◌, Result, Ok, Err}
 use Rattle.std.specs.Prelude.{OnOk, OnErr}
 use Rattle.std.proofs.lemmas.List.{take_more, map-append}
 use Rattle.std.proofs.lemmas.List.Elements.{All-append, All-cons, All-nil}
@@ -29,7 +30,8 @@ pub edits_more : {X : Type 0} (f : X → List ℕ) (lines : List X) (i : ℕ) (l
     → AreEdits (map f (take i lines)) → is_edit (line_command (f line)) ≡ true → AreEdits (map f (take (i + 1) lines))
 edits_more f lines i line inside is before one =
     let P : List ℕ → Type 0 = λ text. is_edit (line_command text) ≡ true in
-    subst AreEdits (sym (texts_more f lines i line inside is)) (All-append P (map f (take i lines)) (f line ∷ []) before (All-cons P (f line) [] one (All-nil P)))
+    subst AreEdits (sym (texts_more f lines i line inside is)) (All-append P (map f (take i lines)) (f line ∷ []) before
+    (All-cons P (f line) [] one (All-nil P)))
 
 module _ (steps : State → List ℕ → State × ReplyData) where
   -- one more line was carried out
@@ -40,7 +42,8 @@ module _ (steps : State → List ℕ → State × ReplyData) where
       ∙ ap (site_after steps first) (sym (texts_more f lines i line inside is))
 
   -- a batch more was carried out
-  pub batch_more : (first mid new : State) (lines before left batch next : List (List ℕ)) (limit : ℕ) → lines ≡ before ++ left → mid ≡ site_after steps first before
+  pub batch_more : (first mid new : State) (lines before left batch next : List (List ℕ)) (limit : ℕ) → lines ≡ before ++ left → mid
+      ≡ site_after steps first before
       → AreEdits before → batch ≡ take limit left → next ≡ drop limit left → new ≡ site_after steps mid batch → AreEdits batch
       → (done : List (List ℕ)) × (lines ≡ done ++ next) × (new ≡ site_after steps first done) × AreEdits done
   batch_more first mid new lines before left batch next limit whole made early took rest did late =

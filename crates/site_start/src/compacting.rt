@@ -19,7 +19,8 @@ use sqlite::Start;
 use sqlite_trees::store::Alter;
 use std::alloc::Global;
 
-/// Opens the log in a file, carries out its lines in the site, and puts short lines in their place, as [`compact`] does.
+/// Opens the log in a file, carries out its lines in the site, and puts short lines in their place,
+/// as [`compact`] does.
 pub fn compact_file<P: Stated, S: Start>(
     rt: &HostRuntime,
     path: &str,
@@ -32,8 +33,9 @@ pub fn compact_file<P: Stated, S: Start>(
     compact(rt.alloc(), site, copy, &mut log, identity)
 }
 
-/// Puts the lines that rebuild a site in the place of all lines of its log, after the identity. They are tried first:
-/// carried out in `copy`, which has to be an empty site, they leave a site that the same lines rebuild.
+/// Puts the lines that rebuild a site in the place of all lines of its log, after the identity.
+/// They are tried first: carried out in `copy`, which has to be an empty site, they leave a site
+/// that the same lines rebuild.
 ///
 /// On `Err` the log has the lines that it had.
 pub fn compact<P: Stated, S: Alter>(
@@ -44,15 +46,18 @@ pub fn compact<P: Stated, S: Alter>(
     identity: &str,
 ) -> Result<(), StartFault>
     // The copy is what the lines of the log now make of it.
-    ensures replayed { HasCleanDisk (state S.Store log.new) → OnOk result (state_of P.says P.number copy.new
-        ≡ site_after (steps_of P.says P.number (setup_of copy.old)) (state_of P.says P.number copy.old)
+    ensures replayed { HasCleanDisk (state S.Store log.new)
+        → OnOk result (state_of P.says P.number copy.new
+        ≡ site_after (steps_of P.says P.number (setup_of copy.old))
+        (state_of P.says P.number copy.old)
         (lines_of S.Store log.new)) }
 
     // They are short lines of the site, and of the copy.
     ensures short { HasCleanDisk (state S.Store log.new) → OnOk result ((later : List (List ℕ))
         × (lines_of S.Store log.new ≡ identity.now ∷ later)
         × IsHistory (rows_of site.old) later × IsHistory (rows_of copy.new) later) }
-    ensures err { IsOpen S.Store log.new → OnErr result (lines_of S.Store log.new ≡ lines_of S.Store log.old) }
+    ensures err { IsOpen S.Store log.new
+        → OnErr result (lines_of S.Store log.new ≡ lines_of S.Store log.old) }
     ensures opened { HasCleanDisk (state S.Store log.new) → OnOk result (IsOpen S.Store log.new) }
 
     // The site stays as it is.
@@ -80,7 +85,8 @@ fn are_equal(some: &[String], others: &[String]) -> bool
 
 /// Puts a line before the others.
 fn with_first(alloc: Global, line: &str, mut lines: Vec<String>) -> Result<Vec<String>, StartFault>
-    ensures { IfOk result (λ whole. map string_bytes whole.items ≡ line.now ∷ map string_bytes lines.items) }
+    ensures { IfOk result (λ whole. map string_bytes whole.items ≡ line.now
+        ∷ map string_bytes lines.items) }
 {
     let line = String::from_str(alloc, line)?;
     match lines.insert(0, line) {

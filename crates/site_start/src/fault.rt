@@ -5,14 +5,15 @@ use site_replies::Refusal;
 use std::alloc::AllocError;
 use thiserror::Error;
 
-/// Why a site was not started from its log, or its log not made shorter. No line of the log has changed.
+/// Why a site was not started from its log, or its log not made shorter. No line of the log has
+/// changed.
 #[derive(Clone, Copy, Debug, PartialEq, Eq, Drop, Error)]
 pub enum StartFault {
     /// The log cannot be opened or read, or its first line could not be appended.
     #[error("{0}")]
     Log(LogFault),
-    /// The first line is not the identity of this program: its plugins or their callbacks are other ones, or what
-    /// lines mean was changed.
+    /// The first line is not the identity of this program: its plugins or their callbacks are other
+    /// ones, or what lines mean was changed.
     #[error("the file was written by a program with other plugins or of another version; \
          let that one print the site with --export, and serve what it prints")]
     OtherProgram,

@@ -8,13 +8,16 @@ use callback_store::{Plugin, Plugins, Stated};
 use json::Writer;
 use std::alloc::{AllocError, Global};
 
-// The version of what lines mean. A program in which some edit means something else has another one.
+// The version of what lines mean. A program in which some edit means something else has another
+// one.
 const MEANING: u64 = 1;
 
-/// Returns the line that names a program: the version of what its lines mean, and its plugins in the order of their
-/// names, each with the numbers of its callbacks, as in `{"site":1,"plugins":[["bold",[17,18]]]}`. It is no command.
+/// Returns the line that names a program: the version of what its lines mean, and its plugins in
+/// the order of their names, each with the numbers of its callbacks, as in
+/// `{"site":1,"plugins":[["bold",[17,18]]]}`. It is no command.
 pub fn identity_of<S: Stated>(alloc: Global, plugins: &Plugins<S>) -> Result<String, AllocError>
-    ensures { IfOk result (λ line. string_bytes line ≡ identity_line (shapes_of S.number plugins.now)) }
+    ensures { IfOk result (λ line. string_bytes line
+        ≡ identity_line (shapes_of S.number plugins.now)) }
 {
     let mut line = Writer::new(Vec::new(alloc));
     line.begin_object()?;

@@ -6,21 +6,26 @@ ghost use Rattle.site_program.specs.State.{State};
 ghost use Rattle.site_program.specs.Step.{step};
 ghost use Rattle.site_start.specs.Started.{rows_after};
 
-/// A law: a log is the site. If the lines of a log make the rows of a site, then so they do after the site has served,
-/// with the edits that were done after them.
+/// A law: a log is the site. If the lines of a log make the rows of a site, then so they do after
+/// the site has served, with the edits that were done after them.
 ///
-/// And whatever such a log is found to hold after a crash, it makes the rows that the site had after some first lines:
-/// the clause `ahead` of [`Site::serve`](site_program::Site::serve) says which, and that what was written belongs to
-/// the replies to these very lines.
+/// And whatever such a log is found to hold after a crash, it makes the rows that the site had
+/// after some first lines: the clause `ahead` of [`Site::serve`](site_program::Site::serve) says
+/// which, and that what was written belongs to the replies to these very lines.
 pub fn the_log_is_the_site()
-    ensures served { (engine : Engine) (calls : ℕ) (limit : Option ℕ) (old new : State) (noted : List (List ℕ))
+    ensures served { (engine : Engine) (calls : ℕ) (limit : Option ℕ) (old new : State)
+        (noted : List (List ℕ))
         (replied : List Replied)
-        → old.rows ≡ rows_after engine calls limit noted → Serves (step engine calls) old replied new
+        → old.rows ≡ rows_after engine calls limit noted
+        → Serves (step engine calls) old replied new
         → new.rows ≡ rows_after engine calls limit (noted ++ history replied) }
-    ensures left { (engine : Engine) (calls : ℕ) (limit : Option ℕ) (old new : State) (noted held : List (List ℕ))
+    ensures left { (engine : Engine) (calls : ℕ) (limit : Option ℕ) (old new : State)
+        (noted held : List (List ℕ))
         (front back : List Replied)
-        → old.rows ≡ rows_after engine calls limit noted → Serves (step engine calls) old (front ++ back) new
+        → old.rows ≡ rows_after engine calls limit noted
+        → Serves (step engine calls) old (front ++ back) new
         → held ≡ noted ++ history front
-        → (mid : State) × Serves (step engine calls) old front mid × Serves (step engine calls) mid back new
+        → (mid : State) × Serves (step engine calls) old front mid
+        × Serves (step engine calls) mid back new
         × (mid.rows ≡ rows_after engine calls limit held) }
 {}

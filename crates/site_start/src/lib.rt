@@ -1,4 +1,5 @@
-//! Starting a site from its log: the lines of the log make the site anew. And making the log shorter.
+//! Starting a site from its log: the lines of the log make the site anew. And making the log
+//! shorter.
 #![tactic(auto)]
 
 mod compacting;

@@ -15,14 +15,14 @@ ghost use Rattle.site_start.specs.declared.fault.StartFault.TheVariants.{OtherPr
 use crate::fault::StartFault;
 use crate::replay::{introduce, replay};
 use callback_store::Stated;
-use command_log::{CommandLog, LogFault, Place};
+use command_log::{CommandLog, LogFault, LogPlace};
 use site_program::Site;
 use sqlite::{FileFrom, FileStore, Start};
 use sqlite_trees::store::Alter;
 use std::alloc::Global;
 
-/// Opens the log in a file, or makes it, and carries out its lines in the site, as [`start`] does. What the files held
-/// as they were opened is `S`, and so is what a torn write may leave of them.
+/// Opens the log in a file, or makes it, and carries out its lines in the site, as [`start`] does.
+/// What the files held as they were opened is `S`, and so is what a torn write may leave of them.
 pub fn open_site<P: Stated, S: Start>(
     rt: &HostRuntime,
     path: &str,
@@ -33,7 +33,8 @@ pub fn open_site<P: Stated, S: Start>(
     // The site is what the lines of the log make of it.
     ensures replayed { IfOk result (λ log. HasCleanDisk (state over_files log)
         → state_of P.says P.number site.new
-        ≡ site_after (steps_of P.says P.number (setup_of site.old)) (state_of P.says P.number site.old)
+        ≡ site_after (steps_of P.says P.number (setup_of site.old))
+        (state_of P.says P.number site.old)
         (lines_of over_files log)) }
 
     // They are the lines that the files held, or the identity alone if they held none.
@@ -42,7 +43,8 @@ pub fn open_site<P: Stated, S: Start>(
         × IsTakenOver identity.now held (lines_of over_files log)) }
     ensures edits { IfOk result (λ log. HasCleanDisk (state over_files log)
         → HasEdits identity.now (lines_of over_files log)) }
-    ensures opened { IfOk result (λ log. HasCleanDisk (state over_files log) → IsOpen over_files log) }
+    ensures opened { IfOk result (λ log. HasCleanDisk (state over_files log)
+        → IsOpen over_files log) }
     ensures setup { setup_of site.new ≡ setup_of site.old }
 {
     let mut log = CommandLog::open(rt, path, files)?;
@@ -50,8 +52,8 @@ pub fn open_site<P: Stated, S: Start>(
     Ok(log)
 }
 
-/// Carries out the lines of a log in a site, with no limit on their number. The first has to be the identity, and each
-/// later one an edit that is done; a log without a line gets the identity.
+/// Carries out the lines of a log in a site, with no limit on their number. The first has to be the
+/// identity, and each later one an edit that is done; a log without a line gets the identity.
 ///
 /// On `Err` some of the lines were carried out, so the site is of no further use.
 pub fn start<P: Stated, S: Alter>(
@@ -61,8 +63,10 @@ pub fn start<P: Stated, S: Alter>(
     identity: &str,
 ) -> Result<(), StartFault>
     // The site is what the lines of the log make of it.
-    ensures replayed { HasCleanDisk (state S.Store log.new) → OnOk result (state_of P.says P.number site.new
-        ≡ site_after (steps_of P.says P.number (setup_of site.old)) (state_of P.says P.number site.old)
+    ensures replayed { HasCleanDisk (state S.Store log.new)
+        → OnOk result (state_of P.says P.number site.new
+        ≡ site_after (steps_of P.says P.number (setup_of site.old))
+        (state_of P.says P.number site.old)
         (lines_of S.Store log.new)) }
     ensures lines { HasCleanDisk (state S.Store log.new) → OnOk result
         (IsTakenOver identity.now (lines_of S.Store log.old) (lines_of S.Store log.new)) }
@@ -71,17 +75,20 @@ pub fn start<P: Stated, S: Alter>(
     ensures opened { HasCleanDisk (state S.Store log.new) → OnOk result (IsOpen S.Store log.new) }
 
     // It is another program's log only if its first line is another one.
-    ensures other { HasCleanDisk (state S.Store log.new) → IfErr result (λ fault. fault ≡ OtherProgram
+    ensures other { HasCleanDisk (state S.Store log.new)
+        → IfErr result (λ fault. fault ≡ OtherProgram
         → IsOfAnother identity.now (lines_of S.Store log.old)) }
 
     // After a fault the log has the lines that it had.
-    ensures err { IsOpen S.Store log.new → OnErr result (lines_of S.Store log.new ≡ lines_of S.Store log.old) }
+    ensures err { IsOpen S.Store log.new
+        → OnErr result (lines_of S.Store log.new ≡ lines_of S.Store log.old) }
 
     // A crash leaves what it could leave before, or a log that has the identity alone.
-    ensures survives { Survives (state S.Store log.old) (state S.Store log.new) (KeepsLines (identity.now ∷ [])) }
+    ensures survives { Survives (state S.Store log.old) (state S.Store log.new)
+        (KeepsLines (identity.now ∷ [])) }
     ensures setup { setup_of site.new ≡ setup_of site.old }
 {
-    let first = log.read_batch(Place::start(), 1)?;
+    let first = log.read_batch(LogPlace::start(), 1)?;
     match first.lines.as_slice() {
         [] => {
             introduce(site, identity, identity)?;
@@ -103,7 +110,8 @@ fn append_first<S: Alter>(
     requires { HasCleanDisk (state S.Store log.old) → IsOpen S.Store log.old }
     ensures ok { HasCleanDisk (state S.Store log.new) → OnOk result
         (lines_of S.Store log.new ≡ lines_of S.Store log.old ++ line.now ∷ []) }
-    ensures err { IsOpen S.Store log.new → OnErr result (lines_of S.Store log.new ≡ lines_of S.Store log.old) }
+    ensures err { IsOpen S.Store log.new
+        → OnErr result (lines_of S.Store log.new ≡ lines_of S.Store log.old) }
     ensures opened { HasCleanDisk (state S.Store log.new) → OnOk result (IsOpen S.Store log.new) }
     ensures fault { IfErr result (λ fault. fault ≢ OtherProgram) }
     ensures survives { Survives (state S.Store log.old) (state S.Store log.new)

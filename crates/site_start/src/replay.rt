@@ -13,7 +13,7 @@ ghost use Rattle.site_start.specs.declared.fault.StartFault.TheVariants.{OtherPr
 
 use crate::fault::StartFault;
 use callback_store::Stated;
-use command_log::{CommandLog, LogFault, Place};
+use command_log::{CommandLog, LogFault, LogPlace};
 use site_commands::{Command, read_command, read_line};
 use site_program::Site;
 use site_replies::{Refusal, SiteReply};
@@ -23,14 +23,16 @@ use std::alloc::Global;
 // How many lines are read at a time.
 const BATCH: u32 = 1_000;
 
-/// Carries out the first line of a log, which has to be the identity. No site takes it for a command.
+/// Carries out the first line of a log, which has to be the identity. No site takes it for a
+/// command.
 pub(crate) fn introduce<P: Stated>(
     site: &mut Site<'_, P>,
     line: &str,
     identity: &str,
 ) -> Result<(), StartFault>
     ensures done { OnOk result (state_of P.says P.number site.new
-        ≡ (steps_of P.says P.number (setup_of site.old) (state_of P.says P.number site.old) line.now).0) }
+        ≡ (steps_of P.says P.number (setup_of site.old) (state_of P.says P.number site.old)
+        line.now).0) }
     ensures same { OnOk result (line.now ≡ identity.now) }
     ensures other { IfErr result (λ fault. fault ≡ OtherProgram → line.now ≢ identity.now) }
     ensures setup { setup_of site.new ≡ setup_of site.old }
@@ -71,7 +73,8 @@ fn redo<P: Stated>(
     line: &str,
 ) -> Result<(), StartFault>
     ensures done { OnOk result (state_of P.says P.number site.new
-        ≡ (steps_of P.says P.number (setup_of site.old) (state_of P.says P.number site.old) line.now).0) }
+        ≡ (steps_of P.says P.number (setup_of site.old) (state_of P.says P.number site.old)
+        line.now).0) }
     ensures edit { OnOk result (is_edit (line_command line.now) ≡ true) }
     ensures fault { IfErr result (λ fault. fault ≢ OtherProgram) }
     ensures setup { setup_of site.new ≡ setup_of site.old }
@@ -92,7 +95,8 @@ pub(crate) fn redo_all<P: Stated>(
     lines: &[String],
 ) -> Result<(), StartFault>
     ensures done { OnOk result (state_of P.says P.number site.new
-        ≡ site_after (steps_of P.says P.number (setup_of site.old)) (state_of P.says P.number site.old)
+        ≡ site_after (steps_of P.says P.number (setup_of site.old))
+        (state_of P.says P.number site.old)
         (map string_bytes lines.now)) }
     ensures edits { OnOk result (AreEdits (map string_bytes lines.now)) }
     ensures fault { IfErr result (λ fault. fault ≢ OtherProgram) }
@@ -110,10 +114,12 @@ pub(crate) fn replay<P: Stated, S: Alter>(
     alloc: Global,
     site: &mut Site<'_, P>,
     log: &mut CommandLog<S>,
-    first: Place,
+    first: LogPlace,
 ) -> Result<(), StartFault>
-    ensures done { HasCleanDisk (state S.Store log.new) → OnOk result (state_of P.says P.number site.new
-        ≡ site_after (steps_of P.says P.number (setup_of site.old)) (state_of P.says P.number site.old)
+    ensures done { HasCleanDisk (state S.Store log.new)
+        → OnOk result (state_of P.says P.number site.new
+        ≡ site_after (steps_of P.says P.number (setup_of site.old))
+        (state_of P.says P.number site.old)
         (lines_left S.Store log.old first)) }
     ensures edits { HasCleanDisk (state S.Store log.new) → OnOk result
         (AreEdits (lines_left S.Store log.old first)) }

@@ -1,5 +1,5 @@
-//! Values at the keys of a JSON tree, as commands and site files have them: texts, IDs, kinds and states of posts, and
-//! names of options; and how long texts may be.
+//! Values at the keys of a JSON tree, as commands and site files have them: texts, IDs, kinds and
+//! states of posts, and names of options; and how long texts may be.
 #![tactic(auto)]
 
 mod limits;

@@ -11,8 +11,8 @@ use Rattle.sqlite_value.specs.declared.keys.Collation.{Collation}
 use Rattle.sqlite_value.specs.declared.keys.Key.{Key}
 use Rattle.sqlite_sql.proofs.QueryLemmas.{output_cmp_total}
 use Rattle.sqlite_sql.specs.Program.{QueryOverflows}
-use Rattle.table_rows.specs.Sorting.{sorted}
-use Rattle.table_rows.proofs.SortLemmas.{in_order}
+use Rattle.table_rows.specs.Sorting.{in_order}
+use Rattle.table_rows.proofs.SortLemmas.{one_in_order}
 
 module _ (t : ℕ) (where_ : List Term) (project : List Term) (collations : List Collation) (order : List (Term × Key)) (limit offset : Term) where
   abbrev pub query : Query
@@ -63,6 +63,6 @@ module _ (t : ℕ) (where_ : List Term) (project : List Term) (collations : List
       some_order = subst (λ k. IsPermutation k a.ordered) kept_is a.same
 
       -- and if no two tie, in the one order
-      pub answer_is : IsDistinct (eq_by_cmp (output_cmp query)) outputs → rows ≡ page query params (map (λ o. o.1) (sorted (output_cmp query) outputs))
+      pub answer_is : IsDistinct (eq_by_cmp (output_cmp query)) outputs → rows ≡ page query params (map (λ o. o.1) (in_order (output_cmp query) outputs))
       answer_is apart = a.shown ∙ ap (λ os. page query params (map (λ (o : Output). o.1) os))
-          (in_order (output_cmp query) (output_cmp_total query) outputs a.ordered some_order apart a.sorted)
+          (one_in_order (output_cmp query) (output_cmp_total query) outputs a.ordered some_order apart a.sorted)

@@ -10,7 +10,7 @@ use Rattle.std.proofs.lemmas.List.Sorted.{Contains-permutation, IsPermutation-sy
 use Rattle.std.proofs.lemmas.Cmp.{tied_itself}
 use Rattle.sqlite_rules.specs.Lists.{Has}
 use Rattle.sqlite_rules.proofs.ListLemmas.{has_contained, contains_had, all_has, all_from}
-use Rattle.table_rows.specs.Sorting.{put_sorted, sorted}
+use Rattle.table_rows.specs.Sorting.{put_sorted, in_order}
 
 module _ {X : Type 0} (R : X → X → Ordering) (o : IsTotalOrder R) where
   below : (a b : X) → is_lt (R b a) ≡ false → eq_by_cmp R a b ≡ false → R a b ≡ Less
@@ -86,14 +86,14 @@ module _ {X : Type 0} (R : X → X → Ordering) (o : IsTotalOrder R) where
       go Greater (inr (inl same)) later = inl same
       go Greater (inr (inr there)) later = inr (later (inr there))
 
-  pub sorted_had : (xs : List X) (z : X) → Has (sorted R xs) z → Has xs z
+  pub sorted_had : (xs : List X) (z : X) → Has (in_order R xs) z → Has xs z
   sorted_had [] z h = h
-  sorted_had (x ∷ xs) z h = elim (put_had x (sorted R xs) z h) [ inl same ↦ inl same | inr was ↦ inr (sorted_had xs z was) ]
+  sorted_had (x ∷ xs) z h = elim (put_had x (in_order R xs) z h) [ inl same ↦ inl same | inr was ↦ inr (sorted_had xs z was) ]
 
-  pub sorted_has : (xs : List X) (z : X) → Has xs z → Has (sorted R xs) z
+  pub sorted_has : (xs : List X) (z : X) → Has xs z → Has (in_order R xs) z
   sorted_has [] z h = h
-  sorted_has (x ∷ xs) z (inl same) = put_has_it x (sorted R xs) z (inl same)
-  sorted_has (x ∷ xs) z (inr later) = put_has_it x (sorted R xs) z (inr (sorted_has xs z later))
+  sorted_has (x ∷ xs) z (inl same) = put_has_it x (in_order R xs) z (inl same)
+  sorted_has (x ∷ xs) z (inr later) = put_has_it x (in_order R xs) z (inr (sorted_has xs z later))
 
   put_rises : (x : X) (ys : List X) → IsStrictlySortedBy R ys → ((y : X) → Has ys y → eq_by_cmp R x y ≡ false) → IsStrictlySortedBy R (put_sorted R x ys)
   unfolding IsStrictlySortedBy
@@ -111,14 +111,14 @@ module _ {X : Type 0} (R : X → X → Ordering) (o : IsTotalOrder R) where
             later,
           )
 
-  pub sorted_rises : (xs : List X) → IsDistinct (eq_by_cmp R) xs → IsStrictlySortedBy R (sorted R xs)
+  pub sorted_rises : (xs : List X) → IsDistinct (eq_by_cmp R) xs → IsStrictlySortedBy R (in_order R xs)
   unfolding IsStrictlySortedBy IsDistinct
   sorted_rises [] apart = tt
-  sorted_rises (x ∷ xs) apart = put_rises x (sorted R xs) (sorted_rises xs apart.1) (λ y h. all_has _ xs y apart.0 (sorted_had xs y h))
+  sorted_rises (x ∷ xs) apart = put_rises x (in_order R xs) (sorted_rises xs apart.1) (λ y h. all_has _ xs y apart.0 (sorted_had xs y h))
 
   -- an order that ORDER BY allows is the order
-  pub in_order : (xs ys : List X) → IsPermutation xs ys → IsDistinct (eq_by_cmp R) xs → IsSorted R ys → ys ≡ sorted R xs
-  in_order xs ys moved apart up = same_elements ys (sorted R xs) (strict_order xs ys moved apart up) (sorted_rises xs apart)
+  pub one_in_order : (xs ys : List X) → IsPermutation xs ys → IsDistinct (eq_by_cmp R) xs → IsSorted R ys → ys ≡ in_order R xs
+  one_in_order xs ys moved apart up = same_elements ys (in_order R xs) (strict_order xs ys moved apart up) (sorted_rises xs apart)
       (λ z h. sorted_has xs z (has_contained xs z (Contains-permutation ys xs z (IsPermutation-sym xs ys moved) (contains_had ys z h))))
       (λ z h. has_contained ys z (Contains-permutation xs ys z moved (contains_had xs z (sorted_had xs z h))))
 
@@ -136,6 +136,6 @@ put_mapped {X} {Y} R S f same x (y ∷ ys) = go (R x y) (same x y) (put_mapped R
     go Greater e later = rw e (ap (λ l. f y ∷ l) later)
 
 pub sorted_mapped : {X Y : Type 0} (R : X → X → Ordering) (S : Y → Y → Ordering) (f : X → Y) → ((a b : X) → S (f a) (f b) ≡ R a b) → (xs : List X)
-    → map f (sorted R xs) ≡ sorted S (map f xs)
+    → map f (in_order R xs) ≡ in_order S (map f xs)
 sorted_mapped R S f same [] = refl
-sorted_mapped R S f same (x ∷ xs) = put_mapped R S f same x (sorted R xs) ∙ ap (put_sorted S (f x)) (sorted_mapped R S f same xs)
+sorted_mapped R S f same (x ∷ xs) = put_mapped R S f same x (in_order R xs) ∙ ap (put_sorted S (f x)) (sorted_mapped R S f same xs)

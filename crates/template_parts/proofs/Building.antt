@@ -13,9 +13,9 @@ use Rattle.template_trees.specs.declared.tree.Node.{Node}
 use Rattle.template_trees.specs.declared.tree.Node.TheVariants as node
 use Rattle.template_trees.specs.declared.tree.Template.{Template}
 use Rattle.template_parts.specs.declared.settings.Settings.{Settings}
-use Rattle.template_parts.specs.declared.place.Stored.TheVariants as stored
-use Rattle.template_parts.specs.declared.place.Place.{Place}
-use Rattle.template_parts.specs.declared.place.Place.TheVariants as place
+use Rattle.template_parts.specs.declared.place.TreePlace.TheVariants as stored
+use Rattle.template_parts.specs.declared.place.ItemPlace.{ItemPlace}
+use Rattle.template_parts.specs.declared.place.ItemPlace.TheVariants as place
 use Rattle.template_parts.specs.declared.steps.Step.{Step}
 use Rattle.template_parts.specs.Pages.{Placed, over, part_node_items, elements_items, loop_items}
 use Rattle.template_parts.specs.Places.{node_item, template_of, item_at, items_of, step_items, items_left, post_at}
@@ -32,7 +32,8 @@ each_more f g xs at same inside = let on : at + 1 ≡ suc at = omega arith in go
 
 module _ (settings : Settings) where
   -- one place more
-  pub place_more : (places : List Place) (p : Place) → items_of settings (places ++ p ∷ []) ≡ items_of settings places ++ option_to_list (item_at settings p)
+  pub place_more : (places : List ItemPlace) (p : ItemPlace) → items_of settings (places ++ p ∷ []) ≡ items_of settings places
+      ++ option_to_list (item_at settings p)
   place_more places p =
       flat_map-append (λ q. option_to_list (item_at settings q)) places (p ∷ [])
       ∙ ap (λ l. items_of settings places ++ l) (append-nil (option_to_list (item_at settings p)))
@@ -45,7 +46,7 @@ module _ (settings : Settings) where
   bare (Some (node.Loop body otherwise)) = refl
 
   -- one node of a part more
-  pub node_more : (part : Part) (template : Template) (places : List Place) (before : List Item) (at : ℕ) → template_of settings part ≡ Some template
+  pub node_more : (part : Part) (template : Template) (places : List ItemPlace) (before : List Item) (at : ℕ) → template_of settings part ≡ Some template
       → at < length template.nodes
       → items_of settings places ≡ before ++ flat_map part_node_items (take at template.nodes)
       → items_of settings (places ++ place.Stored (stored.Part part at) ∷ []) ≡ before ++ flat_map part_node_items (take (at + 1) template.nodes)
@@ -60,7 +61,7 @@ module _ (settings : Settings) where
 
   module _ (posts : List Post) where
     -- the places of some items, over one post
-    pub over_one : (post : Option ℕ) (places : List Place) → items_left settings posts (map (λ p. record { post = post; place = p }) places)
+    pub over_one : (post : Option ℕ) (places : List ItemPlace) → items_left settings posts (map (λ p. record { post = post; place = p }) places)
         ≡ over (post_at posts post) (items_of settings places)
     over_one post [] = refl
     over_one post (p ∷ ps) =
@@ -68,7 +69,7 @@ module _ (settings : Settings) where
         ∙ sym (map-append (λ item. (post_at posts post, item)) (option_to_list (item_at settings p)) (items_of settings ps))
 
     -- some steps more
-    pub over_more : (steps news : List Step) (post : Option ℕ) (places : List Place) → news ≡ steps ++ map (λ p. record { post = post; place = p }) places
+    pub over_more : (steps news : List Step) (post : Option ℕ) (places : List ItemPlace) → news ≡ steps ++ map (λ p. record { post = post; place = p }) places
         → items_left settings posts news ≡ items_left settings posts steps ++ over (post_at posts post) (items_of settings places)
     over_more steps news post places is =
         ap (items_left settings posts) is
@@ -76,7 +77,7 @@ module _ (settings : Settings) where
         ∙ ap (λ l. items_left settings posts steps ++ l) (over_one post places)
 
     -- one post more
-    pub post_more : (steps news : List Step) (before : List Placed) (places : List Place) (at : ℕ) → at < length posts
+    pub post_more : (steps news : List Step) (before : List Placed) (places : List ItemPlace) (at : ℕ) → at < length posts
         → news ≡ steps ++ map (λ p. record { post = Some at; place = p }) places
         → items_left settings posts steps ≡ before ++ flat_map (λ p. over (Some p) (items_of settings places)) (take at posts)
         → items_left settings posts news ≡ before ++ flat_map (λ p. over (Some p) (items_of settings places)) (take (at + 1) posts)
@@ -87,7 +88,7 @@ module _ (settings : Settings) where
         ∙ ap (λ l. before ++ l) (each_more (λ p. over (Some p) (items_of settings places)) (λ o. over o (items_of settings places)) posts at (λ p. refl) inside)
 
     -- some places, gathered anew, over no post
-    pub over_none : (steps news : List Step) (none places slice : List Place) (items : List Item) → none ≡ [] → slice ≡ places
+    pub over_none : (steps news : List Step) (none places slice : List ItemPlace) (items : List Item) → none ≡ [] → slice ≡ places
         → items_of settings places ≡ items_of settings none ++ items
         → news ≡ steps ++ map (λ p. record { post = None; place = p }) slice
         → items_left settings posts news ≡ items_left settings posts steps ++ over None items

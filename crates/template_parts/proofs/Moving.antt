@@ -19,25 +19,23 @@ use Rattle.hook_machine.specs.Jobs.{job_left}
 use Rattle.hook_machine.specs.declared.run.Run.{Run}
 use Rattle.hook_machine.specs.Runs.{world_of, engine_of, left_of}
 use Rattle.hook_machine.specs.declared.run.frames.Pace.{Pace}
-use Rattle.hook_machine.specs.declared.run.frames.Pace.TheVariants.{ByTurns}
 use Rattle.hook_machine.specs.Moves as run
 use Rattle.hook_machine.specs.Moves.{Leads}
-use Rattle.hook_machine.proofs.Going.{leads_here, leads_then, leads_under, leads_next, same_end}
+use Rattle.hook_machine.proofs.Going.{leads_here, leads_then, leads_under, same_end}
 use Rattle.template_parts.specs.declared.settings.Settings.{Settings}
 use Rattle.template_parts.specs.declared.item.Shown.{Shown}
 use Rattle.template_parts.specs.declared.item.Hand.{Hand}
 use Rattle.template_parts.specs.declared.item.Hand.TheVariants.{Printed, Dropped}
 use Rattle.template_parts.specs.declared.steps.Step.{Step}
-use Rattle.template_parts.specs.Pages.{Work, Placed, IsPage, IsRefusedBy, printed, over, each, placed_pass, shown_pass, action_pass, item_pass, page_items, page_pass}
+use Rattle.template_parts.specs.Pages.{Work, Placed, IsPage, IsRefusedBy, print_text, over, each, placed_pass, shown_pass, action_pass, item_pass, page_items}
+use Rattle.template_parts.specs.Pages.{page_pass}
 use Rattle.hook_changes.specs.Names.{core_name}
 use Rattle.hook_changes.specs.declared.core_hooks.CoreHook.{CoreHook}
-use Rattle.template_parts.specs.declared.place.Stored.{Stored}
-use Rattle.template_parts.specs.declared.place.Place.TheVariants as place
+use Rattle.template_parts.specs.declared.place.TreePlace.{TreePlace}
+use Rattle.template_parts.specs.declared.place.ItemPlace.TheVariants as place
 use Rattle.template_parts.specs.Places.{stored_item, item_at, post_at, step_items, items_left}
-use Rattle.template_parts.specs.Left.{shown_as, handed_on, begun, item_or_nothing, step_pass, then_items, Begins, BeginsBy, Moves, Stops}
-use Rattle.template_parts.specs.declared.page.PageTurn.{PageTurn}
-use Rattle.template_parts.specs.declared.page.PageTurn.TheVariants as page
-use Rattle.template_parts.specs.Page.{Turns, Goes, IsDoneBy}
+use Rattle.template_parts.specs.Left.{shown_as, handed_on, job_or_nothing, item_or_nothing, step_pass, then_items, Begins, BeginsBy, Moves}
+use Rattle.template_parts.specs.Page.{Goes, IsDoneBy}
 
 -- something that is there
 pub busy : {A P : Type 0} (x : A) → Some x ≡ None → P
@@ -58,7 +56,8 @@ pub begins_after : {S : Type 0} {pace : Pace} {says : ℕ → Call → Reply} {n
 begins_after {pace = pace} {says = says} {number = number} before middle (Ok hand) after work then_work same leads begins =
     record {
       begun = (
-        leads_then leads (subst (λ (e : Engine). Leads pace (then_work (engine_of says number middle) (world_of middle)) (begun (world_of after) (left_of e after) hand)) same
+        leads_then leads (subst (λ (e : Engine). Leads pace (then_work (engine_of says number middle) (world_of middle))
+            (job_or_nothing (world_of after) (left_of e after) hand)) same
             (leads_here begins.begun.0)),
         begins.begun.1,
         begins.begun.2,
@@ -73,12 +72,12 @@ module _ (engine : Engine) (settings : Settings) where
   -- a filter that was passed over shows its value as it is
   pub shown_passed_over : {pace : Pace} (world later : World) (shown : Text → Text) (hook value : Text) (args : List Text)
       → Leads pace (filtered engine world hook value args) (Done later value)
-      → Leads pace (shown_pass engine settings shown world hook value args) (printed later (shown value))
+      → Leads pace (shown_pass engine settings shown world hook value args) (print_text later (shown value))
   unfolding shown_pass
-  shown_passed_over world later shown hook value args leads = leads_under (λ t. and_then t (λ later v. printed later (shown v))) through_shown leads
+  shown_passed_over world later shown hook value args leads = leads_under (λ t. and_then t (λ later v. print_text later (shown v))) through_shown leads
     where
       through_shown : (xs : List World) (t : Trace Text)
-          → and_then (run.through xs t) (λ later v. printed later (shown v)) ≡ run.through xs (and_then t (λ later v. printed later (shown v)))
+          → and_then (run.through xs t) (λ later v. print_text later (shown v)) ≡ run.through xs (and_then t (λ later v. print_text later (shown v)))
       through_shown [] t = refl
       through_shown (x ∷ xs) t = ap (Turn x) (through_shown xs t)
 
@@ -91,23 +90,23 @@ module _ (engine : Engine) (settings : Settings) where
   -- the work of an action that was started is that of the action
   pub action_begun : (world now : World) (hook given : Text) (args : List Text) (left : Trace Text) → given ≡ hook → args ≡ []
       → left ≡ job_left engine world (Action given args)
-      → action_pass engine settings world hook ≡ begun now left (Some Dropped)
+      → action_pass engine settings world hook ≡ job_or_nothing now left (Some Dropped)
   unfolding action_pass acted
   action_begun world now hook given args left same none is = rw (is, same, none) refl
 
   -- the work of a filter that was started is that of the value that is shown
   pub filter_begun : (world now : World) (shown : Shown) (hook given value : Text) (args : List Text) (left : Trace Text) → given ≡ hook
       → left ≡ job_left engine world (Filters given value args)
-      → shown_pass engine settings (shown_as shown) world hook value args ≡ begun now left (Some (Printed shown))
+      → shown_pass engine settings (shown_as shown) world hook value args ≡ job_or_nothing now left (Some (Printed shown))
   unfolding shown_pass filtered
   filter_begun world now shown hook given value args left same is = rw (is, same) refl
 
   -- a value that no callback filters is shown at once
   pub shown_unfiltered : (world : World) (shown : Text → Text) (hook value : Text) (args : List Text) → has world.table hook ≡ false
-      → shown_pass engine settings shown world hook value args ≡ printed world (shown value)
+      → shown_pass engine settings shown world hook value args ≡ print_text world (shown value)
   unfolding shown_pass filtered
   shown_unfiltered world shown hook value args none =
-      ap (λ (t : Trace Text). and_then t (λ later v. printed later (shown v))) (filter_unhooked (invoke engine) world hook value args none)
+      ap (λ (t : Trace Text). and_then t (λ later v. print_text later (shown v))) (filter_unhooked (invoke engine) world hook value args none)
 
   -- the item of the first step, and then those of the others
   pub step_first : (posts : List Post) (world : World) (step : Step) (items : List Placed)
@@ -135,22 +134,22 @@ module _ (engine : Engine) (settings : Settings) where
   hook_step posts world step hook name is same = rw (is, same) refl
 
   -- the item of a step that is in a template
-  pub item_step : (posts : List Post) (world : World) (step : Step) (stored : Stored) (post : Option Post) (item : Item) → step.place ≡ place.Stored stored
+  pub item_step : (posts : List Post) (world : World) (step : Step) (stored : TreePlace) (post : Option Post) (item : Item) → step.place ≡ place.Stored stored
       → stored_item settings stored ≡ Some item
       → post ≡ post_at posts step.post → item_pass engine settings post world item ≡ step_pass engine settings posts world step
   item_step posts world step stored post item is found over_it = rw (is, found, over_it) refl
 
   module _ (posts : List Post) (world : World) (left : Trace Text) (hand : Option Hand) (steps : List Step) where
     -- nothing is left
-    pub none_move : hand ≡ None → steps ≡ [] → then_items engine settings (begun world left hand) (items_left settings posts steps) ≡ Done world tt
+    pub none_move : hand ≡ None → steps ≡ [] → then_items engine settings (job_or_nothing world left hand) (items_left settings posts steps) ≡ Done world tt
     unfolding each
     none_move free none = rw (free, none) refl
 
     -- the next step was begun
     pub step_move : {pace : Pace} (later : World) (now : Trace Text) (waits : Option Hand) (step : Step) (rest : List Step) → hand ≡ None
-        → steps ≡ step ∷ rest → Leads pace (step_pass engine settings posts world step) (begun later now waits)
-        → Leads pace (then_items engine settings (begun world left hand) (items_left settings posts steps))
-        (then_items engine settings (begun later now waits) (items_left settings posts rest))
+        → steps ≡ step ∷ rest → Leads pace (step_pass engine settings posts world step) (job_or_nothing later now waits)
+        → Leads pace (then_items engine settings (job_or_nothing world left hand) (items_left settings posts steps))
+        (then_items engine settings (job_or_nothing later now waits) (items_left settings posts rest))
     step_move later now waits step rest free is first =
         rw (free, is) (leads_then (leads_here (step_first posts world step (items_left settings posts rest)))
         (leads_under (λ work. then_items engine settings work (items_left settings posts rest)) (through_items (items_left settings posts rest)) first))
@@ -158,46 +157,35 @@ module _ (engine : Engine) (settings : Settings) where
   module _ (hand : Hand) (items : List Placed) (world : World) where
     -- what a job passes over, the page passes over
     through_job : (w : World) (xs : List World) (t : Trace Text)
-        → then_items engine settings (begun w (run.through xs t) (Some hand)) items ≡ run.through xs (then_items engine settings (begun w t (Some hand)) items)
+        → then_items engine settings (job_or_nothing w (run.through xs t) (Some hand)) items
+        ≡ run.through xs (then_items engine settings (job_or_nothing w t (Some hand)) items)
     through_job w [] t = refl
     through_job w (x ∷ xs) t = ap (Turn x) (through_job w xs t)
 
     -- the job under way is refused
     pub refused_move : (pace : Pace) (left now : Trace Text) (why : RunFault) (w v : World) (n : Work) → run.TurnsBy pace left (Err why) w now
-        → Moves pace (then_items engine settings (begun world left (Some hand)) items) (Err why) v n
-    refused_move pace left now TooManyCalls w v n is = leads_under (λ t. then_items engine settings (begun world t (Some hand)) items) (through_job world) is
-    refused_move pace left now TooDeep w v n is = leads_under (λ t. then_items engine settings (begun world t (Some hand)) items) (through_job world) is
+        → Moves pace (then_items engine settings (job_or_nothing world left (Some hand)) items) (Err why) v n
+    refused_move pace left now TooManyCalls w v n is = leads_under (λ t. then_items engine settings (job_or_nothing world t (Some hand)) items)
+        (through_job world) is
+    refused_move pace left now TooDeep w v n is = leads_under (λ t. then_items engine settings (job_or_nothing world t (Some hand)) items)
+        (through_job world) is
     refused_move pace left now OutOfMemory w v n is = tt
 
     -- the job under way has made an invocation
     pub more_move : (pace : Pace) (left now : Trace Text) (x : result.Turn) (later : World) → Leads pace left (run.trace_of_turn x later now) → x ≡ turn.More
-        → Leads pace (then_items engine settings (begun world left (Some hand)) items)
-        (Turn later (then_items engine settings (begun later now (Some hand)) items))
+        → Leads pace (then_items engine settings (job_or_nothing world left (Some hand)) items)
+        (Turn later (then_items engine settings (job_or_nothing later now (Some hand)) items))
     more_move pace left now x later is more =
-        leads_under (λ t. then_items engine settings (begun world t (Some hand)) items) (through_job world) (rw more at is)
+        leads_under (λ t. then_items engine settings (job_or_nothing world t (Some hand)) items) (through_job world) (rw more at is)
 
     -- the job under way is done, and its result was handed on
     pub done_move : (pace : Pace) (left now : Trace Text) (x : result.Turn) (text : Text) (later last : World)
         → Leads pace left (run.trace_of_turn x later now) → x ≡ turn.Done text
         → handed_on hand later text ≡ Done last tt
-        → Leads pace (then_items engine settings (begun world left (Some hand)) items) (each (placed_pass engine settings) last items)
+        → Leads pace (then_items engine settings (job_or_nothing world left (Some hand)) items) (each (placed_pass engine settings) last items)
     done_move pace left now x text later last is done handed =
-        leads_then (leads_under (λ t. then_items engine settings (begun world t (Some hand)) items) (through_job world) (rw done at is))
+        leads_then (leads_under (λ t. then_items engine settings (job_or_nothing world t (Some hand)) items) (through_job world) (rw done at is))
         (leads_here (ap (λ work. then_items engine settings work items) handed))
-
--- a page stops with a fault
-pub refused_stop : (pace : Pace) (left now last : Work) (why : RunFault) (w v : World) → Stops pace left (Err why) w now → Goes pace left (Err why) v last
-refused_stop pace left now last TooManyCalls w v is = is
-refused_stop pace left now last TooDeep w v is = is
-refused_stop pace left now last OutOfMemory w v is = tt
-
--- by turns nothing is passed over
-pub goes_by_turns : (left now : Work) (result : Result PageTurn RunFault) (w : World) → Goes ByTurns left result w now → Turns left result w now
-goes_by_turns left now (Ok page.More) w is = leads_next is
-goes_by_turns left now (Ok (page.Done status bytes)) w is = record { world = is.world; done = leads_next is.done; whole = is.whole }
-goes_by_turns left now (Err TooManyCalls) w is = leads_next is
-goes_by_turns left now (Err TooDeep) w is = leads_next is
-goes_by_turns left now (Err OutOfMemory) w is = tt
 
 -- a page that is printed ends as what was left of it does
 pub print_refused : (pace : Pace) (left now all : Work) (why : RunFault) (w : World) → outcome_of all ≡ outcome_of left → Goes pace left (Err why) w now

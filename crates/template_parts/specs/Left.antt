@@ -20,12 +20,10 @@ use Rattle.template_parts.specs.declared.item.Shown.TheVariants as shown
 use Rattle.template_parts.specs.declared.item.Hand.{Hand}
 use Rattle.template_parts.specs.declared.item.Hand.TheVariants.{Printed, Dropped}
 use Rattle.template_parts.specs.declared.steps.Step.{Step}
-use Rattle.template_parts.specs.declared.moves.Ahead.{Ahead}
-use Rattle.template_parts.specs.declared.moves.Moved.{Moved}
-use Rattle.template_parts.specs.declared.moves.Moved.TheVariants as moved
+use Rattle.template_parts.specs.declared.moves.PageRest.{PageRest}
 use Rattle.template_parts.specs.declared.moves.Stop.{Stop}
 use Rattle.template_parts.specs.declared.moves.Stop.TheVariants as stop
-use Rattle.template_parts.specs.Pages.{Work, Placed, printed, each, item_pass, placed_pass, page_pass}
+use Rattle.template_parts.specs.Pages.{Work, Placed, print_text, each, item_pass, placed_pass, page_pass}
 use Rattle.template_parts.specs.Places.{item_at, post_at, items_left}
 
 abbrev pub shown_as : Shown → Text → Text
@@ -35,13 +33,13 @@ shown_as shown.EndsEscaped text = ends_escaped text
 
 -- what becomes of a job's result
 abbrev pub handed_on : Hand → World → Text → Work
-handed_on (Printed shown) world text = printed world (shown_as shown text)
+handed_on (Printed shown) world text = print_text world (shown_as shown text)
 handed_on Dropped world text = Done world tt
 
 -- the job that an item began, whose result is handed on; or nothing, if it began none
-abbrev pub begun : World → Trace Text → Option Hand → Work
-begun world left None = Done world tt
-begun world left (Some hand) = and_then left (λ later x. handed_on hand later x)
+abbrev pub job_or_nothing : World → Trace Text → Option Hand → Work
+job_or_nothing world left None = Done world tt
+job_or_nothing world left (Some hand) = and_then left (λ later x. handed_on hand later x)
 
 -- an item, if there is one
 abbrev pub item_or_nothing : Engine → Settings → World → Option Post → Option Item → Work
@@ -57,22 +55,22 @@ abbrev pub then_items : Engine → Settings → Work → List Placed → Work
 then_items engine settings first items = and_then first (λ later nothing. each (placed_pass engine settings) later items)
 
 -- the job under way, and then the steps
-abbrev pub ahead_of : Engine → Settings → List Post → World → Trace Text → Ahead → Work
-ahead_of engine settings posts world left ahead = then_items engine settings (begun world left ahead.hand) (items_left settings posts ahead.steps)
+abbrev pub ahead_of : Engine → Settings → List Post → World → Trace Text → PageRest → Work
+ahead_of engine settings posts world left ahead = then_items engine settings (job_or_nothing world left ahead.hand) (items_left settings posts ahead.steps)
 
 -- what a page has still to do: all of it, before its first turn
-abbrev pub left_at : Engine → Settings → List Post → World → Trace Text → Option Ahead → Work
+abbrev pub left_at : Engine → Settings → List Post → World → Trace Text → Option PageRest → Work
 left_at engine settings posts world left None = page_pass engine settings posts world
 left_at engine settings posts world left (Some ahead) = ahead_of engine settings posts world left ahead
 
-abbrev pub hand_in : Option Ahead → Option Hand
+abbrev pub hand_in : Option PageRest → Option Hand
 hand_in None = None
 hand_in (Some ahead) = ahead.hand
 
 module _ {S : Type 0} where
   -- the work is that of the job that was begun, or it is done
   abbrev pub IsBegun : Engine → Work → Run S → Option Hand → Type 0
-  IsBegun engine work run hand = (work ≡ begun (world_of run) (left_of engine run) hand) × (fault_of run ≡ None) × (hand ≡ None → IsIdle run)
+  IsBegun engine work run hand = (work ≡ job_or_nothing (world_of run) (left_of engine run) hand) × (fault_of run ≡ None) × (hand ≡ None → IsIdle run)
 
   -- a run has begun some work, as `IsBegun` says, and has the plugins that it had; or memory ran out
   pub record Begins (says : ℕ → Call → Reply) (number : S → ℕ) (before : Run S) (result : Result (Option Hand) RunFault) (after : Run S)
@@ -84,7 +82,7 @@ module _ {S : Type 0} where
   -- the same, if the work may have led to that, after invocations that were passed over
   abbrev pub IsBegunBy : Pace → Engine → Work → Run S → Option Hand → Type 0
   IsBegunBy pace engine work run hand =
-      Leads pace work (begun (world_of run) (left_of engine run) hand) × (fault_of run ≡ None) × (hand ≡ None → IsIdle run)
+      Leads pace work (job_or_nothing (world_of run) (left_of engine run) hand) × (fault_of run ≡ None) × (hand ≡ None → IsIdle run)
 
   -- a run has begun some work, as `IsBegunBy` says, and has the plugins that it had; or memory ran out
   pub record BeginsBy (pace : Pace) (says : ℕ → Call → Reply) (number : S → ℕ) (before : Run S) (result : Result (Option Hand) RunFault) (after : Run S)
@@ -102,52 +100,54 @@ module _ {S : Type 0} where
     pub engine : engine_of says number after ≡ engine_of says number before
 
   -- what is left of a page with a run
-  abbrev pub run_left : Engine → Settings → List Post → Run S → Ahead → Work
+  abbrev pub run_left : Engine → Settings → List Post → Run S → PageRest → Work
   run_left engine settings posts run ahead = ahead_of engine settings posts (world_of run) (left_of engine run) ahead
 
-  -- if nothing is left, no job is under way
-  abbrev pub IsIdleIfOver : Result Moved RunFault → Run S → Type 0
-  IsIdleIfOver (Ok moved.Over) run = IsIdle run
-  IsIdleIfOver (Ok moved.On) run = ⊤
-  IsIdleIfOver (Ok moved.Turned) run = ⊤
-  IsIdleIfOver (Err fault) run = ⊤
-
+  -- if the page stops since nothing is left, no job is under way
   abbrev pub IsIdleAtEnd : Result Stop RunFault → Run S → Type 0
   IsIdleAtEnd (Ok stop.Over) run = IsIdle run
   IsIdleAtEnd (Ok stop.Turned) run = ⊤
   IsIdleAtEnd (Err fault) run = ⊤
 
-abbrev pub work_of_move : Moved → World → Work → Work
-work_of_move moved.Turned world now = Turn world now
-work_of_move moved.On world now = now
-work_of_move moved.Over world now = Done world tt
+  -- the same after a move, at which the page may go on
+  abbrev pub IsIdleIfOver : Result (Option Stop) RunFault → Run S → Type 0
+  IsIdleIfOver (Ok (Some stop)) run = IsIdleAtEnd (Ok stop) run
+  IsIdleIfOver (Ok None) run = ⊤
+  IsIdleIfOver (Err fault) run = ⊤
 
--- what was left leads to what is left after the move; or to the fault; or memory ran out
-abbrev pub Moves : Pace → Work → Result Moved RunFault → World → Work → Type 0
-Moves pace left result world now = LeadsOn pace left (λ move. work_of_move move world now) result
-
+-- the work of a page that stops: a turn, and then what is left now; or none
 abbrev pub work_of_stop : Stop → World → Work → Work
 work_of_stop stop.Turned world now = Turn world now
 work_of_stop stop.Over world now = Done world tt
 
+-- the work of a page after a move: what is left now, if it doesn't stop
+abbrev pub work_of_move : Option Stop → World → Work → Work
+work_of_move None world now = now
+work_of_move (Some stop) world now = work_of_stop stop world now
+
+-- what was left leads to what is left after the move; or to the fault; or memory ran out
+abbrev pub Moves : Pace → Work → Result (Option Stop) RunFault → World → Work → Type 0
+Moves pace left result world now = LeadsOn pace left (λ move. work_of_move move world now) result
+
+-- what was left leads to the work of a page that stops; or to the fault; or memory ran out
 abbrev pub Stops : Pace → Work → Result Stop RunFault → World → Work → Type 0
 Stops pace left result world now = LeadsOn pace left (λ stop. work_of_stop stop world now) result
 
 -- how many moves may be left without an invocation: each step is begun and ended
-abbrev pub moves_left : Ahead → ℕ
+abbrev pub moves_left : PageRest → ℕ
 moves_left ahead = under_way ahead.hand + 2 * length ahead.steps
   where
     under_way : Option Hand → ℕ
     under_way None = 0
     under_way (Some hand) = 1
 
-abbrev pub Shortens : Result Moved RunFault → Ahead → Ahead → Type 0
-Shortens (Ok moved.On) before later = moves_left later < moves_left before
-Shortens (Ok moved.Turned) before later = ⊤
-Shortens (Ok moved.Over) before later = ⊤
+-- if the page doesn't stop, fewer moves are left than before
+abbrev pub Shortens : Result (Option Stop) RunFault → PageRest → PageRest → Type 0
+Shortens (Ok None) before later = moves_left later < moves_left before
+Shortens (Ok (Some stop)) before later = ⊤
 Shortens (Err fault) before later = ⊤
 
-abbrev pub moves_after : Moved → Ahead → ℕ
-moves_after moved.On ahead = suc (moves_left ahead)
-moves_after moved.Turned ahead = zero
-moves_after moved.Over ahead = zero
+-- how many moves may be left after one: none, if the page stops
+abbrev pub moves_after : Option Stop → PageRest → ℕ
+moves_after None ahead = suc (moves_left ahead)
+moves_after (Some stop) ahead = zero

@@ -3,9 +3,10 @@ use Rattle.std.specs.Prelude.{◌≡◌, ◌≢◌, ℕ, ◌+◌, ◌<◌, lengt
 use Rattle.hook_machine.specs.World.{Text, World}
 use Rattle.hook_machine.specs.declared.run.Run.{Run}
 use Rattle.hook_machine.specs.declared.fault.RunFault.{RunFault}
-use Rattle.hook_machine.specs.declared.fault.RunFault.TheVariants.{TooManyCalls, TooDeep, OutOfMemory}
+use Rattle.hook_machine.specs.declared.fault.RunFault.TheVariants.{OutOfMemory}
 use Rattle.hook_machine.specs.Trace.{Done, Refused, Turn, Fault, outcome_of, turns_of}
 use Rattle.hook_machine.specs.Meaning.{Engine}
+use Rattle.hook_machine.specs.Outcomes.{UnlessOutOfMemory}
 use Rattle.hook_machine.specs.declared.run.frames.Pace.{Pace}
 use Rattle.hook_machine.specs.Moves.{Leads}
 use Rattle.hook_machine.specs.Runs.{world_of, fault_of, left_of, IsIdle}
@@ -49,13 +50,14 @@ pub record IsDone (left : Work) (text : Text) : Type 0 where
   pub done : left ≡ Done world tt
   pub whole : text ≡ world.output
 
--- what was left of a page is a world, and then what is left now; or nothing; or the fault; or memory ran out
+-- what was left of a page is a world, and then what is left now; or nothing
+abbrev pub TurnsTo : Work → PageTurn → World → Work → Type 0
+TurnsTo left turn.More world now = left ≡ Turn world now
+TurnsTo left (turn.Done status bytes) world now = IsDone left bytes.items
+
+-- the same; or it is the fault; or memory ran out
 abbrev pub Turns : Work → Result PageTurn RunFault → World → Work → Type 0
-Turns left (Ok turn.More) world now = left ≡ Turn world now
-Turns left (Ok (turn.Done status bytes)) world now = IsDone left bytes.items
-Turns left (Err TooManyCalls) world now = left ≡ Refused TooManyCalls
-Turns left (Err TooDeep) world now = left ≡ Refused TooDeep
-Turns left (Err OutOfMemory) world now = ⊤
+Turns left result world now = UnlessOutOfMemory result (λ turn. TurnsTo left turn world now) (λ fault. left ≡ Refused fault)
 
 -- the same of a page that may pass invocations over
 pub record IsDoneBy (pace : Pace) (left : Work) (text : Text) : Type 0 where
@@ -63,12 +65,14 @@ pub record IsDoneBy (pace : Pace) (left : Work) (text : Text) : Type 0 where
   pub done : Leads pace left (Done world tt)
   pub whole : text ≡ world.output
 
+-- what was left of a page leads to a world, and then to what is left now; or to nothing
+abbrev pub GoesTo : Pace → Work → PageTurn → World → Work → Type 0
+GoesTo pace left turn.More world now = Leads pace left (Turn world now)
+GoesTo pace left (turn.Done status bytes) world now = IsDoneBy pace left bytes.items
+
+-- the same; or it leads to the fault; or memory ran out
 abbrev pub Goes : Pace → Work → Result PageTurn RunFault → World → Work → Type 0
-Goes pace left (Ok turn.More) world now = Leads pace left (Turn world now)
-Goes pace left (Ok (turn.Done status bytes)) world now = IsDoneBy pace left bytes.items
-Goes pace left (Err TooManyCalls) world now = Leads pace left (Refused TooManyCalls)
-Goes pace left (Err TooDeep) world now = Leads pace left (Refused TooDeep)
-Goes pace left (Err OutOfMemory) world now = ⊤
+Goes pace left result world now = UnlessOutOfMemory result (λ turn. GoesTo pace left turn world now) (λ fault. Leads pace left (Refused fault))
 
 -- what is left after `count` turns: the page still ends as it did, and has `count` invocations less to make
 pub record IsAfter (count : ℕ) (left now : Work) : Type 0 where

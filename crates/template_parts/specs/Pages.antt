@@ -29,8 +29,8 @@ abbrev pub Work : Type 0
 Work = Trace (Unit {0})
 
 -- a text, appended to the output
-abbrev pub printed : World → Text → Work
-printed world text = Done (record world { output = world.output ++ text }) tt
+abbrev pub print_text : World → Text → Work
+print_text world text = Done (record world { output = world.output ++ text }) tt
 
 -- one piece of work after another
 unfoldable pub each : {X : Type 0} → (World → X → Work) → World → List X → Work
@@ -58,7 +58,7 @@ permalink post = before post.kind ++ decimal post.id
 module _ (engine : Engine) (settings : Settings) where
   -- a value through a filter and then through a function, printed
   unfoldable pub shown_pass : (Text → Text) → World → (hook value : Text) → List Text → Work
-  shown_pass shown world hook value args = and_then (filtered engine world hook value args) (λ later v. printed later (shown v))
+  shown_pass shown world hook value args = and_then (filtered engine world hook value args) (λ later v. print_text later (shown v))
 
   -- the filter of a title also gets the post's number (Code Reference, the_title)
   abbrev pub title_pass : (Text → Text) → Post → World → Work
@@ -77,20 +77,20 @@ module _ (engine : Engine) (settings : Settings) where
   post_tag_pass post world of_post.TheTitle = title_pass (λ title. title) post world
   post_tag_pass post world of_post.TitleEscaped = title_pass html_escaped post world
   post_tag_pass post world of_post.TheContent = content_pass post world
-  post_tag_pass post world of_post.TheId = printed world (decimal post.id)
-  post_tag_pass post world of_post.ThePermalink = printed world (permalink post)
-  post_tag_pass post world of_post.PostDate = printed world post.date
+  post_tag_pass post world of_post.TheId = print_text world (decimal post.id)
+  post_tag_pass post world of_post.ThePermalink = print_text world (permalink post)
+  post_tag_pass post world of_post.PostDate = print_text world post.date
 
   -- outside a loop the tags of a post print nothing
   unfoldable pub tag_pass : Option Post → World → Tag → Work
   tag_pass None world (tag.OfPost tag) = Done world tt
   tag_pass (Some post) world (tag.OfPost tag) = post_tag_pass post world tag
-  tag_pass post world tag.SiteName = printed world (html_escaped settings.site_name)
+  tag_pass post world tag.SiteName = print_text world (html_escaped settings.site_name)
   tag_pass post world tag.WpHead = action_pass world (codes "wp_head")
   tag_pass post world tag.WpFooter = action_pass world (codes "wp_footer")
 
   unfoldable pub item_pass : Option Post → World → Item → Work
-  item_pass post world (item.Text text) = printed world text
+  item_pass post world (item.Text text) = print_text world text
   item_pass post world (item.Tag tag) = tag_pass post world tag
   item_pass post world (item.Action hook) = action_pass world hook
 

@@ -15,10 +15,10 @@ use Rattle.template_trees.specs.declared.tree.Template.{Template}
 use Rattle.template_parts.specs.declared.settings.Settings.{Settings}
 use Rattle.template_parts.specs.declared.place.Side.{Side}
 use Rattle.template_parts.specs.declared.place.Side.TheVariants as side
-use Rattle.template_parts.specs.declared.place.Stored.{Stored}
-use Rattle.template_parts.specs.declared.place.Stored.TheVariants as stored
-use Rattle.template_parts.specs.declared.place.Place.{Place}
-use Rattle.template_parts.specs.declared.place.Place.TheVariants as place
+use Rattle.template_parts.specs.declared.place.TreePlace.{TreePlace}
+use Rattle.template_parts.specs.declared.place.TreePlace.TheVariants as stored
+use Rattle.template_parts.specs.declared.place.ItemPlace.{ItemPlace}
+use Rattle.template_parts.specs.declared.place.ItemPlace.TheVariants as place
 use Rattle.template_parts.specs.declared.steps.Step.{Step}
 use Rattle.template_parts.specs.Pages.{Placed, over}
 
@@ -44,19 +44,19 @@ abbrev pub post_at : List Post → Option ℕ → Option Post
 post_at posts post = option_and_then (slice_get posts) post
 
 module _ (settings : Settings) where
-  abbrev pub stored_item : Stored → Option Item
+  abbrev pub stored_item : TreePlace → Option Item
   stored_item (stored.Node at) = option_and_then node_item (slice_get settings.template.nodes at)
   stored_item (stored.Element node side at) =
       option_and_then (λ elements. option_and_then element_item (slice_get elements at))
       (option_and_then (elements_in side) (slice_get settings.template.nodes node))
   stored_item (stored.Part part at) = option_and_then (λ template. option_and_then node_item (slice_get template.nodes at)) (template_of settings part)
 
-  abbrev pub item_at : Place → Option Item
+  abbrev pub item_at : ItemPlace → Option Item
   item_at (place.Hook hook) = Some (item.Action (core_name hook))
   item_at (place.Stored stored) = stored_item stored
 
   -- the items at some places, in order
-  abbrev pub items_of : List Place → List Item
+  abbrev pub items_of : List ItemPlace → List Item
   items_of places = flat_map (λ place. option_to_list (item_at place)) places
 
   -- the item of a step, over its post

@@ -6,10 +6,11 @@ ghost use Rattle.template_parts.specs.Choice.{candidates, template_choice};
 use hook_changes::Text;
 use site_records::FoundKind;
 
-/// Chooses the template for what was found: the first of those for its kind that is stored, or `index` if none is
-/// (Theme Handbook, Template Hierarchy). A front that shows a page asks for `front-page`, `page` and `singular`, one
-/// that lists posts for `front-page` and `home`, or for `home` alone while the option `show_on_front` is `page`; a post
-/// asks for `single` and `singular`, a page for `page` and `singular`, a month for `date` and `archive`, and what isn't
+/// Chooses the template for what was found: the first of those for its kind that is stored, or
+/// `index` if none is (Theme Handbook, Template Hierarchy). A front that shows a page asks for
+/// `front-page`, `page` and `singular`, one that lists posts for `front-page` and `home`, or for
+/// `home` alone while the option `show_on_front` is `page`; a post asks for `single` and
+/// `singular`, a page for `page` and `singular`, a month for `date` and `archive`, and what isn't
 /// found for `404`.
 pub fn choose(kind: FoundKind, stored: &[Text]) -> &'static str
     ensures { result.now ≡ template_choice kind stored.now }

@@ -2,7 +2,8 @@
 ghost use Rattle.std.specs.Prelude.{◌≡◌, [], ◌∷◌, IfOk, option_map, decimal};
 ghost use Rattle.hook_changes.specs.Names.{core_name};
 ghost use Rattle.hook_machine.specs.Runs.{IsReady};
-ghost use Rattle.template_parts.specs.Pages.{printed, permalink, shown_pass, title_pass, content_pass, action_pass};
+ghost use Rattle.template_parts.specs.Pages.{print_text, permalink, shown_pass, title_pass};
+ghost use Rattle.template_parts.specs.Pages.{content_pass, action_pass};
 ghost use Rattle.template_parts.specs.Pages.{post_tag_pass, tag_pass, item_pass};
 ghost use Rattle.template_parts.specs.Left.{shown_as, handed_on, Begins, BeginsBy, Finishes};
 
@@ -36,7 +37,8 @@ pub enum Hand {
 /// Prints a text as it is.
 fn print<S: Stated>(run: &mut Run<'_, S>, text: &str) -> Result<Option<Hand>, RunFault>
     requires { IsReady run.old }
-    ensures { Begins S.says S.number run.old result run.new (λ engine world. printed world text.now) }
+    ensures { Begins S.says S.number run.old result run.new
+        (λ engine world. print_text world text.now) }
 {
     run.print(text)?;
     Ok(None)
@@ -50,7 +52,7 @@ fn print_escaped<S: Stated>(
 ) -> Result<Option<Hand>, RunFault>
     requires { IsReady run.old }
     ensures { Begins S.says S.number run.old result run.new
-        (λ engine world. printed world (shown_as Shown.HtmlEscaped text.now)) }
+        (λ engine world. print_text world (shown_as Shown.HtmlEscaped text.now)) }
 {
     if has_no_mark(text) {
         return print(run, text);
@@ -67,7 +69,7 @@ fn print_ends_escaped<S: Stated>(
 ) -> Result<Option<Hand>, RunFault>
     requires { IsReady run.old }
     ensures { Begins S.says S.number run.old result run.new
-        (λ engine world. printed world (shown_as Shown.EndsEscaped text.now)) }
+        (λ engine world. print_text world (shown_as Shown.EndsEscaped text.now)) }
 {
     if has_no_end(text) {
         return print(run, text);
@@ -83,7 +85,8 @@ fn print_permalink<S: Stated>(
     post: &Post,
 ) -> Result<Option<Hand>, RunFault>
     requires { IsReady run.old }
-    ensures { Begins S.says S.number run.old result run.new (λ engine world. printed world (permalink post.now)) }
+    ensures { Begins S.says S.number run.old result run.new
+        (λ engine world. print_text world (permalink post.now)) }
 {
     let path = permalink(alloc, post)?;
     print(run, path.as_str())
@@ -117,7 +120,8 @@ fn start_filter<S: Stated>(
 ) -> Result<Option<Hand>, RunFault>
     requires { IsReady run.old }
     ensures { Begins S.says S.number run.old result run.new
-        (λ engine world. shown_pass engine settings.now (shown_as shown) world (core_name hook) value args) }
+        (λ engine world. shown_pass engine settings.now (shown_as shown) world
+        (core_name hook) value args) }
 {
     let hook = Text::core(alloc, hook);
     run.start(Job::Filters { hook, value, args })?;
@@ -133,7 +137,7 @@ fn print_unfiltered<S: Stated>(
 ) -> Result<Option<Hand>, RunFault>
     requires { IsReady run.old }
     ensures { Begins S.says S.number run.old result run.new
-        (λ engine world. printed world (shown_as shown value.now)) }
+        (λ engine world. print_text world (shown_as shown value.now)) }
 {
     match shown {
         Shown::Plain => print(run, value),
@@ -142,8 +146,8 @@ fn print_unfiltered<S: Stated>(
     }
 }
 
-/// Starts the filter of a title, which also gets the post's number. If nothing is registered on it, the title is
-/// printed at once.
+/// Starts the filter of a title, which also gets the post's number. If nothing is registered on it,
+/// the title is printed at once.
 fn start_title<S: Stated>(
     alloc: Global,
     run: &mut Run<'_, S>,
@@ -163,8 +167,8 @@ fn start_title<S: Stated>(
     start_filter(alloc, run, settings, CoreHook::TheTitle, title, args, shown)
 }
 
-/// Starts the filter of a content. If the run needn't stop in it and it leaves the content as it is, the content is
-/// printed at once.
+/// Starts the filter of a content. If the run needn't stop in it and it leaves the content as it
+/// is, the content is printed at once.
 fn start_content<S: Stated>(
     alloc: Global,
     run: &mut Run<'_, S>,
@@ -227,7 +231,8 @@ fn begin_tag<S: Stated>(
 ) -> Result<Option<Hand>, RunFault>
     requires { IsReady run.old }
     ensures { BeginsBy pace S.says S.number run.old result run.new
-        (λ engine world. tag_pass engine settings.now (option_map (λ p. p.now) post.entry) world tag) }
+        (λ engine world. tag_pass engine settings.now (option_map (λ p. p.now) post.entry) world
+        tag) }
 {
     match tag {
         Tag::OfPost(tag) => match post {
@@ -252,7 +257,8 @@ pub(crate) fn begin_item<S: Stated>(
 ) -> Result<Option<Hand>, RunFault>
     requires { IsReady run.old }
     ensures { BeginsBy pace S.says S.number run.old result run.new
-        (λ engine world. item_pass engine settings.now (option_map (λ p. p.now) post.entry) world item.now) }
+        (λ engine world. item_pass engine settings.now (option_map (λ p. p.now) post.entry) world
+        item.now) }
 {
     match item {
         Item::Text(text) => print(run, text.as_str()),
@@ -284,7 +290,8 @@ fn print_shown<S: Stated>(
     text: Text,
 ) -> Result<(), RunFault>
     requires { IsReady run.old }
-    ensures { Finishes S.says S.number run.old result run.new (λ world. printed world (shown_as shown text)) }
+    ensures { Finishes S.says S.number run.old result run.new
+        (λ world. print_text world (shown_as shown text)) }
 {
     match shown {
         Shown::Plain => run.print(text.as_str()),

@@ -6,7 +6,7 @@ ghost use Rattle.template_parts.specs.Left.{step_pass, BeginsBy, run_left, IsIdl
 ghost use Rattle.template_parts.specs.Left.{IsIdleAtEnd, Moves, Stops, Shortens};
 
 use crate::item::{Hand, begin_item, hand_on, start_action};
-use crate::place::{Place, stored_item};
+use crate::place::{ItemPlace, stored_item};
 use crate::settings::Settings;
 use crate::steps::Step;
 use callback_store::Stated;
@@ -18,21 +18,10 @@ use std::alloc::Global;
 
 /// What a page has still to do, apart from its run.
 #[derive(Drop)]
-pub struct Ahead {
+pub struct PageRest {
     /// What becomes of the result of the job under way, if one is.
     pub hand: Option<Hand>,
     pub steps: Left<Step>,
-}
-
-/// The result of a move.
-#[derive(Clone, Copy, Debug)]
-pub enum Moved {
-    /// A callback was invoked.
-    Turned,
-    /// An item was begun or ended.
-    On,
-    /// Nothing is left.
-    Over,
 }
 
 /// Why a page stops.
@@ -69,29 +58,32 @@ fn begin_step<S: Stated>(
 {
     let post = post_at(posts, step.post);
     match step.place {
-        Place::Hook(hook) => start_action(alloc, run, settings, Text::core(alloc, hook)),
-        Place::Stored(place) => match stored_item(settings, place) {
+        ItemPlace::Hook(hook) => start_action(alloc, run, settings, Text::core(alloc, hook)),
+        ItemPlace::Stored(place) => match stored_item(settings, place) {
             Some(item) => begin_item(alloc, run, settings, post, item, pace),
             None => Ok(None),
         },
     }
 }
 
-/// Makes one move: a turn of the job under way, or the beginning of the next step.
+/// Makes one move: a turn of the job under way, or the beginning of the next step. Returns why the
+/// page stops, or `None` if an item was begun or ended and there is more to do.
 fn one_move<S: Stated>(
     alloc: Global,
     run: &mut Run<'_, S>,
     settings: &Settings,
     posts: &[Post],
-    ahead: &mut Ahead,
+    ahead: &mut PageRest,
     cache: &mut PieceCache,
     pace: Pace,
-) -> Result<Moved, RunFault>
+) -> Result<Option<Stop>, RunFault>
     requires sound { fault_of run.old ≡ None }
     requires idle { ahead.old.hand ≡ None → IsIdle run.old }
     ensures moves { Moves pace
-        (run_left (engine_of S.says S.number run.old) settings.now posts.now run.old ahead.old) result
-        (world_of run.new) (run_left (engine_of S.says S.number run.old) settings.now posts.now run.new ahead.new) }
+        (run_left (engine_of S.says S.number run.old) settings.now posts.now run.old ahead.old)
+        result
+        (world_of run.new) (run_left (engine_of S.says S.number run.old) settings.now posts.now
+        run.new ahead.new) }
     ensures idle { OnOk result (ahead.new.hand ≡ None → IsIdle run.new) }
     ensures over { IsIdleIfOver result run.new }
     ensures shorter { Shortens result ahead.old ahead.new }
@@ -101,18 +93,18 @@ fn one_move<S: Stated>(
 {
     match ahead.hand {
         Some(hand) => match run.go_on(pace, cache)? {
-            Turn::More => Ok(Moved::Turned),
+            Turn::More => Ok(Some(Stop::Turned)),
             Turn::Done(text) => {
                 ahead.hand = None;
                 hand_on(alloc, run, hand, text)?;
-                Ok(Moved::On)
+                Ok(None)
             }
         },
         None => match ahead.steps.take_first() {
-            None => Ok(Moved::Over),
+            None => Ok(Some(Stop::Over)),
             Some(step) => {
                 ahead.hand = begin_step(alloc, run, settings, posts, step, pace)?;
-                Ok(Moved::On)
+                Ok(None)
             }
         },
     }
@@ -124,15 +116,17 @@ pub(crate) fn next_stop<S: Stated>(
     run: &mut Run<'_, S>,
     settings: &Settings,
     posts: &[Post],
-    ahead: &mut Ahead,
+    ahead: &mut PageRest,
     cache: &mut PieceCache,
     pace: Pace,
 ) -> Result<Stop, RunFault>
     requires sound { fault_of run.old ≡ None }
     requires idle { ahead.old.hand ≡ None → IsIdle run.old }
     ensures stops { Stops pace
-        (run_left (engine_of S.says S.number run.old) settings.now posts.now run.old ahead.old) result
-        (world_of run.new) (run_left (engine_of S.says S.number run.old) settings.now posts.now run.new ahead.new) }
+        (run_left (engine_of S.says S.number run.old) settings.now posts.now run.old ahead.old)
+        result
+        (world_of run.new) (run_left (engine_of S.says S.number run.old) settings.now posts.now
+        run.new ahead.new) }
     ensures idle { OnOk result (ahead.new.hand ≡ None → IsIdle run.new) }
     ensures over { IsIdleAtEnd result run.new }
     ensures sound { OnOk result (fault_of run.new ≡ None) }
@@ -142,9 +136,8 @@ pub(crate) fn next_stop<S: Stated>(
     let mut moved = one_move(alloc, run, settings, posts, ahead, cache, pace)?;
     'moves: loop {
         match moved {
-            Moved::Turned => return Ok(Stop::Turned),
-            Moved::Over => return Ok(Stop::Over),
-            Moved::On => moved = one_move(alloc, run, settings, posts, ahead, cache, pace)?,
+            Some(stop) => return Ok(stop),
+            None => moved = one_move(alloc, run, settings, posts, ahead, cache, pace)?,
         }
     }
 }

@@ -6,26 +6,27 @@ ghost use Rattle.hook_machine.specs.Runs.{world_of, IsReady, IsPausedIdle};
 ghost use Rattle.template_parts.specs.Left.{hand_in};
 ghost use Rattle.template_parts.specs.Pages.{page_pass, IsPage, IsRefusedBy};
 
-use crate::found::SharedFound;
-use crate::moves::Ahead;
+use crate::moves::PageRest;
 use crate::page::{Page, PageTurn};
 use crate::settings::Settings;
 use callback_store::{Plugins, Stated};
 use content_cache::PieceCache;
+use hook_changes::Shared;
 use hook_machine::{PausedRun, Run, RunFault};
+use site_records::Found;
 use std::alloc::Global;
 
-/// A page that was begun and has neither ended nor returned a fault. It owns all that it needs but the plugins, which
-/// each call borrows: what its path found, what its site said of pages, and what its run has. So nothing that its site
-/// does later reaches it.
+/// A page that was begun and has neither ended nor returned a fault. It owns all that it needs but
+/// the plugins, which each call borrows: what its path found, what its site said of pages, and what
+/// its run has. So nothing that its site does later reaches it.
 #[derive(Drop)]
 pub struct OpenPage {
     pub(crate) alloc: Global,
-    pub(crate) found: SharedFound,
+    pub(crate) found: Shared<Found>,
     pub(crate) settings: Settings,
     pub(crate) run: PausedRun,
     /// What is left of it, once its first turn has begun.
-    pub(crate) ahead: Option<Ahead>,
+    pub(crate) ahead: Option<PageRest>,
     // No job is under way but one that the page waits for.
     ghost waits: { hand_in ahead ≡ None → IsPausedIdle run },
 }
@@ -42,10 +43,11 @@ pub enum Turned {
 impl OpenPage {
     ghost use Rattle.template_parts.specs.Open.{open_left, status_of, GoesOn};
 
-    /// Opens a page over what was found. The run has loaded its plugins and done nothing else; this runs nothing.
+    /// Opens a page over what was found. The run has loaded its plugins and done nothing else; this
+    /// runs nothing.
     pub fn begin<S: Stated>(
         alloc: Global,
-        found: SharedFound,
+        found: Shared<Found>,
         settings: Settings,
         run: Run<'_, S>,
     ) -> Self
@@ -63,8 +65,9 @@ impl OpenPage {
         }
     }
 
-    /// Makes `count` turns, or as many as the page has left. The plugins are those that it was begun with. A page that
-    /// is printed or refused is closed, and so is one at which memory runs out.
+    /// Makes `count` turns, or as many as the page has left. The plugins are those that it was
+    /// begun with. A page that is printed or refused is closed, and so is one at which memory runs
+    /// out.
     pub fn turns<S: Stated>(
         self,
         plugins: &Plugins<S>,
@@ -88,8 +91,8 @@ impl OpenPage {
         }
     }
 
-    /// Prints the page to its end, from wherever it is, over the plugins that it was begun with. Returns its status,
-    /// 200 or 404, and its bytes.
+    /// Prints the page to its end, from wherever it is, over the plugins that it was begun with.
+    /// Returns its status, 200 or 404, and its bytes.
     pub fn finish<S: Stated>(
         self,
         plugins: &Plugins<S>,
@@ -98,7 +101,8 @@ impl OpenPage {
         ensures status { IfOk result (λ page. page.0 ≡ status_of self) }
         ensures bytes { IfOk result (λ page. IsPage
             (open_left (engine_over S.says S.number plugins.now) self) page.1.items) }
-        ensures err { IfErr result (IsRefusedBy (open_left (engine_over S.says S.number plugins.now) self)) }
+        ensures err { IfErr result
+            (IsRefusedBy (open_left (engine_over S.says S.number plugins.now) self)) }
         ensures cache { cache.new ≡ cache.old }
     {
         Page::resume(self, plugins).finish(cache)

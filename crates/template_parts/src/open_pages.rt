@@ -24,7 +24,8 @@ impl Model for OpenPages {
     ghost invariant = { λ pages. length pages.places.items ≡ 8 };
 }
 
-/// Written out, so that a crate which owns open pages calls this drop, and proves no drop of what they own.
+/// Written out, so that a crate which owns open pages calls this drop, and proves no drop of what
+/// they own.
 impl Drop for OpenPages {
     fn drop(self) {
         let OpenPages { places: _ } = self;

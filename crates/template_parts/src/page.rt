@@ -7,28 +7,30 @@ ghost use Rattle.hook_machine.specs.Runs.{world_of, fault_of, engine_of, CanBegi
 ghost use Rattle.template_parts.specs.Pages.{page_pass, IsPage, IsRefusedBy};
 ghost use Rattle.template_parts.specs.Left.{ahead_of, left_at, hand_in};
 
-use crate::found::SharedFound;
-use crate::moves::{Ahead, Stop, next_stop};
+use crate::moves::{PageRest, Stop, next_stop};
 use crate::open_page::OpenPage;
 use crate::settings::Settings;
 use crate::steps::steps_of_page;
 use callback_store::{Plugins, Stated};
 use content_cache::PieceCache;
+use hook_changes::Shared;
 use hook_machine::{Pace, Run, RunFault};
-use site_records::Post;
+use site_records::{Found, Post};
 use std::alloc::{AllocError, Global};
 
-/// A page that is to be printed: what its path found, what its site says of pages, and the run of its request.
+/// A page that is to be printed: what its path found, what its site says of pages, and the run of
+/// its request.
 ///
-/// It borrows the plugins, as the run does. Once a call has returned a fault, each later call returns that same fault.
+/// It borrows the plugins, as the run does. Once a call has returned a fault, each later call
+/// returns that same fault.
 #[derive(Drop)]
 pub struct Page<'p, S> {
     alloc: Global,
-    found: SharedFound,
+    found: Shared<Found>,
     settings: Settings,
     run: Run<'p, S>,
     /// What is left of it, once its first turn has begun.
-    ahead: Option<Ahead>,
+    ahead: Option<PageRest>,
     fault: Option<RunFault>,
 }
 
@@ -46,15 +48,17 @@ fn ahead_from(
     alloc: Global,
     settings: &Settings,
     posts: &[Post],
-    ahead: Option<Ahead>,
-) -> Result<Ahead, AllocError>
-    ensures left { IfOk result (λ now. (engine : Engine) (world : World) (left : Trace Text) → left_at engine
-        settings.now posts.now world left ahead ≡ ahead_of engine settings.now posts.now world left now) }
+    ahead: Option<PageRest>,
+) -> Result<PageRest, AllocError>
+    ensures left { IfOk result (λ now. (engine : Engine) (world : World) (left : Trace Text)
+        → left_at engine
+        settings.now posts.now world left ahead
+        ≡ ahead_of engine settings.now posts.now world left now) }
     ensures hand { IfOk result (λ now. now.hand ≡ hand_in ahead) }
 {
     match ahead {
         Some(ahead) => Ok(ahead),
-        None => Ok(Ahead {
+        None => Ok(PageRest {
             hand: None,
             steps: steps_of_page(alloc, settings, posts)?,
         }),
@@ -62,18 +66,22 @@ fn ahead_from(
 }
 
 impl<'p, S: Stated> Page<'p, S> {
-    ghost use Rattle.template_parts.specs.Page.{found_in, settings_in, run_in, refusal_of, page_left};
-    ghost use Rattle.template_parts.specs.Page.{CanGoOn, IsSamePage, HasStatus, Goes, Turns, TurnsBy};
+    ghost use Rattle.template_parts.specs.Page.{found_in, settings_in, run_in, refusal_of};
+    ghost use Rattle.template_parts.specs.Page.{page_left};
+    ghost use Rattle.template_parts.specs.Page.{CanGoOn, IsSamePage, HasStatus, Goes, Turns};
+    ghost use Rattle.template_parts.specs.Page.{TurnsBy};
     ghost use Rattle.template_parts.specs.Open.{open_left, status_of};
     ghost use Rattle.hook_machine.specs.Outcomes.{engine_over};
 
-    /// Makes a page over what was found. The run has loaded its plugins and done nothing else; this runs nothing.
-    pub fn begin(alloc: Global, found: SharedFound, settings: Settings, run: Run<'p, S>) -> Self
+    /// Makes a page over what was found. The run has loaded its plugins and done nothing else; this
+    /// runs nothing.
+    pub fn begin(alloc: Global, found: Shared<Found>, settings: Settings, run: Run<'p, S>) -> Self
         requires idle { CanBegin run }
         ensures found { found_in result ≡ found }
         ensures left { page_left (engine_of S.says S.number run.entry) result ≡ page_pass
             (engine_of S.says S.number run.entry) settings found.posts (world_of run.entry) }
-        ensures engine { engine_of S.says S.number (run_in result) ≡ engine_of S.says S.number run.entry }
+        ensures engine { engine_of S.says S.number (run_in result)
+            ≡ engine_of S.says S.number run.entry }
         ensures refusal { refusal_of result ≡ fault_of run.entry }
         ensures ready { CanGoOn result }
     {
@@ -88,13 +96,14 @@ impl<'p, S: Stated> Page<'p, S> {
         }
     }
 
-    /// Goes on with the page until one callback was invoked and its echo and changes were carried out, or until the
-    /// page is printed. The first turn also fires the actions of a request. Once the page is printed, it is not
-    /// specified what a further turn returns.
+    /// Goes on with the page until one callback was invoked and its echo and changes were carried
+    /// out, or until the page is printed. The first turn also fires the actions of a request. Once
+    /// the page is printed, it is not specified what a further turn returns.
     pub fn turn(&mut self, cache: &mut PieceCache) -> Result<PageTurn, RunFault>
         requires { CanGoOn self.old }
         ensures turns { refusal_of self.old ≡ None →
-            Turns (page_left (engine_of S.says S.number (run_in self.old)) self.old) result (world_of (run_in self.new))
+            Turns (page_left (engine_of S.says S.number (run_in self.old)) self.old) result
+            (world_of (run_in self.new))
             (page_left (engine_of S.says S.number (run_in self.old)) self.new) }
         ensures status { IfOk result (HasStatus (found_in self.old).status) }
         ensures ready { CanGoOn self.new }
@@ -102,7 +111,8 @@ impl<'p, S: Stated> Page<'p, S> {
         ensures sound { OnOk result (refusal_of self.new ≡ None) }
         ensures fault { IfErr result (λ fault. refusal_of self.new ≡ Some fault) }
         ensures again { IfSome (refusal_of self.old) (λ fault. result ≡ Err fault) }
-        ensures engine { engine_of S.says S.number (run_in self.new) ≡ engine_of S.says S.number (run_in self.old) }
+        ensures engine { engine_of S.says S.number (run_in self.new)
+            ≡ engine_of S.says S.number (run_in self.old) }
         ensures cache { cache.new ≡ cache.old }
     {
         self.advance(Pace::ByTurns, cache)
@@ -113,14 +123,16 @@ impl<'p, S: Stated> Page<'p, S> {
         requires { CanGoOn self.old }
         ensures goes { refusal_of self.old ≡ None →
             Goes pace (page_left (engine_of S.says S.number (run_in self.old)) self.old) result
-            (world_of (run_in self.new)) (page_left (engine_of S.says S.number (run_in self.old)) self.new) }
+            (world_of (run_in self.new))
+            (page_left (engine_of S.says S.number (run_in self.old)) self.new) }
         ensures status { IfOk result (HasStatus (found_in self.old).status) }
         ensures ready { CanGoOn self.new }
         ensures same { IsSamePage self.new self.old }
         ensures sound { OnOk result (refusal_of self.new ≡ None) }
         ensures fault { IfErr result (λ fault. refusal_of self.new ≡ Some fault) }
         ensures again { IfSome (refusal_of self.old) (λ fault. result ≡ Err fault) }
-        ensures engine { engine_of S.says S.number (run_in self.new) ≡ engine_of S.says S.number (run_in self.old) }
+        ensures engine { engine_of S.says S.number (run_in self.new)
+            ≡ engine_of S.says S.number (run_in self.old) }
         ensures cache { cache.new ≡ cache.old }
     {
         if let Some(fault) = self.fault {
@@ -139,7 +151,8 @@ impl<'p, S: Stated> Page<'p, S> {
     pub(crate) fn turns(&mut self, count: u32, cache: &mut PieceCache) -> Result<PageTurn, RunFault>
         requires ready { CanGoOn self.old }
         requires sound { refusal_of self.old ≡ None }
-        ensures turns { TurnsBy count (page_left (engine_of S.says S.number (run_in self.old)) self.old) result
+        ensures turns { TurnsBy count
+            (page_left (engine_of S.says S.number (run_in self.old)) self.old) result
             (page_left (engine_of S.says S.number (run_in self.old)) self.new) }
         ensures status { IfOk result (HasStatus (found_in self.old).status) }
         ensures ready { CanGoOn self.new }
@@ -185,7 +198,8 @@ impl<'p, S: Stated> Page<'p, S> {
     pub fn resume(page: OpenPage, plugins: &'p Plugins<S>) -> Self
         ensures left { (engine : Engine) → page_left engine result ≡ open_left engine page }
         ensures status { (found_in result).status ≡ status_of page }
-        ensures engine { engine_of S.says S.number (run_in result) ≡ engine_over S.says S.number plugins.entry.now }
+        ensures engine { engine_of S.says S.number (run_in result)
+            ≡ engine_over S.says S.number plugins.entry.now }
         ensures ready { CanGoOn result }
         ensures sound { refusal_of result ≡ None }
     {
@@ -206,8 +220,8 @@ impl<'p, S: Stated> Page<'p, S> {
         }
     }
 
-    /// Prints the page to its end, from wherever it is, and returns its status, 200 or 404, and its bytes. A page that
-    /// is refused shows nothing.
+    /// Prints the page to its end, from wherever it is, and returns its status, 200 or 404, and its
+    /// bytes. A page that is refused shows nothing.
     pub fn finish(self, cache: &mut PieceCache) -> Result<(u16, Vec<u8>), RunFault>
         requires { CanGoOn self }
         ensures status { IfOk result (λ page. page.0 ≡ (found_in self.entry).status) }
@@ -228,16 +242,19 @@ impl<'p, S: Stated> Page<'p, S> {
     fn go_on(&mut self, pace: Pace, cache: &mut PieceCache) -> Result<PageTurn, RunFault>
         requires ready { CanGoOn self.old }
         requires sound { refusal_of self.old ≡ None }
-        ensures goes { Goes pace (page_left (engine_of S.says S.number (run_in self.old)) self.old) result
-            (world_of (run_in self.new)) (page_left (engine_of S.says S.number (run_in self.old)) self.new) }
+        ensures goes { Goes pace (page_left (engine_of S.says S.number (run_in self.old)) self.old)
+            result
+            (world_of (run_in self.new))
+            (page_left (engine_of S.says S.number (run_in self.old)) self.new) }
         ensures status { IfOk result (HasStatus (found_in self.old).status) }
         ensures ready { OnOk result (CanGoOn self.new) }
         ensures same { IsSamePage self.new self.old }
         ensures sound { refusal_of self.new ≡ None }
-        ensures engine { engine_of S.says S.number (run_in self.new) ≡ engine_of S.says S.number (run_in self.old) }
+        ensures engine { engine_of S.says S.number (run_in self.new)
+            ≡ engine_of S.says S.number (run_in self.old) }
         ensures cache { cache.new ≡ cache.old }
     {
-        let posts = self.found.posts();
+        let posts = self.found.get().posts.as_slice();
         let taken = self.ahead.take();
         let mut ahead = ahead_from(self.alloc, &self.settings, posts, taken)?;
         let stop = next_stop(
@@ -255,12 +272,13 @@ impl<'p, S: Stated> Page<'p, S> {
             Stop::Over => {
                 let text = self.run.take_output()?;
                 let bytes = text.into_string()?.into_bytes();
-                Ok(PageTurn::Done(self.found.status(), bytes))
+                Ok(PageTurn::Done(self.found.get().status, bytes))
             }
         }
     }
 
-    /// Prints the page to its end, without stopping where it needn't, and returns the page's status and bytes.
+    /// Prints the page to its end, without stopping where it needn't, and returns the page's status
+    /// and bytes.
     fn print(&mut self, cache: &mut PieceCache) -> Result<(u16, Vec<u8>), RunFault>
         requires { CanGoOn self.old }
         ensures status { IfOk result (λ page. page.0 ≡ (found_in self.old).status) }
@@ -283,7 +301,8 @@ impl<'p, S: Stated> Page<'p, S> {
         }
     }
 
-    /// Ends the page. All that a page owns is dropped here, so that what dropping does is proved once.
+    /// Ends the page. All that a page owns is dropped here, so that what dropping does is proved
+    /// once.
     pub(crate) fn end(self) {
         drop(self);
     }

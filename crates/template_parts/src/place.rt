@@ -4,8 +4,8 @@ ghost use Rattle.template_parts.specs.Places.{node_item, element_item};
 ghost use Rattle.template_parts.specs.Places.{elements_in, template_of, stored_item};
 
 use crate::settings::Settings;
-use hook_changes::{CoreHook, Listed};
-use template_trees::{Element, Item, Node, Part, SharedTemplate};
+use hook_changes::{CoreHook, Listed, Shared};
+use template_trees::{Element, Item, Node, Part, Template};
 
 /// One of a loop's two bodies.
 #[derive(Clone, Copy, Debug)]
@@ -18,7 +18,7 @@ pub enum Side {
 
 /// A place in a stored template, counted from 0.
 #[derive(Clone, Copy)]
-pub enum Stored {
+pub enum TreePlace {
     /// A node of the page's template.
     Node(usize),
     /// An element in one of the bodies of a node that is a loop.
@@ -29,10 +29,10 @@ pub enum Stored {
 
 /// The place of an item.
 #[derive(Clone, Copy)]
-pub enum Place {
+pub enum ItemPlace {
     /// In no template: an action that is fired all the same.
     Hook(CoreHook),
-    Stored(Stored),
+    Stored(TreePlace),
 }
 
 fn element_item(element: &Element) -> Option<&Item>
@@ -66,7 +66,7 @@ fn elements_in(side: Side, node: &Node) -> Option<&Listed<Element>>
 }
 
 /// Returns the template that a site stores for a part, if there is one.
-pub(crate) fn template_of(settings: &Settings, part: Part) -> Option<&SharedTemplate>
+pub(crate) fn template_of(settings: &Settings, part: Part) -> Option<&Shared<Template>>
     ensures { option_map (λ t. t.now) result ≡ template_of settings.entry.now part }
 {
     match part {
@@ -77,19 +77,19 @@ pub(crate) fn template_of(settings: &Settings, part: Part) -> Option<&SharedTemp
 }
 
 /// Returns the item at a place, if there is one.
-pub(crate) fn stored_item(settings: &Settings, place: Stored) -> Option<&Item>
+pub(crate) fn stored_item(settings: &Settings, place: TreePlace) -> Option<&Item>
     ensures { option_map (λ i. i.now) result ≡ stored_item settings.entry.now place }
 {
-    let nodes = settings.template.nodes();
+    let nodes = settings.template.get().nodes.as_slice();
     match place {
-        Stored::Node(at) => node_item(nodes.get(at)?),
-        Stored::Element { node, side, at } => {
+        TreePlace::Node(at) => node_item(nodes.get(at)?),
+        TreePlace::Element { node, side, at } => {
             let elements = elements_in(side, nodes.get(node)?)?;
             element_item(elements.as_slice().get(at)?)
         }
-        Stored::Part { part, at } => {
+        TreePlace::Part { part, at } => {
             let template = template_of(settings, part)?;
-            node_item(template.nodes().get(at)?)
+            node_item(template.get().nodes.as_slice().get(at)?)
         }
     }
 }

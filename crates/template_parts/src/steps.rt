@@ -7,42 +7,48 @@ ghost use Rattle.template_parts.specs.Pages.{elements_items, node_items, page_it
 ghost use Rattle.template_parts.specs.Places.{elements_in, template_of, item_at, element_item};
 ghost use Rattle.template_parts.specs.Places.{items_of, items_left, post_at};
 
-use crate::place::{Place, Side, Stored, template_of};
+use crate::place::{ItemPlace, Side, TreePlace, template_of};
 use crate::settings::Settings;
-use hook_changes::CoreHook;
+use hook_changes::{CoreHook, Shared};
 use hook_machine::Left;
 use site_records::Post;
 use std::alloc::{AllocError, Global};
-use template_trees::{Element, Node, Part, SharedTemplate};
+use template_trees::{Element, Node, Part, Template};
 
 /// What a page does next: the item at a place, over a post.
 #[derive(Clone, Copy)]
 pub struct Step {
     /// The post's place among those found, counted from 0; outside a loop there is none.
     pub post: Option<usize>,
-    pub place: Place,
+    pub place: ItemPlace,
 }
 
 /// Adds the nodes of a part's template.
 fn push_nodes(
-    places: &mut Vec<Place>,
+    places: &mut Vec<ItemPlace>,
     settings: &Settings,
     part: Part,
-    template: &SharedTemplate,
+    template: &Shared<Template>,
 ) -> Result<(), AllocError>
     requires { template_of settings.now part ≡ Some template.now }
-    ensures { OnOk result (items_of settings.now places.new.items ≡ items_of settings.now places.old.items
+    ensures { OnOk result (items_of settings.now places.new.items
+        ≡ items_of settings.now places.old.items
         ++ stored_part_items (Some template.now)) }
 {
-    for at in 0..template.nodes().len() {
-        places.push(Place::Stored(Stored::Part { part, at }))?;
+    for at in 0..template.get().nodes.as_slice().len() {
+        places.push(ItemPlace::Stored(TreePlace::Part { part, at }))?;
     }
     Ok(())
 }
 
 /// Adds the template of a part, if one is stored.
-fn push_stored(places: &mut Vec<Place>, settings: &Settings, part: Part) -> Result<(), AllocError>
-    ensures { OnOk result (items_of settings.now places.new.items ≡ items_of settings.now places.old.items
+fn push_stored(
+    places: &mut Vec<ItemPlace>,
+    settings: &Settings,
+    part: Part,
+) -> Result<(), AllocError>
+    ensures { OnOk result (items_of settings.now places.new.items
+        ≡ items_of settings.now places.old.items
         ++ stored_part_items (template_of settings.now part)) }
 {
     match template_of(settings, part) {
@@ -52,13 +58,14 @@ fn push_stored(places: &mut Vec<Place>, settings: &Settings, part: Part) -> Resu
 }
 
 /// Adds a part: the action that announces it, if one does, and then its template.
-fn push_part(places: &mut Vec<Place>, settings: &Settings, part: Part) -> Result<(), AllocError>
-    ensures { OnOk result (items_of settings.now places.new.items ≡ items_of settings.now places.old.items
+fn push_part(places: &mut Vec<ItemPlace>, settings: &Settings, part: Part) -> Result<(), AllocError>
+    ensures { OnOk result (items_of settings.now places.new.items
+        ≡ items_of settings.now places.old.items
         ++ part_items settings.now part) }
 {
     match part {
-        Part::Header => places.push(Place::Hook(CoreHook::GetHeader))?,
-        Part::Footer => places.push(Place::Hook(CoreHook::GetFooter))?,
+        Part::Header => places.push(ItemPlace::Hook(CoreHook::GetHeader))?,
+        Part::Footer => places.push(ItemPlace::Hook(CoreHook::GetFooter))?,
         Part::Content => {}
     }
     push_stored(places, settings, part)
@@ -66,13 +73,14 @@ fn push_part(places: &mut Vec<Place>, settings: &Settings, part: Part) -> Result
 
 /// Adds an element that is at a place.
 fn push_element(
-    places: &mut Vec<Place>,
+    places: &mut Vec<ItemPlace>,
     settings: &Settings,
-    place: Place,
+    place: ItemPlace,
     element: &Element,
 ) -> Result<(), AllocError>
     requires { item_at settings.now place ≡ element_item element.now }
-    ensures { OnOk result (items_of settings.now places.new.items ≡ items_of settings.now places.old.items
+    ensures { OnOk result (items_of settings.now places.new.items
+        ≡ items_of settings.now places.old.items
         ++ element_items settings.now element.now) }
 {
     match element {
@@ -86,25 +94,31 @@ fn push_element(
 
 /// Adds the elements in a body of the loop that a node is.
 fn push_elements(
-    places: &mut Vec<Place>,
+    places: &mut Vec<ItemPlace>,
     settings: &Settings,
     node: usize,
     side: Side,
     elements: &[Element],
 ) -> Result<(), AllocError>
-    requires { option_and_then (elements_in side) (slice_get settings.now.template.nodes node) ≡ Some elements.now }
-    ensures { OnOk result (items_of settings.now places.new.items ≡ items_of settings.now places.old.items
+    requires { option_and_then (elements_in side) (slice_get settings.now.template.nodes node)
+        ≡ Some elements.now }
+    ensures { OnOk result (items_of settings.now places.new.items
+        ≡ items_of settings.now places.old.items
         ++ elements_items settings.now elements.now) }
 {
     for (at, element) in elements.iter().enumerate() {
-        let place = Place::Stored(Stored::Element { node, side, at });
+        let place = ItemPlace::Stored(TreePlace::Element { node, side, at });
         push_element(places, settings, place, element)?;
     }
     Ok(())
 }
 
 /// Adds some places over a post.
-fn push_over(steps: &mut Vec<Step>, post: Option<usize>, places: &[Place]) -> Result<(), AllocError>
+fn push_over(
+    steps: &mut Vec<Step>,
+    post: Option<usize>,
+    places: &[ItemPlace],
+) -> Result<(), AllocError>
     ensures { OnOk result (steps.new.items ≡ steps.old.items
         ++ map (λ place. record { post = post; place = place }) places.now) }
 {
@@ -122,10 +136,12 @@ fn push_over_each(
     steps: &mut Vec<Step>,
     settings: &Settings,
     posts: &[Post],
-    places: &[Place],
+    places: &[ItemPlace],
 ) -> Result<(), AllocError>
-    ensures { OnOk result (items_left settings.now posts.now steps.new.items ≡ items_left settings.now posts.now
-        steps.old.items ++ flat_map (λ p. over (Some p) (items_of settings.now places.now)) posts.now) }
+    ensures { OnOk result (items_left settings.now posts.now steps.new.items
+        ≡ items_left settings.now posts.now
+        steps.old.items ++ flat_map (λ p. over (Some p) (items_of settings.now places.now))
+        posts.now) }
 {
     for post in 0..posts.len() {
         push_over(steps, Some(post), places)?;
@@ -143,13 +159,14 @@ fn push_node(
     node: &Node,
 ) -> Result<(), AllocError>
     requires { slice_get settings.now.template.nodes at ≡ Some node.now }
-    ensures { OnOk result (items_left settings.now posts.now steps.new.items ≡ items_left settings.now posts.now
+    ensures { OnOk result (items_left settings.now posts.now steps.new.items
+        ≡ items_left settings.now posts.now
         steps.old.items ++ node_items settings.now posts.now node.now) }
 {
     let mut places = Vec::new(alloc);
     match node {
         Node::Element(element) => {
-            let place = Place::Stored(Stored::Node(at));
+            let place = ItemPlace::Stored(TreePlace::Node(at));
             push_element(&mut places, settings, place, element)?;
             push_over(steps, None, places.as_slice())?;
             Ok(())
@@ -175,10 +192,12 @@ fn push_template(
     settings: &Settings,
     posts: &[Post],
 ) -> Result<(), AllocError>
-    ensures { OnOk result (items_left settings.now posts.now steps.new.items ≡ items_left settings.now posts.now
-        steps.old.items ++ flat_map (node_items settings.now posts.now) settings.now.template.nodes) }
+    ensures { OnOk result (items_left settings.now posts.now steps.new.items
+        ≡ items_left settings.now posts.now
+        steps.old.items ++ flat_map (node_items settings.now posts.now)
+        settings.now.template.nodes) }
 {
-    for (at, node) in settings.template.nodes().iter().enumerate() {
+    for (at, node) in settings.template.get().nodes.as_slice().iter().enumerate() {
         push_node(alloc, steps, settings, posts, at, node)?;
     }
     Ok(())
@@ -190,15 +209,16 @@ pub(crate) fn steps_of_page(
     settings: &Settings,
     posts: &[Post],
 ) -> Result<Left<Step>, AllocError>
-    ensures { IfOk result (λ steps. items_left settings.now posts.now steps ≡ page_items settings.now posts.now) }
+    ensures { IfOk result (λ steps. items_left settings.now posts.now steps
+        ≡ page_items settings.now posts.now) }
 {
     let mut steps = Vec::new(alloc);
     let actions = [
-        Place::Hook(CoreHook::PluginsLoaded),
-        Place::Hook(CoreHook::Init),
-        Place::Hook(CoreHook::WpLoaded),
-        Place::Hook(CoreHook::Wp),
-        Place::Hook(CoreHook::TemplateRedirect),
+        ItemPlace::Hook(CoreHook::PluginsLoaded),
+        ItemPlace::Hook(CoreHook::Init),
+        ItemPlace::Hook(CoreHook::WpLoaded),
+        ItemPlace::Hook(CoreHook::Wp),
+        ItemPlace::Hook(CoreHook::TemplateRedirect),
     ];
     push_over(&mut steps, None, &actions)?;
     push_template(alloc, &mut steps, settings, posts)?;

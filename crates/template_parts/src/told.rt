@@ -1,7 +1,8 @@
 //! What can be told of an open page between its turns.
 ghost use Rattle.std.specs.Prelude.{◌≡◌, IfOk, option_map};
 ghost use Rattle.hook_machine.specs.Invocations.{made_as};
-ghost use Rattle.template_parts.specs.Told.{made_of, calls_of, steps_left, post_id, ArePostsOfSteps};
+ghost use Rattle.template_parts.specs.Told.{made_of, calls_of, steps_left, post_id};
+ghost use Rattle.template_parts.specs.Told.{ArePostsOfSteps};
 
 use crate::open_page::OpenPage;
 use crate::steps::{Step, steps_of_page};
@@ -34,8 +35,8 @@ impl OpenPage {
         self.run.calls_left()
     }
 
-    /// Returns how many of the page's steps are still to be begun, once its first turn has begun. A step is an item of
-    /// the page, over its post.
+    /// Returns how many of the page's steps are still to be begun, once its first turn has begun. A
+    /// step is an item of the page, over its post.
     pub fn steps_left(&self) -> Option<usize>
         ensures { result ≡ steps_left self.now }
     {
@@ -45,12 +46,12 @@ impl OpenPage {
         }
     }
 
-    /// Returns for each step of the page, those that are done included, the ID of the post that it is about, if it is
-    /// about one.
+    /// Returns for each step of the page, those that are done included, the ID of the post that it
+    /// is about, if it is about one.
     pub fn posts_of_steps(&self) -> Result<Vec<Option<u32>>, AllocError>
         ensures { IfOk result (λ ids. ArePostsOfSteps self.now ids.items) }
     {
-        let posts = self.found.posts();
+        let posts = self.found.get().posts.as_slice();
         let mut steps = steps_of_page(self.alloc, &self.settings, posts)?;
         let mut ids = Vec::new(self.alloc);
         'steps: while let Some(step) = steps.take_first() {

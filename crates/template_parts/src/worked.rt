@@ -1,4 +1,5 @@
-//! Worked choices of templates that are theorems: each clause below is computed from the definition.
+//! Worked choices of templates that are theorems: each clause below is computed from the
+//! definition.
 ghost use Rattle.std.specs.Prelude.{◌≡◌, ◌∷◌, [], codes};
 ghost use Rattle.site_records.specs.declared.found.FoundKind.{FoundKind};
 ghost use Rattle.template_parts.specs.Choice.{template_choice};
@@ -11,12 +12,14 @@ pub fn worked_choices()
     ensures home { template_choice FoundKind.Home (codes "home" ∷ codes "front-page" ∷ [])
         ≡ codes "home" }
     ensures no_home { template_choice FoundKind.Home (codes "front-page" ∷ []) ≡ codes "index" }
-    ensures front_page { template_choice FoundKind.FrontPage (codes "page" ∷ codes "front-page" ∷ [])
+    ensures front_page { template_choice FoundKind.FrontPage (codes "page" ∷ codes "front-page"
+        ∷ [])
         ≡ codes "front-page" }
     ensures front_as_a_page { template_choice FoundKind.FrontPage (codes "home" ∷ codes "page" ∷ [])
         ≡ codes "page" }
 
-    // A page that is asked for by its ID is no front, and of its own templates the first one counts.
+    // A page that is asked for by its ID is no front, and of its own templates the first one
+    // counts.
     ensures page { template_choice FoundKind.Page (codes "singular" ∷ codes "front-page" ∷ [])
         ≡ codes "singular" }
     ensures post { template_choice FoundKind.Single (codes "singular" ∷ codes "single" ∷ [])

@@ -15,12 +15,12 @@ unfoldable pub template_in : List ℕ → List ℕ → Option (Result Template T
 template_in name text = option_map (template_of name) (read text)
 
 -- a template of these nodes
-abbrev pub taken : List Node → Option (Result Template TemplateFault)
-taken nodes = Some (Ok (record { nodes = nodes }))
+abbrev pub tree_of_nodes : List Node → Option (Result Template TemplateFault)
+tree_of_nodes nodes = Some (Ok (record { nodes = nodes }))
 
 -- no template
-abbrev pub refused : Option (Result Template TemplateFault)
-refused = Some (Err BadTemplate)
+abbrev pub no_tree : Option (Result Template TemplateFault)
+no_tree = Some (Err BadTemplate)
 
 -- an item outside a loop
 abbrev pub plain : Item → Node

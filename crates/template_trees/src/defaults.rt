@@ -10,8 +10,8 @@ use crate::tree::{Element, Item, Node, PostTag, Tag, Template};
 use hook_changes::{Listed, Text};
 use std::alloc::{AllocError, Global};
 
-/// Makes the template `index` of a site that has stored none: between `wp_head` and `wp_footer` each post's title as a
-/// heading, with its content after it, or a sentence if no post was found.
+/// Makes the template `index` of a site that has stored none: between `wp_head` and `wp_footer`
+/// each post's title as a heading, with its content after it, or a sentence if no post was found.
 pub fn default_index(alloc: Global) -> Result<Template, AllocError>
     ensures { IfOk result (λ template. template.nodes ≡ default_index) }
 {

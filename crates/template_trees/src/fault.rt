@@ -5,7 +5,8 @@ use thiserror::Error;
 /// Why a body is refused as a template.
 #[derive(Clone, Copy, Debug, PartialEq, Eq, Error)]
 pub enum TemplateFault {
-    /// The name isn't that of a template, or the body has something that a template doesn't have in that place.
+    /// The name isn't that of a template, or the body has something that a template doesn't have in
+    /// that place.
     #[error("not a template")]
     BadTemplate,
     /// The template has more than 4,096 nodes or more than 262,144 bytes of texts.

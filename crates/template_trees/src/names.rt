@@ -4,8 +4,8 @@ ghost use Rattle.template_trees.specs.Trees.{tag_named, part_named, is_part_name
 
 use crate::tree::{Part, PostTag, Tag};
 
-/// Returns whether a site can store a template under that name: those of whole pages (Theme Handbook, Template
-/// Hierarchy) and those of the parts.
+/// Returns whether a site can store a template under that name: those of whole pages (Theme
+/// Handbook, Template Hierarchy) and those of the parts.
 #[tactic(auto, unfolding(crate::specs::Trees::is_template_name))]
 pub fn is_template_name(name: &str) -> bool
     ensures { result ≡ is_template_name name.now }

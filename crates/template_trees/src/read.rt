@@ -25,8 +25,9 @@ use hook_changes::{Listed, Text, is_hook_name};
 use serde_json::Value;
 use std::alloc::{AllocError, Global};
 
-/// Reads a JSON tree as the template of that name. A fault anywhere in the tree is refused as `BadTemplate`; only a
-/// tree without one is refused as `TooLarge`. The bytes of texts are counted after JSON's escapes are read.
+/// Reads a JSON tree as the template of that name. A fault anywhere in the tree is refused as
+/// `BadTemplate`; only a tree without one is refused as `TooLarge`. The bytes of texts are counted
+/// after JSON's escapes are read.
 #[tactic(auto, unfolding(crate::specs::Trees::template_of))]
 pub fn read_template(alloc: Global, name: &str, value: &Value) -> Result<Template, TemplateFault>
     ensures ok { IfOk result (λ template. template_of name.now (view value.now) ≡ Ok template) }

@@ -1,6 +1,7 @@
 //! How large a template is.
 ghost use Rattle.std.specs.Prelude.{◌≡◌, ◌-◌, ◌^◌, min, sum_by};
-ghost use Rattle.template_trees.specs.Trees.{count_of, node_count, text_bytes, node_bytes, element_bytes, fits};
+ghost use Rattle.template_trees.specs.Trees.{count_of, node_count, text_bytes, node_bytes};
+ghost use Rattle.template_trees.specs.Trees.{element_bytes, fits};
 
 use crate::tree::{Element, Item, Node};
 
@@ -17,8 +18,8 @@ pub(crate) fn fits(nodes: &[Node]) -> bool
     count_of(nodes) <= MAX_NODES && text_bytes(nodes) <= MAX_TEXT_BYTES
 }
 
-// Counts the nodes. A count that doesn't fit counts as the largest that does: both are far over what a template may
-// have.
+// Counts the nodes. A count that doesn't fit counts as the largest that does: both are far over
+// what a template may have.
 #[tactic(auto, unfolding(crate::specs::Trees::count_of))]
 fn count_of(nodes: &[Node]) -> usize
     ensures { result ≡ min (count_of nodes.now) (2 ^ 64 - 1) }

@@ -25,8 +25,8 @@ pub fn template_text(alloc: Global, value: &Value) -> Result<Text, AllocError>
     Ok(Text::new(value.to_string(alloc)?))
 }
 
-/// Reads a stored text as the template of that name, or returns `None` if it isn't one. It fails only if memory runs
-/// out.
+/// Reads a stored text as the template of that name, or returns `None` if it isn't one. It fails
+/// only if memory runs out.
 #[tactic(auto, unfolding(crate::specs::Trees::stored_template))]
 pub fn read_stored(alloc: Global, name: &str, text: &str) -> Result<Option<Template>, AllocError>
     ensures { IfOk result (λ template. template ≡ stored_template name.now text.now) }

@@ -11,8 +11,8 @@ use Rattle.site_replies.specs.Reply.{page}
 use Rattle.site_program.specs.Requests.{Opened, options_of, templates_of, active_of}
 
 -- the bundled plugins, as pages take them
-abbrev pub bundled : Engine
-bundled = record { says = says; plugins = bundle }
+abbrev pub bundled_engine : Engine
+bundled_engine = record { says = says; plugins = bundle }
 
 abbrev pub one_post : List Post
 one_post = record { id = 1; kind = kind.Post; status = status.Publish; title = codes "T"; content = []; date = codes "2024-05-01 10:00:00" } ∷ []

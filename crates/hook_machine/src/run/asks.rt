@@ -1,4 +1,5 @@
-//! Invocations as frames of a run: an invocation hands its answer on, asks for something, or gets what it asked for.
+//! Invocations as frames of a run: an invocation hands its answer on, asks for something, or gets
+//! what it asked for.
 //!
 //! `passes` says what the functions of all frames have in common.
 ghost use Rattle.std.specs.Prelude.{◌≡◌, ◌⊎◌, ◌+◌, ◌<◌, ◌≤◌, ◌∷◌, IfErr, OnOk};
@@ -48,8 +49,10 @@ fn wait(
 ) -> Result<(), RunFault>
     ensures within { OnOk result (state.old.depth < 32) }
     ensures deeper { OnOk result (state.new ≡ record state.old { depth = state.old.depth + 1 }) }
-    ensures waits { OnOk result (stack.new ≡ Frame.Invocation (record invoked { pending = pending }) ∷ stack.old) }
-    ensures err { IfErr result (λ fault. (fault ≡ OutOfMemory) ⊎ ((fault ≡ TooDeep) × (32 ≤ state.old.depth))) }
+    ensures waits { OnOk result (stack.new ≡ Frame.Invocation (record invoked { pending = pending })
+        ∷ stack.old) }
+    ensures err { IfErr result (λ fault. (fault ≡ OutOfMemory)
+        ⊎ ((fault ≡ TooDeep) × (32 ≤ state.old.depth))) }
 {
     let mut invoked = invoked;
     state.deepen()?;
@@ -117,8 +120,8 @@ fn ask_shortcodes<S: Stated>(
     begin_text(plugins, state, stack, text, cache, pace)
 }
 
-/// Begins to replace the shortcodes of the first argument of core's callback. The argument moves out of the call, which
-/// is not read again.
+/// Begins to replace the shortcodes of the first argument of core's callback. The argument moves
+/// out of the call, which is not read again.
 fn core_turn<S: Stated>(
     plugins: &Plugins<S>,
     state: &mut State,
@@ -150,7 +153,8 @@ fn ask_turn<S: Stated>(
     pace: Pace,
 ) -> Result<Move, RunFault>
     ensures moves { Does pace (engine_over S.says S.number plugins.now)
-        (λ engine. pending_left engine state.old invoked.callback invoked.call (Next (next.Ask ask)))
+        (λ engine. pending_left engine state.old invoked.callback invoked.call
+        (Next (next.Ask ask)))
         stack.old result state.new stack.new }
     ensures weight { AddsWeight 1 result stack.old stack.new }
     ensures cache { cache.new ≡ cache.old }
@@ -218,7 +222,8 @@ fn follow_turn<S: Stated>(
     }
 }
 
-/// Goes on with an invocation by its pending step. An invocation that waits for a result is not handed one here.
+/// Goes on with an invocation by its pending step. An invocation that waits for a result is not
+/// handed one here.
 pub fn invocation_turn<S: Stated>(
     plugins: &Plugins<S>,
     state: &mut State,
@@ -251,7 +256,8 @@ pub fn waiting_turn<S: Stated>(
     pace: Pace,
 ) -> Result<Move, RunFault>
     ensures moves { Does pace (engine_over S.says S.number plugins.now)
-        (λ engine. pending_handed engine state.old invoked.callback invoked.call invoked.pending text)
+        (λ engine. pending_handed engine state.old invoked.callback invoked.call invoked.pending
+        text)
         stack.old result state.new stack.new }
     ensures weight { AddsWeight 0 result stack.old stack.new }
 {

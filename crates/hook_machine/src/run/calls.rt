@@ -3,7 +3,8 @@ ghost use Rattle.std.specs.Prelude.{◌≡◌, ℕ, List, [], ◌++◌, ◌∷�
 ghost use Rattle.shortcode_atts.specs.Attributes.{attributes, no_attributes};
 ghost use Rattle.hook_machine.specs.declared.run.calls.PassKind.TheVariants.{Filter, Action};
 ghost use Rattle.hook_machine.specs.Calls.{shortcode_call};
-ghost use Rattle.hook_machine.specs.Meaning.{value_after, hook_call, arguments, first_or_empty, said};
+ghost use Rattle.hook_machine.specs.Meaning.{value_after, hook_call, arguments, first_or_empty};
+ghost use Rattle.hook_machine.specs.Meaning.{reply_to_call};
 ghost use Rattle.hook_machine.specs.Outcomes.{engine_over};
 
 use callback_store::{Plugins, Stated};
@@ -36,10 +37,11 @@ fn with_copies(given: Vec<Text>, texts: &[Text]) -> Result<Vec<Text>, AllocError
 pub fn copies(alloc: Global, texts: &[Text]) -> Result<Vec<Text>, AllocError>
     ensures { IfOk result (λ copies. copies.items ≡ texts.now) }
 {
-    with_copies(Vec::new(alloc), texts)
+    Vec::from_clones(alloc, texts)
 }
 
-/// Appends a filter's first arguments: the value, and then copies of the others, `accepted` in all at most.
+/// Appends a filter's first arguments: the value, and then copies of the others, `accepted` in all
+/// at most.
 fn filter_arguments(
     given: Vec<Text>,
     value: Text,
@@ -62,7 +64,8 @@ fn filter_arguments(
     Ok(all)
 }
 
-/// Appends copies of an action's first arguments, at most `accepted`. An action without arguments has one empty text.
+/// Appends copies of an action's first arguments, at most `accepted`. An action without arguments
+/// has one empty text.
 fn action_arguments(
     alloc: Global,
     given: Vec<Text>,
@@ -70,7 +73,8 @@ fn action_arguments(
     accepted: u8,
 ) -> Result<Vec<Text>, AllocError>
     requires { given.items ≡ [] }
-    ensures { IfOk result (λ all. (value : List ℕ) → all.items ≡ take accepted (arguments Action value args.now)) }
+    ensures { IfOk result (λ all. (value : List ℕ) → all.items
+        ≡ take accepted (arguments Action value args.now)) }
 {
     let mut all = with_copies(given, args)?;
     if all.is_empty() {
@@ -89,7 +93,12 @@ fn has_none(atts: &Atts) -> bool
 
 /// Returns whether a call has nothing of what only the call of a shortcode's handler has.
 fn is_bare(call: &Call) -> bool
-    ensures { IsTrue result → call.now ≡ record call.now { tag = []; atts = no_attributes; content = [] } }
+    ensures { IsTrue result → call.now ≡ record call.now {
+      tag = [];
+      atts = no_attributes;
+      content =
+          [];
+    } }
 {
     call.tag.as_str().is_empty() && call.content.as_str().is_empty() && has_none(&call.atts)
 }
@@ -106,8 +115,8 @@ fn strip(alloc: Global, call: &mut Call)
     call.content = Text::empty(alloc);
 }
 
-/// Turns a call into that of a hook without arguments, and returns the empty vector of those that it had, to be filled
-/// again. The hook's name is copied only if it changes.
+/// Turns a call into that of a hook without arguments, and returns the empty vector of those that
+/// it had, to be filled again. The hook's name is copied only if it changes.
 fn emptied(alloc: Global, call: &mut Call, hook: &str) -> Result<Vec<Text>, AllocError>
     ensures call { OnOk result (call.new ≡ hook_call hook.now []) }
     ensures room { IfOk result (λ room. room.items ≡ []) }
@@ -146,7 +155,8 @@ fn takes_value_alone(kind: PassKind, accepted: u8) -> bool
     }
 }
 
-/// Returns whether a call is that of a hook's callback with one argument, whatever it has of answers.
+/// Returns whether a call is that of a hook's callback with one argument, whatever it has of
+/// answers.
 fn has_one_argument(call: &Call, hook: &str) -> bool
     ensures { IsTrue result → (record call.now { answers = [] } ≡ hook_call hook.now call.now.args)
         × (length call.now.args ≡ 1) }
@@ -155,8 +165,9 @@ fn has_one_argument(call: &Call, hook: &str) -> bool
     is_one && call.hook.as_str() == hook && is_bare(call)
 }
 
-/// Turns a call into that of a hook's callback, with the first arguments that it accepts. A filter needs its value no
-/// more until the callback has answered, so the value itself moves into the call.
+/// Turns a call into that of a hook's callback, with the first arguments that it accepts. A filter
+/// needs its value no more until the callback has answered, so the value itself moves into the
+/// call.
 pub fn fill(
     alloc: Global,
     call: &mut Call,
@@ -166,7 +177,8 @@ pub fn fill(
     args: &[Text],
     accepted: u8,
 ) -> Result<(), AllocError>
-    ensures call { OnOk result (call.new ≡ hook_call hook.now (take accepted (arguments kind value.old args.now))) }
+    ensures call { OnOk result
+        (call.new ≡ hook_call hook.now (take accepted (arguments kind value.old args.now))) }
     ensures kept { OnOk result ((answer : List ℕ)
         → value_after kind value.new answer ≡ value_after kind value.old answer) }
 {
@@ -192,7 +204,8 @@ pub fn fill(
     }
 }
 
-/// Returns whether a call has nothing of what only the call of a hook's callback has, and no answers.
+/// Returns whether a call has nothing of what only the call of a hook's callback has, and no
+/// answers.
 fn is_hookless(call: &Call) -> bool
     ensures { IsTrue result → call.now ≡ record call.now { hook = []; args = []; answers = [] } }
 {
@@ -200,8 +213,8 @@ fn is_hookless(call: &Call) -> bool
     args && call.hook.as_str().is_empty() && call.answers.as_slice().is_empty()
 }
 
-/// Clears what only the call of a hook's callback has, and the answers. Where shortcodes follow one another, there is
-/// none of it.
+/// Clears what only the call of a hook's callback has, and the answers. Where shortcodes follow one
+/// another, there is none of it.
 fn strip_hook(alloc: Global, call: &mut Call)
     ensures { call.new ≡ record call.old { hook = []; args = []; answers = [] } }
 {
@@ -224,8 +237,8 @@ fn set_attributes(alloc: Global, atts: &mut Atts, text: &str) -> Result<(), Allo
     Ok(())
 }
 
-/// Turns a call into that of a shortcode's handler, given the text of its attributes. Its texts are written in the
-/// memory of those before.
+/// Turns a call into that of a shortcode's handler, given the text of its attributes. Its texts are
+/// written in the memory of those before.
 pub fn fill_handler(
     alloc: Global,
     call: &mut Call,
@@ -242,7 +255,8 @@ pub fn fill_handler(
     Ok(())
 }
 
-/// Returns the reply of a callback; a number that no plugin has answers empty text and does nothing else.
+/// Returns the reply of a callback; a number that no plugin has answers empty text and does nothing
+/// else.
 #[inline]
 pub fn reply_of<S: Stated>(
     plugins: &Plugins<S>,
@@ -250,7 +264,9 @@ pub fn reply_of<S: Stated>(
     callback: CallbackId,
     call: &Call,
 ) -> Result<Reply, AllocError>
-    ensures { IfOk result (λ reply. reply ≡ said (engine_over S.says S.number plugins.now) callback call.now) }
+    ensures { IfOk result (λ reply. reply ≡ reply_to_call (engine_over S.says S.number plugins.now)
+        callback
+        call.now) }
 {
     match plugins.callback(callback) {
         Some(stored) => stored.answer(alloc, call),
@@ -278,7 +294,10 @@ pub fn take_first_argument(alloc: Global, call: &mut Call) -> Text
 
 /// Appends an answer to those in a call.
 pub fn add_answer(call: &mut Call, answer: Answer) -> Result<(), AllocError>
-    ensures { OnOk result (call.new ≡ record call.old { answers = call.old.answers ++ answer ∷ [] }) }
+    ensures { OnOk result (call.new ≡ record call.old {
+      answers = call.old.answers ++ answer
+          ∷ [];
+    }) }
 {
     call.answers.push(answer)?;
     Ok(())

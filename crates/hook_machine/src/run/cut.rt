@@ -3,17 +3,16 @@ ghost use Rattle.std.specs.Prelude.{◌≡◌, ◌∷◌, [], MatchOption, IfSom
 ghost use Rattle.std.specs.List.{AllByRecursion};
 ghost use Rattle.shortcode_scan.specs.Spans.{HasSpansOf};
 
-use content_cache::SharedPieces;
-use hook_changes::Text;
+use hook_changes::{SharedList, Text};
 use shortcode_scan::Piece;
 use std::marker::Model;
 
-/// A text and the pieces left of it, each of which lies in the text. The pieces are shared with the cache, so a count
-/// says how many of them are taken.
+/// A text and the pieces left of it, each of which lies in the text. The pieces are shared with the
+/// cache, so a count says how many of them are taken.
 #[derive(Drop)]
 pub struct Cut {
     text: Text,
-    pieces: SharedPieces,
+    pieces: SharedList<Piece>,
     taken: usize,
 }
 
@@ -31,7 +30,7 @@ impl Model for Cut {
 }
 
 impl Cut {
-    pub fn new(text: Text, pieces: SharedPieces) -> Self
+    pub fn new(text: Text, pieces: SharedList<Piece>) -> Self
         requires { AllByRecursion (HasSpansOf text) pieces }
         ensures { result ≡ record { text = text; pieces = pieces } }
     {

@@ -1,5 +1,5 @@
-//! The frames of a run: a pass over a hook, an invocation, a text. What a pass and an invocation have is on the heap,
-//! so that moving one moves a pointer.
+//! The frames of a run: a pass over a hook, an invocation, a text. What a pass and an invocation
+//! have is on the heap, so that moving one moves a pointer.
 ghost use Rattle.std.specs.Prelude.{◌≡◌, ◌++◌, ◌∷◌, [], IfOk, OnOk, take};
 ghost use Rattle.std.specs.Prelude.{List, ℕ};
 ghost use Rattle.shortcode_atts.specs.Attributes.{attributes};
@@ -72,7 +72,8 @@ impl HookPass {
 
     /// Takes the next entry of the pass, if there is one (class WP_Hook).
     pub fn next(&mut self, state: &State) -> Result<Option<Entry>, AllocError>
-        ensures entry { IfOk result (λ found. found ≡ (next_entry state.now.table self.old.position).0) }
+        ensures entry { IfOk result (λ found. found
+            ≡ (next_entry state.now.table self.old.position).0) }
         ensures moved { OnOk result (self.new ≡ record self.old {
           position = (next_entry state.now.table self.old.position).1;
         }) }
@@ -92,7 +93,8 @@ impl HookPass {
             (take entry.accepted (arguments self.old.kind self.old.value self.old.args))) }
         ensures pass { OnOk result (self.new ≡ record self.old { value = self.new.value }) }
         ensures kept { OnOk result ((answer : List ℕ)
-            → value_after self.old.kind self.new.value answer ≡ value_after self.old.kind self.old.value answer) }
+            → value_after self.old.kind self.new.value answer
+            ≡ value_after self.old.kind self.old.value answer) }
     {
         let parts: &mut PassParts = &mut self.parts;
         let hook = parts.position.hook.as_str();
@@ -108,8 +110,8 @@ impl HookPass {
         mem::replace(&mut self.parts.value, Text::empty(alloc))
     }
 
-    /// Hands a pass the answer of its nth callback. From time to time the value is made one that copies share: most
-    /// callbacks of a long pass answer the value as it came.
+    /// Hands a pass the answer of its nth callback. From time to time the value is made one that
+    /// copies share: most callbacks of a long pass answer the value as it came.
     pub fn hand_in_turn(&mut self, answer: Text, nth: u32) -> Result<(), AllocError>
         ensures { OnOk result (self.new ≡ record self.old {
           value = value_after self.old.kind self.old.value answer;
@@ -125,7 +127,10 @@ impl HookPass {
     /// Hands the pass a callback's answer: the next value of a filter; an action drops it.
     #[inline]
     pub fn hand(&mut self, answer: Text)
-        ensures { self.new ≡ record self.old { value = value_after self.old.kind self.old.value answer } }
+        ensures { self.new ≡ record self.old {
+          value = value_after self.old.kind self.old.value
+              answer;
+        } }
     {
         match self.parts.kind {
             PassKind::Filter => self.parts.value = answer,
@@ -173,7 +178,8 @@ impl Model for Invoked {
 
 impl Invoked {
     pub fn new(alloc: Global, callback: CallbackId, call: Call) -> Result<Self, AllocError>
-        ensures { IfOk result (λ invoked. invoked ≡ record { callback = callback; call = call; pending = Core }) }
+        ensures { IfOk result (λ invoked. invoked
+            ≡ record { callback = callback; call = call; pending = Core }) }
     {
         let parts = Box::new(
             alloc,
@@ -229,8 +235,8 @@ impl Invoked {
         take_first_argument(alloc, &mut self.parts.call)
     }
 
-    /// Makes this the invocation of a shortcode's handler, given the text of its attributes. Its call reuses the texts
-    /// of the call before.
+    /// Makes this the invocation of a shortcode's handler, given the text of its attributes. Its
+    /// call reuses the texts of the call before.
     pub fn set_handler_call(
         &mut self,
         alloc: Global,
@@ -240,14 +246,16 @@ impl Invoked {
         content: &str,
     ) -> Result<(), AllocError>
         ensures callback { OnOk result (self.new.callback ≡ handler) }
-        ensures call { OnOk result (self.new.call ≡ shortcode_call tag.now (attributes atts.now) content.now) }
+        ensures call { OnOk result (self.new.call
+            ≡ shortcode_call tag.now (attributes atts.now) content.now) }
     {
         self.parts.callback = handler;
         fill_handler(alloc, &mut self.parts.call, tag, atts, content)
     }
 
-    /// Makes this the invocation of a hook's callback. Its call reuses the texts of the call before. A filter needs its
-    /// value no more until the callback has answered, so the value itself moves into the call; an action keeps it.
+    /// Makes this the invocation of a hook's callback. Its call reuses the texts of the call
+    /// before. A filter needs its value no more until the callback has answered, so the value
+    /// itself moves into the call; an action keeps it.
     #[inline]
     pub fn set_hook_call(
         &mut self,
@@ -293,14 +301,16 @@ pub type Stack = Left<Frame>;
 pub enum Pace {
     /// It does: the frames have what is left of it.
     ByTurns,
-    /// It doesn't. A pass goes on with a callback's answer at once, and frames are made only for what has to wait.
+    /// It doesn't. A pass goes on with a callback's answer at once, and frames are made only for
+    /// what has to wait.
     Through,
 }
 
 /// What an invocation came to, once its callback has replied.
 #[derive(Drop)]
 pub enum Went {
-    /// The callback has answered, in a run that doesn't stop. The invocation is there for the next one to reuse.
+    /// The callback has answered, in a run that doesn't stop. The invocation is there for the next
+    /// one to reuse.
     Answered(Invoked, Text),
     /// The invocation has its pending step still to do.
     Waits(Invoked),

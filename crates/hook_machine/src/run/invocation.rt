@@ -1,7 +1,8 @@
 //! The invocation that a stopped run's last turn made.
 ghost use Rattle.std.specs.Prelude.{◌≡◌, IfOk, IfSome, option_map, slice_get};
 ghost use Rattle.std.specs.Option.{option_copied};
-ghost use Rattle.hook_machine.specs.Invocations.{made_as, last_made, reached_by, invoked_in, reply_made, GoesOnWith};
+ghost use Rattle.hook_machine.specs.Invocations.{made_as, last_made, reached_by, invoked_in};
+ghost use Rattle.hook_machine.specs.Invocations.{reply_made, GoesOnWith};
 ghost use Rattle.hook_machine.specs.Meaning.{Engine};
 ghost use Rattle.hook_machine.specs.Outcomes.{engine_over};
 ghost use Rattle.hook_machine.specs.Runs.{paused_world};
@@ -26,8 +27,8 @@ pub struct Invocation<'r> {
 }
 
 impl<'r> Invocation<'r> {
-    /// Returns what the callback replied, for which it is called again: to the same call it gives the same reply.
-    /// Core's callback 0 has no reply.
+    /// Returns what the callback replied, for which it is called again: to the same call it gives
+    /// the same reply. Core's callback 0 has no reply.
     pub fn reply<S: Stated>(
         &self,
         plugins: &Plugins<S>,
@@ -64,8 +65,8 @@ fn innermost(stack: &Stack) -> Option<&Invoked>
 }
 
 impl PausedRun {
-    /// Returns the invocation that the last turn made. There is none before the first turn of a job, and none after its
-    /// last.
+    /// Returns the invocation that the last turn made. There is none before the first turn of a
+    /// job, and none after its last.
     pub fn invocation(&self) -> Option<Invocation<'_>>
         ensures made { option_map made_as result ≡ last_made self.entry.now }
         ensures left { (engine : Engine) → IfSome result (λ i.

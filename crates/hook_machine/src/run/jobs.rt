@@ -1,10 +1,12 @@
-//! Jobs of a run, from their begin to their end: the innermost frame goes on, and its result is handed from frame to
-//! frame, until a callback was invoked at which the run stops, or nothing is left.
+//! Jobs of a run, from their begin to their end: the innermost frame goes on, and its result is
+//! handed from frame to frame, until a callback was invoked at which the run stops, or nothing is
+//! left.
 ghost use Rattle.std.specs.Prelude.{◌≡◌, ◌∷◌, [], OnOk};
 ghost use Rattle.hook_machine.specs.Outcomes.{RunsAs, engine_over};
 ghost use Rattle.hook_machine.specs.Rest.{rest, rest_with};
 ghost use Rattle.hook_machine.specs.Jobs.{job_left, left_from};
-ghost use Rattle.hook_machine.specs.Moves.{Does, Moves, AddsWeight, room_of, still_left, TurnsBy, IsOver};
+ghost use Rattle.hook_machine.specs.Moves.{Does, Moves, AddsWeight, room_of, still_left, TurnsBy};
+ghost use Rattle.hook_machine.specs.Moves.{IsOver};
 
 use crate::fault::RunFault;
 use crate::run::asks::{invocation_turn, waiting_turn};
@@ -55,7 +57,8 @@ fn frame_turn<S: Stated>(
     pace: Pace,
 ) -> Result<Move, RunFault>
     ensures moves { Moves pace (engine_over S.says S.number plugins.now)
-        (rest (engine_over S.says S.number plugins.now) state.old (frame ∷ stack.old)) result state.new stack.new }
+        (rest (engine_over S.says S.number plugins.now) state.old (frame ∷ stack.old)) result
+        state.new stack.new }
     ensures weight { AddsWeight 1 result stack.old stack.new }
     ensures cache { cache.new ≡ cache.old }
 {
@@ -76,7 +79,8 @@ fn result_turn<S: Stated>(
     pace: Pace,
 ) -> Result<Move, RunFault>
     ensures moves { Moves pace (engine_over S.says S.number plugins.now)
-        (rest_with (engine_over S.says S.number plugins.now) state.old (frame ∷ stack.old) text) result state.new
+        (rest_with (engine_over S.says S.number plugins.now) state.old (frame ∷ stack.old) text)
+        result state.new
         stack.new }
     ensures weight { AddsWeight (room_of frame) result stack.old stack.new }
 {
@@ -99,7 +103,8 @@ fn hand_on<S: Stated>(
     moved: Move,
     pace: Pace,
 ) -> Result<Turn, RunFault>
-    ensures turns { TurnsBy pace (still_left (engine_over S.says S.number plugins.now) moved state.old stack.old) result
+    ensures turns { TurnsBy pace
+        (still_left (engine_over S.says S.number plugins.now) moved state.old stack.old) result
         state.new (rest (engine_over S.says S.number plugins.now) state.new stack.new) }
     ensures over { IsOver result stack.new }
 {
@@ -147,7 +152,8 @@ fn move_on<S: Stated>(
     pace: Pace,
 ) -> Result<Move, RunFault>
     ensures moves { Moves pace (engine_over S.says S.number plugins.now)
-        (left_from (engine_over S.says S.number plugins.now) state.old job stack.old) result state.new stack.new }
+        (left_from (engine_over S.says S.number plugins.now) state.old job stack.old) result
+        state.new stack.new }
     ensures cache { cache.new ≡ cache.old }
 {
     if let Some(job) = job {
@@ -168,7 +174,8 @@ pub fn next_turn<S: Stated>(
     cache: &mut PieceCache,
     pace: Pace,
 ) -> Result<Turn, RunFault>
-    ensures turns { TurnsBy pace (left_from (engine_over S.says S.number plugins.now) state.old job stack.old) result
+    ensures turns { TurnsBy pace
+        (left_from (engine_over S.says S.number plugins.now) state.old job stack.old) result
         state.new (rest (engine_over S.says S.number plugins.now) state.new stack.new) }
     ensures over { IsOver result stack.new }
     ensures cache { cache.new ≡ cache.old }
@@ -186,7 +193,8 @@ pub fn all_turns<S: Stated>(
     cache: &mut PieceCache,
 ) -> Result<Text, RunFault>
     ensures ends { RunsAs
-        (left_from (engine_over S.says S.number plugins.now) state.old job stack.old) result state.new }
+        (left_from (engine_over S.says S.number plugins.now) state.old job stack.old) result
+        state.new }
     ensures over { OnOk result (stack.new ≡ []) }
     ensures cache { cache.new ≡ cache.old }
 {
@@ -208,7 +216,8 @@ pub fn run_job<S: Stated>(
     cache: &mut PieceCache,
 ) -> Result<Text, RunFault>
     requires { stack.old ≡ [] }
-    ensures ends { RunsAs (job_left (engine_over S.says S.number plugins.now) state.old job) result state.new }
+    ensures ends { RunsAs (job_left (engine_over S.says S.number plugins.now) state.old job) result
+        state.new }
     ensures over { OnOk result (stack.new ≡ []) }
     ensures cache { cache.new ≡ cache.old }
 {

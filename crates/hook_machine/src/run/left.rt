@@ -1,11 +1,13 @@
 //! A list whose items are taken from its front.
-ghost use Rattle.std.specs.Prelude.{◌≡◌, ◌∷◌, List, [], reverse, OnOk, OnErr, MatchOption, length, slice_get};
+ghost use Rattle.std.specs.Prelude.{◌≡◌, ◌∷◌, List, [], reverse, OnOk, OnErr, MatchOption, length};
+ghost use Rattle.std.specs.Prelude.{slice_get};
 ghost use Rattle.std.specs.Option.{option_copied};
 
 use std::alloc::{AllocError, Global};
 use std::marker::Model;
 
-/// Items in order, of which the first is taken and put back without moving the others. Contracts see a list.
+/// Items in order, of which the first is taken and put back without moving the others. Contracts
+/// see a list.
 #[derive(Drop)]
 pub struct Left<T> {
     turned: Vec<T>,
@@ -40,7 +42,8 @@ impl<T> Left<T> {
 
     /// Takes the first item.
     pub fn take_first(&mut self) -> Option<T>
-        ensures { MatchOption result ((self.old ≡ []) × (self.new ≡ [])) (λ item. self.old ≡ item ∷ self.new) }
+        ensures { MatchOption result ((self.old ≡ []) × (self.new ≡ [])) (λ item. self.old ≡ item
+            ∷ self.new) }
     {
         self.turned.pop()
     }

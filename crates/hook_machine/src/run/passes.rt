@@ -1,9 +1,11 @@
-//! Passes over hooks as frames of a run: a pass begins, invokes its next callback, and leaves its hook at its end.
+//! Passes over hooks as frames of a run: a pass begins, invokes its next callback, and leaves its
+//! hook at its end.
 //!
-//! Each function here goes on with the innermost frame. It ends with `Move::Turned` right after an invocation at which
-//! the run stops, or with `Move::Handed` and a result for the frame below; `jobs` calls it, and hands that result on.
-//! After an `Err` the state may have part of a reply's changes: `Run` returns that fault from then on, and never goes on.
-//! By the clauses `weight` a result can be handed on only so many times, which is why `jobs` comes to an end.
+//! Each function here goes on with the innermost frame. It ends with `Move::Turned` right after an
+//! invocation at which the run stops, or with `Move::Handed` and a result for the frame below;
+//! `jobs` calls it, and hands that result on. After an `Err` the state may have part of a reply's
+//! changes: `Run` returns that fault from then on, and never goes on. By the clauses `weight` a
+//! result can be handed on only so many times, which is why `jobs` comes to an end.
 ghost use Rattle.std.specs.Prelude.{◌≡◌, ◌<◌, ℕ, List, IfOk, IfErr, IsTrue, OnOk, take};
 ghost use Rattle.hook_machine.specs.declared.run.frames.Pace.TheVariants.{Through};
 ghost use Rattle.hook_machine.specs.World.{World};
@@ -24,15 +26,16 @@ use hook_changes::{HookName, Listed, Text, Then};
 use hook_registry::Entry;
 use std::alloc::AllocError;
 
-/// Calls the callback, carries the echo and the changes of its reply out, and returns what its invocation is to do
-/// next. Core's own callback has no reply.
+/// Calls the callback, carries the echo and the changes of its reply out, and returns what its
+/// invocation is to do next. Core's own callback has no reply.
 fn call_and_apply<S: Stated>(
     plugins: &Plugins<S>,
     state: &mut State,
     invoked: &Invoked,
 ) -> Result<Pending, RunFault>
     ensures ok { IfOk result (λ pending. (state.new, pending)
-        ≡ after_call (engine_over S.says S.number plugins.now) state.old invoked.now.callback invoked.now.call) }
+        ≡ after_call (engine_over S.says S.number plugins.now) state.old invoked.now.callback
+        invoked.now.call) }
     ensures err { IfErr result (λ fault. fault ≡ RunFault.OutOfMemory) }
     ensures calls { state.new.calls ≡ state.old.calls }
 {
@@ -48,7 +51,8 @@ fn call_and_apply<S: Stated>(
 /// Returns what an invocation came to whose next step is this.
 fn went(invoked: Invoked, pending: Pending, pace: Pace) -> Went
     ensures left { (engine : Engine) (world : World)
-        → pending_left engine world invoked.callback invoked.call pending ≡ went_left engine world result }
+        → pending_left engine world invoked.callback invoked.call pending
+        ≡ went_left engine world result }
     ensures may { MayAnswer pace result }
 {
     let mut invoked = invoked;
@@ -71,7 +75,8 @@ pub fn invoke<S: Stated>(
     pace: Pace,
 ) -> Result<Went, RunFault>
     ensures invokes { Invokes (engine_over S.says S.number plugins.now)
-        (invoke (engine_over S.says S.number plugins.now) state.old invoked.callback invoked.call) result state.new }
+        (invoke (engine_over S.says S.number plugins.now) state.old invoked.callback invoked.call)
+        result state.new }
     ensures may { IfOk result (MayAnswer pace) }
     ensures calls { OnOk result (state.new.calls < state.old.calls) }
 {
@@ -89,7 +94,8 @@ pub fn invoke_turn<S: Stated>(
     pace: Pace,
 ) -> Result<Move, RunFault>
     ensures moves { Does pace (engine_over S.says S.number plugins.now)
-        (λ engine. invoke engine state.old invoked.callback invoked.call) stack.old result state.new stack.new }
+        (λ engine. invoke engine state.old invoked.callback invoked.call) stack.old result state.new
+        stack.new }
     ensures weight { AddsWeight 0 result stack.old stack.new }
 {
     let went = invoke(plugins, state, invoked, pace)?;
@@ -116,7 +122,8 @@ fn next_invocation(
         (take entry.accepted (arguments pass.old.kind pass.old.value pass.old.args))) }
     ensures pass { OnOk result (pass.new ≡ record pass.old { value = pass.new.value }) }
     ensures kept { OnOk result ((answer : List ℕ)
-        → value_after pass.old.kind pass.new.value answer ≡ value_after pass.old.kind pass.old.value answer) }
+        → value_after pass.old.kind pass.new.value answer
+        ≡ value_after pass.old.kind pass.old.value answer) }
     ensures state { state.new ≡ state.old }
 {
     let mut invoked = state.spare()?;
@@ -124,8 +131,8 @@ fn next_invocation(
     Ok(invoked)
 }
 
-/// Goes on with a pass: its next entry is invoked, or it leaves its hook. A run that doesn't stop goes on with each
-/// callback's answer, up to the first callback that asks for something.
+/// Goes on with a pass: its next entry is invoked, or it leaves its hook. A run that doesn't stop
+/// goes on with each callback's answer, up to the first callback that asks for something.
 pub fn pass_turn<S: Stated>(
     plugins: &Plugins<S>,
     state: &mut State,
@@ -179,7 +186,8 @@ pub fn begin_pass<S: Stated>(
     pace: Pace,
 ) -> Result<Move, RunFault>
     ensures moves { Does pace (engine_over S.says S.number plugins.now)
-        (λ engine. pass (invoke engine) kind state.old hook value args) stack.old result state.new stack.new }
+        (λ engine. pass (invoke engine) kind state.old hook value args) stack.old result state.new
+        stack.new }
     ensures weight { AddsWeight 0 result stack.old stack.new }
 {
     state.enter(&hook)?;
@@ -193,10 +201,12 @@ pub fn begin_pass<S: Stated>(
     pass_turn(plugins, state, stack, pass, pace)
 }
 
-/// Returns whether a run that doesn't stop may pass over a filter, since that leaves the value as it is.
+/// Returns whether a run that doesn't stop may pass over a filter, since that leaves the value as
+/// it is.
 pub fn may_pass_over(state: &State, hook: &str, value: &str, pace: Pace) -> bool
     ensures { IsTrue result → (pace ≡ Through) × ((engine : Engine) (args : List (List ℕ))
-        → filter_pass (invoke engine) state.now hook.now value.now args ≡ left_by_core state.now hook.now value.now) }
+        → filter_pass (invoke engine) state.now hook.now value.now args
+        ≡ left_by_core state.now hook.now value.now) }
 {
     match pace {
         Pace::ByTurns => false,
@@ -215,7 +225,8 @@ pub fn begin_filter<S: Stated>(
     pace: Pace,
 ) -> Result<Move, RunFault>
     ensures moves { Does pace (engine_over S.says S.number plugins.now)
-        (λ engine. filter_pass (invoke engine) state.old hook value args) stack.old result state.new stack.new }
+        (λ engine. filter_pass (invoke engine) state.old hook value args) stack.old result state.new
+        stack.new }
     ensures weight { AddsWeight 0 result stack.old stack.new }
 {
     if !state.is_hooked(hook.as_str()) {
@@ -230,7 +241,8 @@ pub fn begin_filter<S: Stated>(
     }
 }
 
-/// Begins an action pass. If nothing is registered on the hook, the action is counted and no pass is made.
+/// Begins an action pass. If nothing is registered on the hook, the action is counted and no pass
+/// is made.
 pub fn begin_action<S: Stated>(
     plugins: &Plugins<S>,
     state: &mut State,
@@ -240,7 +252,8 @@ pub fn begin_action<S: Stated>(
     pace: Pace,
 ) -> Result<Move, RunFault>
     ensures moves { Does pace (engine_over S.says S.number plugins.now)
-        (λ engine. action_pass (invoke engine) state.old hook args) stack.old result state.new stack.new }
+        (λ engine. action_pass (invoke engine) state.old hook args) stack.old result state.new
+        stack.new }
     ensures weight { AddsWeight 0 result stack.old stack.new }
 {
     match HookName::of(hook) {

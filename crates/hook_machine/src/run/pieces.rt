@@ -1,6 +1,7 @@
-//! What is to be done for a piece of a text: a stretch stays as it is, and a match with a handler is handled.
+//! What is to be done for a piece of a text: a stretch stays as it is, and a match with a handler
+//! is handled.
 ghost use Rattle.std.specs.Prelude.{◌≡◌, ◌<◌, ◌&&◌, IfOk};
-ghost use Rattle.shortcode_scan.specs.Spans.{HasSpansOf, IsSpanOf, unescaped};
+ghost use Rattle.shortcode_scan.specs.Spans.{HasSpansOf, IsSpanOf, inner_span};
 ghost use Rattle.hook_machine.specs.Meaning.{Invocation, handler_call, piece_pass};
 ghost use Rattle.hook_machine.specs.declared.run.pieces.Work.TheVariants.{Shown};
 ghost use Rattle.hook_machine.specs.Works.{work_pass, LiesIn};
@@ -62,7 +63,7 @@ fn is_escaped(opening_extra: bool, closing_extra: bool) -> bool
 /// Returns the span of a match without its first and last byte.
 fn without_brackets(whole: Span) -> Span
     requires { whole.start < whole.end }
-    ensures { result ≡ unescaped whole }
+    ensures { result ≡ inner_span whole }
 {
     Span {
         start: whole.start + 1,
@@ -74,7 +75,8 @@ fn without_brackets(whole: Span) -> Span
 pub fn work_of_piece(state: &mut State, text: &str, piece: &Piece) -> Result<Work, AllocError>
     requires { HasSpansOf text.now piece.now }
     ensures work { IfOk result (λ work. (invocation : Invocation) →
-        piece_pass invocation text.now state.old piece.now ≡ work_pass invocation text.now state.old work) }
+        piece_pass invocation text.now state.old piece.now
+        ≡ work_pass invocation text.now state.old work) }
     ensures state { state.new ≡ state.old }
     ensures span { IfOk result (λ work. LiesIn text.now work) }
 {

@@ -1,4 +1,5 @@
-//! Texts as frames of a run: each shortcode's handler is invoked, and what it answers replaces the shortcode.
+//! Texts as frames of a run: each shortcode's handler is invoked, and what it answers replaces the
+//! shortcode.
 //!
 //! `passes` says what the functions of all frames have in common.
 ghost use Rattle.std.specs.Prelude.{◌≡◌, ◌++◌, ◌∷◌, [], None, Some, IsTrue, IsFalse};
@@ -13,7 +14,7 @@ ghost use Rattle.hook_machine.specs.Trace.{Done};
 ghost use Rattle.hook_machine.specs.Meaning.{Invocation, invoke, text_at, shortcode_filter};
 ghost use Rattle.hook_machine.specs.Meaning.{pieces_pass, shortcodes_pass};
 ghost use Rattle.hook_machine.specs.Outcomes.{engine_over};
-ghost use Rattle.hook_machine.specs.Works.{bracketed};
+ghost use Rattle.hook_machine.specs.Works.{between_brackets};
 ghost use Rattle.hook_machine.specs.Rest.{text_left, text_handed, in_place};
 ghost use Rattle.hook_machine.specs.Handling.{handling_pass};
 ghost use Rattle.hook_machine.specs.Moves.{Does, AddsWeight, room_of_match};
@@ -32,12 +33,14 @@ use std::alloc::{AllocError, Global};
 use std::marker::Model;
 use std::mem;
 
-/// What a shortcode pass has: the pieces left of its text, and the text that the others have become.
+/// What a shortcode pass has: the pieces left of its text, and the text that the others have
+/// become.
 #[derive(Drop)]
 struct TextParts {
     cut: Cut,
     so_far: Text,
-    /// The match whose handler was invoked; `None` once that has answered, also while its answer is filtered.
+    /// The match whose handler was invoked; `None` once that has answered, also while its answer is
+    /// filtered.
     hand: Option<Matched>,
 }
 
@@ -60,11 +63,13 @@ impl Model for TextPass {
       hand = p.parts.value.hand;
     } };
 
-    ghost invariant = { λ p. IfSome p.parts.value.hand (λ matched. IsSpanOf p.parts.value.cut.text matched.name) };
+    ghost invariant = { λ p. IfSome p.parts.value.hand
+        (λ matched. IsSpanOf p.parts.value.cut.text matched.name) };
 }
 
 impl TextPass {
-    ghost use Rattle.std.specs.Prelude.{◌≡◌, ◌++◌, [], None, Some, IsTrue, IsFalse, IfOk, IfSome, OnOk, MatchOption};
+    ghost use Rattle.std.specs.Prelude.{◌≡◌, ◌++◌, [], None, Some, IsTrue, IsFalse, IfOk, IfSome};
+    ghost use Rattle.std.specs.Prelude.{OnOk, MatchOption};
     ghost use Rattle.shortcode_scan.specs.Spans.{IsSpanOf};
     ghost use Rattle.hook_machine.specs.Meaning.{Invocation, pieces_pass};
     ghost use Rattle.hook_machine.specs.Handling.{handling_pass};
@@ -103,7 +108,8 @@ impl TextPass {
         self.parts.hand = None;
     }
 
-    /// Takes the text that the pieces so far have become, and leaves empty text in its place. Does not allocate.
+    /// Takes the text that the pieces so far have become, and leaves empty text in its place. Does
+    /// not allocate.
     fn take_text(&mut self, alloc: Global) -> Text
         ensures { result ≡ self.old.so_far }
     {
@@ -120,11 +126,13 @@ impl TextPass {
         append(&mut self.parts.so_far, hand, text)
     }
 
-    /// Takes pieces up to the first one that has a handler, whose match is then in hand, and appends those before it.
+    /// Takes pieces up to the first one that has a handler, whose match is then in hand, and
+    /// appends those before it.
     fn next_handling(&mut self, state: &mut State) -> Result<Option<Handling>, AllocError>
         ensures same { self.new.cut.text ≡ self.old.cut.text }
         ensures found { IfOk result (λ found. (invocation : Invocation) →
-            pieces_pass invocation self.old.cut.text state.old self.old.so_far self.old.cut.pieces ≡ handling_pass
+            pieces_pass invocation self.old.cut.text state.old self.old.so_far self.old.cut.pieces
+            ≡ handling_pass
             invocation self.old.cut.text state.old found self.new.so_far self.new.cut.pieces) }
         ensures state { state.new ≡ state.old }
         ensures hand { IfOk result (λ found. IfSome found (λ h. self.new.hand ≡ Some h.matched)) }
@@ -145,15 +153,18 @@ pub struct Handling {
     pub matched: Matched,
 }
 
-/// Takes pieces up to the first one that has a handler, and appends those before it. If no piece has one, none is left.
+/// Takes pieces up to the first one that has a handler, and appends those before it. If no piece
+/// has one, none is left.
 fn next_handling(state: &mut State, parts: &mut TextParts) -> Result<Option<Handling>, AllocError>
     ensures same { parts.new.cut.text ≡ parts.old.cut.text }
     ensures hand { parts.new.hand ≡ parts.old.hand }
     ensures found { IfOk result (λ found. (invocation : Invocation) →
-        pieces_pass invocation parts.old.cut.text state.old parts.old.so_far parts.old.cut.pieces ≡ handling_pass
+        pieces_pass invocation parts.old.cut.text state.old parts.old.so_far parts.old.cut.pieces
+        ≡ handling_pass
         invocation parts.old.cut.text state.old found parts.new.so_far parts.new.cut.pieces) }
     ensures state { state.new ≡ state.old }
-    ensures span { IfOk result (λ found. IfSome found (λ h. IsSpanOf parts.old.cut.text h.matched.name)) }
+    ensures span { IfOk result
+        (λ found. IfSome found (λ h. IsSpanOf parts.old.cut.text h.matched.name)) }
 {
     while let Some(piece) = parts.cut.take_first() {
         let whole = parts.cut.text();
@@ -168,8 +179,9 @@ fn next_handling(state: &mut State, parts: &mut TextParts) -> Result<Option<Hand
     Ok(None)
 }
 
-/// Goes on with a shortcode pass: the next handler is invoked, or the text is whole. A run that doesn't stop goes on
-/// with each handler's answer, up to the first one that asks for something or whose answer goes through a filter.
+/// Goes on with a shortcode pass: the next handler is invoked, or the text is whole. A run that
+/// doesn't stop goes on with each handler's answer, up to the first one that asks for something or
+/// whose answer goes through a filter.
 pub fn text_turn<S: Stated>(
     plugins: &Plugins<S>,
     state: &mut State,
@@ -213,8 +225,8 @@ fn wait_for_handler(stack: &mut Stack, pass: TextPass, invoked: Invoked) -> Resu
     Ok(Move::Turned)
 }
 
-/// Puts the invocation of a handler that has answered on the stack, and the pass, since the answer goes through a
-/// filter first.
+/// Puts the invocation of a handler that has answered on the stack, and the pass, since the answer
+/// goes through a filter first.
 fn filter_later(
     stack: &mut Stack,
     pass: TextPass,
@@ -222,7 +234,8 @@ fn filter_later(
     answer: Text,
 ) -> Result<Move, RunFault>
     ensures ok { IfOk result (λ move. (move ≡ Turned) × (stack.new
-        ≡ Frame.Invocation (record invoked { pending = Next (Answer answer) }) ∷ Frame.Shortcodes pass ∷ stack.old)) }
+        ≡ Frame.Invocation (record invoked { pending = Next (Answer answer) })
+        ∷ Frame.Shortcodes pass ∷ stack.old)) }
     ensures err { IfErr result (λ fault. fault ≡ RunFault.OutOfMemory) }
 {
     let mut invoked = invoked;
@@ -230,8 +243,8 @@ fn filter_later(
     wait_for_handler(stack, pass, invoked)
 }
 
-/// Appends what replaces a match: a handler's answer between the extra brackets, or the text as it is if there is no
-/// match.
+/// Appends what replaces a match: a handler's answer between the extra brackets, or the text as it
+/// is if there is no match.
 fn append(so_far: &mut Text, hand: Option<Matched>, text: &str) -> Result<(), AllocError>
     ensures { OnOk result (so_far.new ≡ so_far.old ++ in_place hand text.now) }
 {
@@ -248,9 +261,10 @@ fn append(so_far: &mut Text, hand: Option<Matched>, text: &str) -> Result<(), Al
     Ok(())
 }
 
-/// Puts a handler's answer between its match's extra brackets. If there are none, it is moved and not copied.
+/// Puts a handler's answer between its match's extra brackets. If there are none, it is moved and
+/// not copied.
 fn between_brackets(alloc: Global, matched: Matched, answer: Text) -> Result<Text, AllocError>
-    ensures { IfOk result (λ text. text ≡ bracketed matched answer) }
+    ensures { IfOk result (λ text. text ≡ between_brackets matched answer) }
 {
     if !matched.opening && !matched.closing {
         return Ok(answer);
@@ -270,9 +284,11 @@ fn tag_argument(alloc: Global, text: &str, name: Span) -> Result<Listed<Text>, A
     Ok(args)
 }
 
-/// Returns the match in hand, if anything is registered on the filter that its handler's answer goes through.
+/// Returns the match in hand, if anything is registered on the filter that its handler's answer
+/// goes through.
 fn to_filter(state: &State, pass: &TextPass) -> Option<Matched>
-    ensures { MatchOption result (IsSome pass.now.hand → IsFalse (has state.now.table shortcode_filter))
+    ensures { MatchOption result (IsSome pass.now.hand
+        → IsFalse (has state.now.table shortcode_filter))
         (λ matched. (pass.now.hand ≡ Some matched) × IsSpanOf pass.now.cut.text matched.name) }
 {
     if state.is_hooked(SHORTCODE_FILTER) {
@@ -294,7 +310,8 @@ fn filter_turn<S: Stated>(
 ) -> Result<Move, RunFault>
     requires { IsSpanOf pass.cut.text matched.name }
     ensures moves { Does pace (engine_over S.says S.number plugins.now)
-        (λ engine. text_handed engine state.old pass (Some matched) answer) stack.old result state.new stack.new }
+        (λ engine. text_handed engine state.old pass (Some matched) answer) stack.old result
+        state.new stack.new }
     ensures weight { AddsWeight 1 result stack.old stack.new }
 {
     let args = tag_argument(state.alloc(), pass.text(), matched.name)?;
@@ -306,8 +323,8 @@ fn filter_turn<S: Stated>(
     begin_filter(plugins, state, stack, hook, text, args, pace)
 }
 
-/// Hands a shortcode pass the answer of its match's handler, which goes through the filter first, or that filter's
-/// value. A filter on which nothing is registered isn't begun.
+/// Hands a shortcode pass the answer of its match's handler, which goes through the filter first,
+/// or that filter's value. A filter on which nothing is registered isn't begun.
 pub fn shown_turn<S: Stated>(
     plugins: &Plugins<S>,
     state: &mut State,
@@ -317,7 +334,8 @@ pub fn shown_turn<S: Stated>(
     pace: Pace,
 ) -> Result<Move, RunFault>
     ensures moves { Does pace (engine_over S.says S.number plugins.now)
-        (λ engine. text_handed engine state.old pass pass.hand text) stack.old result state.new stack.new }
+        (λ engine. text_handed engine state.old pass pass.hand text) stack.old result state.new
+        stack.new }
     ensures weight { AddsWeight (room_of_match pass.hand) result stack.old stack.new }
 {
     match to_filter(state, &pass) {
@@ -344,7 +362,8 @@ fn is_one_stretch(text: &str, pieces: &[Piece]) -> bool
     }
 }
 
-/// Begins a shortcode pass: its names and pieces are fixed here. A text without shortcodes is handed on and not copied.
+/// Begins a shortcode pass: its names and pieces are fixed here. A text without shortcodes is
+/// handed on and not copied.
 pub fn begin_text<S: Stated>(
     plugins: &Plugins<S>,
     state: &mut State,
@@ -354,7 +373,8 @@ pub fn begin_text<S: Stated>(
     pace: Pace,
 ) -> Result<Move, RunFault>
     ensures moves { Does pace (engine_over S.says S.number plugins.now)
-        (λ engine. shortcodes_pass (invoke engine) state.old text) stack.old result state.new stack.new }
+        (λ engine. shortcodes_pass (invoke engine) state.old text) stack.old result state.new
+        stack.new }
     ensures weight { AddsWeight 0 result stack.old stack.new }
     ensures cache { cache.new ≡ cache.old }
 {

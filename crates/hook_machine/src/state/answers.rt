@@ -4,7 +4,8 @@ ghost use Rattle.std.specs.List.{list_any};
 ghost use Rattle.hook_registry.specs.Named.{value_of};
 ghost use Rattle.hook_registry.specs.Table.{has, priority_of, times_fired};
 ghost use Rattle.hook_changes.specs.declared.reply.Answer.TheVariants as answer;
-ghost use Rattle.hook_machine.specs.Meaning.{last_or_empty, has_answer, number_or_false, text_or_false};
+ghost use Rattle.hook_machine.specs.Meaning.{last_or_empty, has_answer, number_or_false};
+ghost use Rattle.hook_machine.specs.Meaning.{text_or_false};
 
 use crate::state::State;
 use hook_changes::{Answer, CallbackId, Text};
@@ -42,8 +43,8 @@ impl State {
         self.tables.registry().has(hook)
     }
 
-    /// Returns whether a hook has any registration; for a callback its smallest priority there, or the flag `false` if
-    /// it has none.
+    /// Returns whether a hook has any registration; for a callback its smallest priority there, or
+    /// the flag `false` if it has none.
     pub fn has(&self, hook: &str, callback: Option<CallbackId>) -> Answer
         ensures { result ≡ has_answer self.now hook.now callback }
     {
@@ -71,7 +72,8 @@ impl State {
 
     /// Returns the value of the first option with a name, or the flag `false` if there is none.
     pub fn option(&self, name: &str) -> Result<Answer, AllocError>
-        ensures { IfOk result (λ found. found ≡ text_or_false (value_of self.now.options name.now)) }
+        ensures { IfOk result (λ found. found
+            ≡ text_or_false (value_of self.now.options name.now)) }
     {
         for option in self.options.as_slice() {
             if name == option.0.as_str() {

@@ -1,25 +1,17 @@
 //! Carrying changes out.
-ghost use Rattle.std.specs.Prelude.{◌≡◌, ◌++◌, true, IfOk, OnOk, MatchOption, IsTrue, IsFalse};
-ghost use Rattle.hook_changes.specs.Names.{is_hook_name, is_tag_name};
-ghost use Rattle.hook_changes.specs.declared.reply.Change.TheVariants.{Add, Remove, RemoveAll, AddTag};
+ghost use Rattle.std.specs.Prelude.{◌≡◌, ◌++◌, IfOk, OnOk, MatchOption, IsTrue, IsFalse};
+ghost use Rattle.hook_changes.specs.Names.{is_tag_name};
+ghost use Rattle.hook_changes.specs.declared.reply.Change.TheVariants.{AddTag};
 ghost use Rattle.callback_store.specs.Shape.{shapes_of};
-ghost use Rattle.hook_machine.specs.World.{changed, changed_all, loaded};
-ghost use Rattle.hook_machine.specs.Loads.{carried, all_carried, core_load};
+ghost use Rattle.hook_machine.specs.World.{world_after_change, world_after_changes, loaded};
+ghost use Rattle.hook_machine.specs.Loads.{registered_after, registered_after_all, core_load};
 
 use crate::state::State;
 use crate::state::load_list::{core_change, has_active, load_list};
 use crate::state::tables::Tables;
 use callback_store::{Plugins, Stated};
-use hook_changes::{CallbackId, Change, HookName, NameFault, Reply, TagName, Text};
+use hook_changes::{CallbackId, Change, NameFault, Reply, TagName, Text, is_hook_name};
 use std::alloc::{AllocError, Global};
-
-/// Reads a text as the name of a hook; `None` if it isn't one.
-fn hook_named(text: &Text) -> Result<Option<HookName>, AllocError>
-    ensures { IfOk result (λ name. MatchOption name (IsFalse (is_hook_name text.now))
-        (λ hook. IsTrue (is_hook_name text.now) × (hook ≡ text.now))) }
-{
-    Ok(HookName::of(text.clone()?))
-}
 
 /// Reads a text as the name of a tag; `None` if it isn't one.
 fn tag_named(alloc: Global, text: &str) -> Result<Option<TagName>, AllocError>
@@ -34,92 +26,57 @@ fn tag_named(alloc: Global, text: &str) -> Result<Option<TagName>, AllocError>
 }
 
 impl Tables {
-    fn add(
-        &mut self,
-        hook: &Text,
-        priority: i32,
-        callback: CallbackId,
-        accepted: u8,
-        is_active: bool,
-    ) -> Result<(), AllocError>
-        ensures { OnOk result (self.new ≡ carried self.old (Add hook.now priority callback accepted) is_active) }
-    {
-        if accepted > 16 || !is_active {
-            return Ok(());
-        }
-        match hook_named(hook)? {
-            Some(hook) => self.register(&hook, priority, callback, accepted),
-            None => Ok(()),
-        }
-    }
-
     fn add_tag(
         &mut self,
         tag: &Text,
         callback: CallbackId,
         is_active: bool,
     ) -> Result<(), AllocError>
-        ensures { OnOk result (self.new ≡ carried self.old (AddTag tag.now callback) is_active) }
+        ensures { OnOk result
+            (self.new ≡ registered_after self.old (AddTag tag.now callback) is_active) }
     {
         if callback.number() == 0 || !is_active {
             return Ok(());
         }
         match tag_named(self.alloc, tag.as_str())? {
-            Some(tag) => self.registry.add_tag(&tag, callback),
-            None => Ok(()),
-        }
-    }
-
-    fn remove(&mut self, hook: &Text, priority: i32, callback: CallbackId) -> Result<(), AllocError>
-        ensures { OnOk result (self.new ≡ carried self.old (Remove hook.now priority callback) true) }
-    {
-        match hook_named(hook)? {
-            Some(hook) => self.deregister(&hook, priority, callback),
-            None => Ok(()),
-        }
-    }
-
-    fn remove_all(&mut self, hook: &Text, priority: Option<i32>) -> Result<(), AllocError>
-        ensures { OnOk result (self.new ≡ carried self.old (RemoveAll hook.now priority) true) }
-    {
-        match hook_named(hook)? {
-            Some(hook) => self.deregister_all(&hook, priority),
+            Some(tag) => self.plans.registry.add_tag(&tag, callback),
             None => Ok(()),
         }
     }
 
     /// Carries a change out. One whose callback isn't active registers nothing.
     pub fn carry(&mut self, change: &Change, is_active: bool) -> Result<(), AllocError>
-        ensures { OnOk result (self.new ≡ carried self.old change.now is_active) }
+        ensures { OnOk result (self.new ≡ registered_after self.old change.now is_active) }
     {
         match change {
-            Change::Add {
-                hook,
-                priority,
-                callback,
-                accepted,
-            } => self.add(hook, *priority, *callback, *accepted, is_active),
-            Change::Remove {
-                hook,
-                priority,
-                callback,
-            } => self.remove(hook, *priority, *callback),
-            Change::RemoveAll { hook, priority } => self.remove_all(hook, *priority),
+            Change::Add { hook, accepted, .. } => {
+                if *accepted > 16 || !is_active || !is_hook_name(hook.as_str()) {
+                    return Ok(());
+                }
+                self.plans.apply(change)
+            }
+            Change::Remove { hook, .. } | Change::RemoveAll { hook, .. } => {
+                if !is_hook_name(hook.as_str()) {
+                    return Ok(());
+                }
+                self.plans.apply(change)
+            }
             Change::AddTag { tag, callback } => self.add_tag(tag, *callback, is_active),
             Change::RemoveTag { tag } => {
-                let _was_there = self.registry.remove_tag(tag.as_str());
+                let _was_there = self.plans.registry.remove_tag(tag.as_str());
                 Ok(())
             }
             Change::RemoveAllTags => {
-                self.registry.remove_all_tags();
+                self.plans.registry.remove_all_tags();
                 Ok(())
             }
         }
     }
 
-    /// Carries out core's own registration, and then changes of load lists, each beside whether its callback is active.
+    /// Carries out core's own registration, and then changes of load lists, each beside whether its
+    /// callback is active.
     pub fn load(&mut self, load: &[(Change, bool)]) -> Result<(), AllocError>
-        ensures { OnOk result (self.new ≡ all_carried self.old (core_load ++ load.now)) }
+        ensures { OnOk result (self.new ≡ registered_after_all self.old (core_load ++ load.now)) }
     {
         self.carry(&core_change(self.alloc), true)?;
         for change in load {
@@ -136,7 +93,8 @@ impl State {
         plugins: &Plugins<S>,
         change: &Change,
     ) -> Result<(), AllocError>
-        ensures ok { OnOk result (self.new ≡ changed (shapes_of S.number plugins.now) self.old change.now) }
+        ensures ok { OnOk result
+            (self.new ≡ world_after_change (shapes_of S.number plugins.now) self.old change.now) }
         ensures calls { self.new.calls ≡ self.old.calls }
         ensures active { self.new.active ≡ self.old.active }
     {
@@ -151,7 +109,8 @@ impl State {
         plugins: &Plugins<S>,
         changes: &[Change],
     ) -> Result<(), AllocError>
-        ensures ok { OnOk result (self.new ≡ changed_all (shapes_of S.number plugins.now) self.old changes.now) }
+        ensures ok { OnOk result
+            (self.new ≡ world_after_changes (shapes_of S.number plugins.now) self.old changes.now) }
         ensures calls { self.new.calls ≡ self.old.calls }
         ensures active { self.new.active ≡ self.old.active }
     {
@@ -167,7 +126,7 @@ impl State {
         plugins: &Plugins<S>,
         reply: &Reply,
     ) -> Result<(), AllocError>
-        ensures ok { OnOk result (self.new ≡ changed_all (shapes_of S.number plugins.now)
+        ensures ok { OnOk result (self.new ≡ world_after_changes (shapes_of S.number plugins.now)
             (record self.old { output = self.old.output ++ reply.now.echo }) reply.now.changes) }
         ensures calls { self.new.calls ≡ self.old.calls }
         ensures active { self.new.active ≡ self.old.active }

@@ -7,7 +7,7 @@ ghost use Rattle.hook_machine.specs.World.{load_changes};
 ghost use Rattle.hook_machine.specs.Loads.{has_active, with_active, load_change};
 
 use callback_store::{Plugin, Plugins, Stated};
-use hook_changes::{CallbackId, Change, CoreHook, Text};
+use hook_changes::{CallbackId, Change, CoreHook, Text, is_one_of};
 use std::alloc::{AllocError, Global};
 
 /// A change of a load list, and whether its callback is active.
@@ -25,14 +25,15 @@ pub fn core_change(alloc: Global) -> Change
     }
 }
 
-/// Lists the load lists of the plugins of these names, in the order of the names. Each change is beside whether its
-/// callback is active.
+/// Lists the load lists of the plugins of these names, in the order of the names. Each change is
+/// beside whether its callback is active.
 pub fn load_list<'p, S: Stated>(
     alloc: Global,
     plugins: &'p Plugins<S>,
     active: &[Text],
 ) -> Result<Vec<LoadChange<'p>>, AllocError>
-    ensures { IfOk result (λ list. map load_change list.items ≡ with_active (shapes_of S.number plugins.entry.now)
+    ensures { IfOk result (λ list. map load_change list.items
+        ≡ with_active (shapes_of S.number plugins.entry.now)
         active.now (load_changes (shapes_of S.number plugins.entry.now) active.now)) }
 {
     let mut list = Vec::new(alloc);
@@ -61,7 +62,8 @@ fn push_own<'p, S: Stated>(
     Ok(())
 }
 
-/// Returns whether the callback that a change registers is active. For a change that registers none it says yes.
+/// Returns whether the callback that a change registers is active. For a change that registers none
+/// it says yes.
 pub fn has_active<S: Stated>(plugins: &Plugins<S>, active: &[Text], change: &Change) -> bool
     ensures { result ≡ has_active (shapes_of S.number plugins.now) active.now change.now }
 {
@@ -74,10 +76,4 @@ pub fn has_active<S: Stated>(plugins: &Plugins<S>, active: &[Text], change: &Cha
         | Change::RemoveTag { .. }
         | Change::RemoveAllTags => true,
     }
-}
-
-fn is_one_of(names: &[Text], name: &str) -> bool
-    ensures { result ≡ list_any (bytes_eq name.now) names.now }
-{
-    names.iter().any(|other| name == other.as_str())
 }

@@ -5,10 +5,9 @@ ghost use Rattle.hook_machine.specs.Loads.{load_left, load_change};
 
 use crate::state::load_list::LoadChange;
 use crate::state::tables::Tables;
-use hook_changes::{Change, Listed};
+use hook_changes::{Change, Listed, Shared};
 use std::alloc::{AllocError, Global};
 use std::marker::Model;
-use std::rc::Rc;
 
 /// The changes of a load, each with whether its callback is active, and the tables that they leave.
 #[derive(Drop)]
@@ -20,7 +19,7 @@ struct Load {
 /// A load that has been carried out. Its owners share it. Contracts see the changes.
 #[derive(Drop)]
 pub struct Loaded {
-    load: Rc<Load>,
+    load: Shared<Load>,
 }
 
 impl Model for Loaded {
@@ -30,9 +29,9 @@ impl Model for Loaded {
 
     ghost Value = { List (Change × Bool) };
 
-    ghost view = { λ l. l.load.value.changes };
+    ghost view = { λ l. l.load.changes };
 
-    ghost invariant = { λ l. l.load.value.tables ≡ load_left l.load.value.changes };
+    ghost invariant = { λ l. l.load.tables ≡ load_left l.load.changes };
 }
 
 impl Loaded {
@@ -43,34 +42,36 @@ impl Loaded {
         let mut tables = Tables::new(alloc);
         tables.load(changes.as_slice())?;
         Ok(Loaded {
-            load: Rc::new(alloc, Load { changes, tables })?,
+            load: Shared::new(alloc, Load { changes, tables })?,
         })
     }
 
-    /// Returns the same load for another owner. Does not allocate; an `Err` says that it has too many owners to count.
+    /// Returns the same load for another owner. Does not allocate; an `Err` says that it has too
+    /// many owners to count.
     fn share(&self) -> Result<Self, AllocError>
         ensures { IfOk result (λ shared. shared ≡ self.now) }
     {
         Ok(Loaded {
-            load: self.load.clone()?,
+            load: self.load.share()?,
         })
     }
 
     pub fn changes(&self) -> &[(Change, bool)]
         ensures { result.now ≡ self.now }
     {
-        self.load.changes.as_slice()
+        self.load.get().changes.as_slice()
     }
 
     /// Borrows the tables that the changes leave.
     pub fn tables(&self) -> &Tables
         ensures { result.now ≡ load_left self.now }
     {
-        &self.load.tables
+        &self.load.get().tables
     }
 }
 
-/// What the last load left, kept for the runs after it. No contract sees it: a run is the same without.
+/// What the last load left, kept for the runs after it. No contract sees it: a run is the same
+/// without.
 #[derive(Drop)]
 pub struct KeptLoad {
     last: Option<Loaded>,
@@ -82,8 +83,8 @@ impl KeptLoad {
         KeptLoad { last: None }
     }
 
-    /// Returns what these changes leave: what is kept, if it is of the same changes. Otherwise they are carried out,
-    /// and what they leave is kept in its place.
+    /// Returns what these changes leave: what is kept, if it is of the same changes. Otherwise they
+    /// are carried out, and what they leave is kept in its place.
     pub(crate) fn loaded(
         &mut self,
         alloc: Global,
@@ -108,46 +109,9 @@ fn copied(alloc: Global, changes: &[LoadChange<'_>]) -> Result<Listed<(Change, b
 {
     let mut copies = Listed::empty(alloc);
     for change in changes {
-        copies.push((copy_of(change.0)?, change.1))?;
+        copies.push((change.0.clone()?, change.1))?;
     }
     Ok(copies)
-}
-
-fn copy_of(change: &Change) -> Result<Change, AllocError>
-    ensures { IfOk result (λ copy. copy ≡ change.now) }
-{
-    Ok(match change {
-        Change::Add {
-            hook,
-            priority,
-            callback,
-            accepted,
-        } => Change::Add {
-            hook: hook.clone()?,
-            priority: *priority,
-            callback: *callback,
-            accepted: *accepted,
-        },
-        Change::Remove {
-            hook,
-            priority,
-            callback,
-        } => Change::Remove {
-            hook: hook.clone()?,
-            priority: *priority,
-            callback: *callback,
-        },
-        Change::RemoveAll { hook, priority } => Change::RemoveAll {
-            hook: hook.clone()?,
-            priority: *priority,
-        },
-        Change::AddTag { tag, callback } => Change::AddTag {
-            tag: tag.clone()?,
-            callback: *callback,
-        },
-        Change::RemoveTag { tag } => Change::RemoveTag { tag: tag.clone()? },
-        Change::RemoveAllTags => Change::RemoveAllTags,
-    })
 }
 
 /// Returns whether two lists have the same changes in the same order.
@@ -168,67 +132,5 @@ fn are_same(kept: &[(Change, bool)], changes: &[LoadChange<'_>]) -> bool
 fn is_same_load(kept: &(Change, bool), change: &LoadChange<'_>) -> bool
     ensures { IsTrue result → kept.now ≡ load_change change.now }
 {
-    kept.1 == change.1 && is_same(&kept.0, change.0)
-}
-
-/// Returns whether two changes are equal.
-fn is_same(change: &Change, other: &Change) -> bool
-    ensures { IsTrue result → change.now ≡ other.now }
-{
-    match (change, other) {
-        (
-            Change::Add {
-                hook,
-                priority,
-                callback,
-                accepted,
-            },
-            Change::Add {
-                hook: other_hook,
-                priority: other_priority,
-                callback: other_callback,
-                accepted: other_accepted,
-            },
-        ) => {
-            priority == other_priority
-                && callback == other_callback
-                && accepted == other_accepted
-                && hook.as_str() == other_hook.as_str()
-        }
-        (
-            Change::Remove {
-                hook,
-                priority,
-                callback,
-            },
-            Change::Remove {
-                hook: other_hook,
-                priority: other_priority,
-                callback: other_callback,
-            },
-        ) => {
-            priority == other_priority
-                && callback == other_callback
-                && hook.as_str() == other_hook.as_str()
-        }
-        (
-            Change::RemoveAll { hook, priority },
-            Change::RemoveAll {
-                hook: other_hook,
-                priority: other_priority,
-            },
-        ) => priority == other_priority && hook.as_str() == other_hook.as_str(),
-        (
-            Change::AddTag { tag, callback },
-            Change::AddTag {
-                tag: other_tag,
-                callback: other_callback,
-            },
-        ) => callback == other_callback && tag.as_str() == other_tag.as_str(),
-        (Change::RemoveTag { tag }, Change::RemoveTag { tag: other_tag }) => {
-            tag.as_str() == other_tag.as_str()
-        }
-        (Change::RemoveAllTags, Change::RemoveAllTags) => true,
-        _ => false,
-    }
+    kept.1 == change.1 && kept.0 == *change.0
 }

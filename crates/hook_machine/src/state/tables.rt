@@ -1,8 +1,10 @@
 //! What is registered while a request runs.
-ghost use Rattle.std.specs.Prelude.{◌≡◌, ◌+◌, ◌++◌, map, min, IfSome, OnOk, OnErr};
+ghost use Rattle.std.specs.Prelude.{◌≡◌, ◌+◌, ◌++◌, map, min, OnOk, OnErr};
 ghost use Rattle.hook_registry.specs.Named.{set_value};
 ghost use Rattle.hook_registry.specs.Table.{times_fired};
-ghost use Rattle.hook_machine.specs.Loads.{carried, none_registered, all_carried, load_left, load_change, core_load};
+ghost use Rattle.hook_machine.specs.Loads.{registered_after, none_registered, registered_after_all};
+ghost use Rattle.hook_machine.specs.Loads.{load_left};
+ghost use Rattle.hook_machine.specs.Loads.{load_change, core_load};
 
 use crate::state::load_list::{LoadChange, core_change};
 use crate::state::loaded::Loaded;
@@ -12,24 +14,19 @@ use hook_registry::Registry;
 use std::alloc::{AllocError, Global};
 use std::marker::Model;
 
-/// The registrations, the handlers of tags and the firings, and the groups of each hook for passes.
+/// The registrations, the handlers of tags, and the firings.
 #[derive(Drop)]
 pub struct Tables {
     pub(crate) alloc: Global,
-    pub(crate) registry: Registry,
-    /// The groups of each hook. There are none after a change that was refused.
-    pub(crate) plans: Option<Plans>,
+    pub(crate) plans: Plans,
 }
 
 impl Model for Tables {
-    ghost use Rattle.std.specs.Prelude.{◌≡◌, MatchOption, ⊤};
     ghost use Rattle.hook_registry.specs.Table.{Registered};
 
     ghost Value = { Registered };
 
-    ghost view = { λ t. t.registry };
-
-    ghost invariant = { λ t. MatchOption t.plans ⊤ (λ plans. plans ≡ t.registry.table) };
+    ghost view = { λ t. t.plans.registry };
 }
 
 impl Tables {
@@ -39,26 +36,20 @@ impl Tables {
     {
         Tables {
             alloc,
-            registry: Registry::new(alloc),
-            plans: Some(Plans::new(alloc)),
+            plans: Plans::new(alloc),
         }
     }
 
-    fn registry(&self) -> &Registry
-        ensures { result.now ≡ self.now }
+    fn plans(&self) -> &Plans
+        ensures { result.now.registry ≡ self.now }
     {
-        &self.registry
-    }
-
-    fn plans(&self) -> Option<&Plans>
-        ensures { IfSome result (λ plans. plans.now ≡ self.now.table) }
-    {
-        self.plans.as_ref()
+        &self.plans
     }
 }
 
-/// The tables of one run. At first they are those that its load left, which other runs share; a change gives the run
-/// tables of its own, by carrying the load out once more. What was fired is always the run's own.
+/// The tables of one run. At first they are those that its load left, which other runs share; a
+/// change gives the run tables of its own, by carrying the load out once more. What was fired is
+/// always the run's own.
 #[derive(Drop)]
 pub struct RunTables {
     loaded: Option<Loaded>,
@@ -98,20 +89,19 @@ impl RunTables {
         }
     }
 
-    /// Returns the registry that has the registrations and the tags. What was fired may be in another.
+    /// Returns the registry that has the registrations and the tags. What was fired may be in
+    /// another.
     pub fn registry(&self) -> &Registry
         ensures table { result.now.table ≡ self.now.table }
         ensures tags { result.now.tags ≡ self.now.tags }
     {
-        match &self.loaded {
-            Some(loaded) => loaded.tables().registry(),
-            None => self.own.registry(),
-        }
+        &self.plans().registry
     }
 
-    /// Returns the groups of each hook, for passes. There are none after a change that was refused.
-    pub fn plans(&self) -> Option<&Plans>
-        ensures { IfSome result (λ plans. plans.now ≡ self.now.table) }
+    /// Returns the registrations, for passes to go over. What was fired may be in others.
+    pub fn plans(&self) -> &Plans
+        ensures table { result.now.registry.table ≡ self.now.table }
+        ensures tags { result.now.registry.tags ≡ self.now.tags }
     {
         match &self.loaded {
             Some(loaded) => loaded.tables().plans(),
@@ -123,23 +113,24 @@ impl RunTables {
     pub fn did(&self, hook: &str) -> u32
         ensures { result ≡ times_fired self.now.counts hook.now }
     {
-        self.own.registry.did(hook)
+        self.own.plans.registry.did(hook)
     }
 
     /// Counts one firing of an action.
     pub fn fire(&mut self, hook: &HookName) -> Result<(), AllocError>
         ensures ok { OnOk result (self.new ≡ record self.old {
-          counts = set_value self.old.counts hook.now (min (times_fired self.old.counts hook.now + 1) 4294967295);
+          counts = set_value self.old.counts hook.now
+              (min (times_fired self.old.counts hook.now + 1) 4294967295);
         }) }
         ensures err { OnErr result (self.new ≡ self.old) }
     {
-        let _count = self.own.registry.fire(hook)?;
+        let _count = self.own.plans.registry.fire(hook)?;
         Ok(())
     }
 
     /// Carries a change out. One whose callback isn't active registers nothing.
     pub fn carry(&mut self, change: &Change, is_active: bool) -> Result<(), AllocError>
-        ensures { OnOk result (self.new ≡ carried self.old change.now is_active) }
+        ensures { OnOk result (self.new ≡ registered_after self.old change.now is_active) }
     {
         match self.loaded.take() {
             None => self.own.carry(change, is_active),
@@ -150,9 +141,11 @@ impl RunTables {
         }
     }
 
-    /// Carries out core's own registration, and then changes of load lists, each beside whether its callback is active.
+    /// Carries out core's own registration, and then changes of load lists, each beside whether its
+    /// callback is active.
     pub fn load(&mut self, alloc: Global, load: &[LoadChange<'_>]) -> Result<(), AllocError>
-        ensures { OnOk result (self.new ≡ all_carried self.old (core_load ++ map load_change load.now)) }
+        ensures { OnOk result
+            (self.new ≡ registered_after_all self.old (core_load ++ map load_change load.now)) }
     {
         self.carry(&core_change(alloc), true)?;
         for change in load {

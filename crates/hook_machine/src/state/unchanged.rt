@@ -1,13 +1,11 @@
 //! Passes that change nothing but the number of calls left. They need not be made.
-ghost use Rattle.std.specs.Prelude.{◌≡◌, ◌<◌, ◌∷◌, [], List, IsTrue, IfSome};
-ghost use Rattle.hook_registry.specs.Table.{registrations};
+ghost use Rattle.std.specs.Prelude.{◌≡◌, ◌<◌, List, IsTrue};
 ghost use Rattle.hook_machine.specs.World.{Text};
 ghost use Rattle.hook_machine.specs.Meaning.{Engine, filter_pass, invoke};
 ghost use Rattle.hook_machine.specs.PassedOver.{IsCoreAlone, left_by_core};
 
 use crate::state::{DEEPEST, State};
 use hook_changes::is_hook_name;
-use hook_registry::Registration;
 use shortcode_scan::is_plain;
 
 impl State {
@@ -18,31 +16,23 @@ impl State {
         self.calls > 0 && self.depth < DEEPEST
     }
 
-    /// Returns the registration of a hook that has no other, as far as the plans tell.
-    fn only(&self, hook: &str) -> Option<Registration>
-        ensures { IfSome result (λ only. registrations self.now.table hook.now ≡ only ∷ []) }
-    {
-        match self.tables.plans() {
-            Some(plans) => plans.only(hook),
-            None => None,
-        }
-    }
-
-    /// Returns whether core's own callback is all that is registered on a hook, and takes the value.
+    /// Returns whether core's own callback is all that is registered on a hook, and takes the
+    /// value.
     fn has_core_alone(&self, hook: &str) -> bool
         ensures { IsTrue result → IsCoreAlone self.now.table hook.now }
     {
-        match self.only(hook) {
+        match self.tables.registry().only(hook) {
             Some(only) => only.callback.number() == 0 && only.accepted > 0,
             None => false,
         }
     }
 
-    /// Returns whether a filter pass leaves the value as it is, since core's own callback is alone on the hook and the
-    /// value is a text without shortcodes. That takes one call.
+    /// Returns whether a filter pass leaves the value as it is, since core's own callback is alone
+    /// on the hook and the value is a text without shortcodes. That takes one call.
     pub fn leaves(&self, hook: &str, value: &str) -> bool
         ensures { IsTrue result → (engine : Engine) (args : List Text)
-            → filter_pass (invoke engine) self.now hook.now value.now args ≡ left_by_core self.now hook.now value.now }
+            → filter_pass (invoke engine) self.now hook.now value.now args
+            ≡ left_by_core self.now hook.now value.now }
     {
         if !self.has_room() || !is_hook_name(hook) {
             return false;

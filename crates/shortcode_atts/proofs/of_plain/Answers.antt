@@ -2,7 +2,7 @@ use Rattle.std.proofs.Common.{sym, ◌∙◌, ap}
 use Rattle.std.specs.Prelude.{fold, chars}
 use Rattle.shortcode_atts.specs.Items.{item_at, items_of}
 use Rattle.shortcode_atts.specs.Attributes.{add}
-use Rattle.shortcode_atts.specs.Found.{item_now, spelled}
+use Rattle.shortcode_atts.specs.Found.{item_now, item_spelling}
 use Rattle.shortcode_atts.proofs.AttsLemmas.{attributes-more, attributes-end}
 use Rattle.shortcode_atts.proofs.SpellsLemmas.{next-found, next-none}
 use Rattle.shortcode_atts.proofs.of_plain.Goals as goal
@@ -20,7 +20,7 @@ items-preserved c =
     let next = next-found rest c.items.invariant.text it found in
     record {
       text = next.0.rest;
-      same = ap (λ a. fold add a (items_of (chars it.rest))) c.in_ok-add.ensures ∙ sym (attributes-more c.items.atts (chars rest) (spelled it) next.1)
+      same = ap (λ a. fold add a (items_of (chars it.rest))) c.in_ok-add.ensures ∙ sym (attributes-more c.items.atts (chars rest) (item_spelling it) next.1)
           ∙ c.items.invariant.same;
     }
 

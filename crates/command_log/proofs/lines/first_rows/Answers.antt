@@ -13,8 +13,11 @@ returns-clause-commit g c clean =
     let new = c.query_all.new.self.conn.now in
     let early : HasCleanDisk (state g.S.Store old) = omega (arith, c.query_all.ensures.survives.clean, clean) in
     let same = to_z-of_z w64 c.args.limit c.ranges.limit in
-    let ok = subst (λ (k : ℤ). IfOk c.query_all.result (λ rows. Shown first_text (Int k ∷ []) (state g.S.Store old) (state g.S.Store new) rows.items)) same (rw (c.params-to_sql.ensures) at (c.query_all.ensures.ok clean)) in
-    let err = subst (λ (k : ℤ). IfErr c.query_all.result (λ e. FailsToQuery first_text (Int k ∷ []) (state g.S.Store old) (state g.S.Store new) e ⊎ IsTooLate first_text (Int k ∷ []) (state g.S.Store old) (state g.S.Store new) e)) same (rw (c.params-to_sql.ensures) at (c.query_all.ensures.err clean)) in
+    let ok = subst (λ (k : ℤ). IfOk c.query_all.result (λ rows. Shown first_text (Int k ∷ []) (state g.S.Store old) (state g.S.Store new) rows.items)) same
+    (rw (c.params-to_sql.ensures) at (c.query_all.ensures.ok clean)) in
+    let err = subst (λ (k : ℤ). IfErr c.query_all.result (λ e. FailsToQuery first_text (Int k ∷ []) (state g.S.Store old) (state g.S.Store new) e
+    ⊎ IsTooLate first_text (Int k ∷ []) (state g.S.Store old) (state g.S.Store new) e)) same
+    (rw (c.params-to_sql.ensures) at (c.query_all.ensures.err clean)) in
     keeps_commit first_text (Int c.args.limit ∷ []) (state g.S.Store old) (state g.S.Store new) (c.requires.inside early) c.query_all.result ok err
 
 pub returns-clause-same : goal.returns-clause-same
@@ -23,7 +26,8 @@ returns-clause-same g c clean =
     let new = c.query_all.new.self.conn.now in
     let early : HasCleanDisk (state g.S.Store old) = omega (arith, c.query_all.ensures.survives.clean, clean) in
     let same = to_z-of_z w64 c.args.limit c.ranges.limit in
-    let ok = subst (λ (k : ℤ). IfOk c.query_all.result (λ rows. Shown first_text (Int k ∷ []) (state g.S.Store old) (state g.S.Store new) rows.items)) same (rw (c.params-to_sql.ensures) at (c.query_all.ensures.ok clean)) in
+    let ok = subst (λ (k : ℤ). IfOk c.query_all.result (λ rows. Shown first_text (Int k ∷ []) (state g.S.Store old) (state g.S.Store new) rows.items)) same
+    (rw (c.params-to_sql.ensures) at (c.query_all.ensures.ok clean)) in
     same_first g.S.Store old new (c.requires.inside early) c.requires.holds c.args.limit c.query_all.result ok
 
 pub returns-clause-rows : goal.returns-clause-rows
@@ -32,7 +36,8 @@ returns-clause-rows g c clean =
     let new = c.query_all.new.self.conn.now in
     let early : HasCleanDisk (state g.S.Store old) = omega (arith, c.query_all.ensures.survives.clean, clean) in
     let same = to_z-of_z w64 c.args.limit c.ranges.limit in
-    let ok = subst (λ (k : ℤ). IfOk c.query_all.result (λ rows. Shown first_text (Int k ∷ []) (state g.S.Store old) (state g.S.Store new) rows.items)) same (rw (c.params-to_sql.ensures) at (c.query_all.ensures.ok clean)) in
+    let ok = subst (λ (k : ℤ). IfOk c.query_all.result (λ rows. Shown first_text (Int k ∷ []) (state g.S.Store old) (state g.S.Store new) rows.items)) same
+    (rw (c.params-to_sql.ensures) at (c.query_all.ensures.ok clean)) in
     gives_first g.S.Store old new (c.requires.inside early) c.requires.holds c.args.limit c.query_all.result ok
 
 pub returns-clause-cause : goal.returns-clause-cause
@@ -41,5 +46,7 @@ returns-clause-cause g c clean up =
     let new = c.query_all.new.self.conn.now in
     let early : HasCleanDisk (state g.S.Store old) = omega (arith, c.query_all.ensures.survives.clean, clean) in
     let same = to_z-of_z w64 c.args.limit c.ranges.limit in
-    let err = subst (λ (k : ℤ). IfErr c.query_all.result (λ e. FailsToQuery first_text (Int k ∷ []) (state g.S.Store old) (state g.S.Store new) e ⊎ IsTooLate first_text (Int k ∷ []) (state g.S.Store old) (state g.S.Store new) e)) same (rw (c.params-to_sql.ensures) at (c.query_all.ensures.err clean)) in
+    let err = subst (λ (k : ℤ). IfErr c.query_all.result (λ e. FailsToQuery first_text (Int k ∷ []) (state g.S.Store old) (state g.S.Store new) e
+    ⊎ IsTooLate first_text (Int k ∷ []) (state g.S.Store old) (state g.S.Store new) e)) same
+    (rw (c.params-to_sql.ensures) at (c.query_all.ensures.err clean)) in
     first_failed g.S.Store old new (c.requires.inside early) up (c.requires.holds up) c.args.limit c.query_all.result err

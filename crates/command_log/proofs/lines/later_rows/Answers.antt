@@ -14,9 +14,13 @@ returns-clause-commit g c clean =
     let early : HasCleanDisk (state g.S.Store old) = omega (arith, c.query_all.ensures.survives.clean, clean) in
     let first = to_z-of_z w64 c.args.number c.ranges.number in
     let second = to_z-of_z w64 c.args.limit c.ranges.limit in
-    let ok = subst₂ (λ (m k : ℤ). IfOk c.query_all.result (λ rows. Shown later_text (Int m ∷ Int k ∷ []) (state g.S.Store old) (state g.S.Store new) rows.items)) first second (rw (c.params-to_sql.ensures, c.params-to_sql-2.ensures) at (c.query_all.ensures.ok clean)) in
-    let err = subst₂ (λ (m k : ℤ). IfErr c.query_all.result (λ e. FailsToQuery later_text (Int m ∷ Int k ∷ []) (state g.S.Store old) (state g.S.Store new) e ⊎ IsTooLate later_text (Int m ∷ Int k ∷ []) (state g.S.Store old) (state g.S.Store new) e)) first second (rw (c.params-to_sql.ensures, c.params-to_sql-2.ensures) at (c.query_all.ensures.err clean)) in
-    keeps_commit later_text (Int c.args.number ∷ Int c.args.limit ∷ []) (state g.S.Store old) (state g.S.Store new) (c.requires.inside early) c.query_all.result ok err
+    let ok = subst₂ (λ (m k : ℤ). IfOk c.query_all.result (λ rows. Shown later_text (Int m ∷ Int k ∷ []) (state g.S.Store old) (state g.S.Store new)
+    rows.items)) first second (rw (c.params-to_sql.ensures, c.params-to_sql-2.ensures) at (c.query_all.ensures.ok clean)) in
+    let err = subst₂ (λ (m k : ℤ). IfErr c.query_all.result (λ e. FailsToQuery later_text (Int m ∷ Int k ∷ []) (state g.S.Store old) (state g.S.Store new) e
+    ⊎ IsTooLate later_text (Int m ∷ Int k ∷ []) (state g.S.Store old) (state g.S.Store new) e)) first second
+    (rw (c.params-to_sql.ensures, c.params-to_sql-2.ensures) at (c.query_all.ensures.err clean)) in
+    keeps_commit later_text (Int c.args.number ∷ Int c.args.limit ∷ []) (state g.S.Store old) (state g.S.Store new) (c.requires.inside early) c.query_all.result
+    ok err
 
 pub returns-clause-same : goal.returns-clause-same
 returns-clause-same g c clean =
@@ -25,7 +29,8 @@ returns-clause-same g c clean =
     let early : HasCleanDisk (state g.S.Store old) = omega (arith, c.query_all.ensures.survives.clean, clean) in
     let first = to_z-of_z w64 c.args.number c.ranges.number in
     let second = to_z-of_z w64 c.args.limit c.ranges.limit in
-    let ok = subst₂ (λ (m k : ℤ). IfOk c.query_all.result (λ rows. Shown later_text (Int m ∷ Int k ∷ []) (state g.S.Store old) (state g.S.Store new) rows.items)) first second (rw (c.params-to_sql.ensures, c.params-to_sql-2.ensures) at (c.query_all.ensures.ok clean)) in
+    let ok = subst₂ (λ (m k : ℤ). IfOk c.query_all.result (λ rows. Shown later_text (Int m ∷ Int k ∷ []) (state g.S.Store old) (state g.S.Store new)
+    rows.items)) first second (rw (c.params-to_sql.ensures, c.params-to_sql-2.ensures) at (c.query_all.ensures.ok clean)) in
     same_later g.S.Store old new (c.requires.inside early) c.requires.holds c.args.number c.args.limit c.query_all.result ok
 
 pub returns-clause-rows : goal.returns-clause-rows
@@ -35,7 +40,8 @@ returns-clause-rows g c clean =
     let early : HasCleanDisk (state g.S.Store old) = omega (arith, c.query_all.ensures.survives.clean, clean) in
     let first = to_z-of_z w64 c.args.number c.ranges.number in
     let second = to_z-of_z w64 c.args.limit c.ranges.limit in
-    let ok = subst₂ (λ (m k : ℤ). IfOk c.query_all.result (λ rows. Shown later_text (Int m ∷ Int k ∷ []) (state g.S.Store old) (state g.S.Store new) rows.items)) first second (rw (c.params-to_sql.ensures, c.params-to_sql-2.ensures) at (c.query_all.ensures.ok clean)) in
+    let ok = subst₂ (λ (m k : ℤ). IfOk c.query_all.result (λ rows. Shown later_text (Int m ∷ Int k ∷ []) (state g.S.Store old) (state g.S.Store new)
+    rows.items)) first second (rw (c.params-to_sql.ensures, c.params-to_sql-2.ensures) at (c.query_all.ensures.ok clean)) in
     gives_later g.S.Store old new (c.requires.inside early) c.requires.holds c.args.number c.args.limit c.query_all.result ok
 
 pub returns-clause-cause : goal.returns-clause-cause
@@ -45,5 +51,7 @@ returns-clause-cause g c clean up =
     let early : HasCleanDisk (state g.S.Store old) = omega (arith, c.query_all.ensures.survives.clean, clean) in
     let first = to_z-of_z w64 c.args.number c.ranges.number in
     let second = to_z-of_z w64 c.args.limit c.ranges.limit in
-    let err = subst₂ (λ (m k : ℤ). IfErr c.query_all.result (λ e. FailsToQuery later_text (Int m ∷ Int k ∷ []) (state g.S.Store old) (state g.S.Store new) e ⊎ IsTooLate later_text (Int m ∷ Int k ∷ []) (state g.S.Store old) (state g.S.Store new) e)) first second (rw (c.params-to_sql.ensures, c.params-to_sql-2.ensures) at (c.query_all.ensures.err clean)) in
+    let err = subst₂ (λ (m k : ℤ). IfErr c.query_all.result (λ e. FailsToQuery later_text (Int m ∷ Int k ∷ []) (state g.S.Store old) (state g.S.Store new) e
+    ⊎ IsTooLate later_text (Int m ∷ Int k ∷ []) (state g.S.Store old) (state g.S.Store new) e)) first second
+    (rw (c.params-to_sql.ensures, c.params-to_sql-2.ensures) at (c.query_all.ensures.err clean)) in
     later_failed g.S.Store old new (c.requires.inside early) up (c.requires.holds up) c.args.number c.args.limit c.query_all.result err

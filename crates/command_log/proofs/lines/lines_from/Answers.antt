@@ -14,5 +14,6 @@ returns-in_err-text_of-clause-err c all =
     let row = c.row-item.result in
     let line = line_at rows i row c.loop-row-test.true c.row-item.is all in
     err_and c.from_residual-in_err-text_of.result _ _
-    (λ e is. no_text rows i row c.loop-row-test.true c.row-item.is e (subst (λ x. (x ≡ SqliteFailure OutOfMemory) ⊎ ((x ≡ Utf8Error 1) × ¬ IsUtf8 (text_in row))) (sym is) (c.in_err-text_of.ensures.err line)))
+    (λ e is. no_text rows i row c.loop-row-test.true c.row-item.is e
+    (subst (λ x. (x ≡ SqliteFailure OutOfMemory) ⊎ ((x ≡ Utf8Error 1) × ¬ IsUtf8 (text_in row))) (sym is) (c.in_err-text_of.ensures.err line)))
     c.from_residual-in_err-text_of.ensures.1

@@ -24,18 +24,22 @@ loop-line-preserved g c =
     let line = c.line-item.result in
     let done = c.in_ok-put_line.ensures in
     let before = c.loop-line.invariant in
-    let taken : take (i + 1) lines ≡ take i lines ++ line ∷ [] = take_more lines i line c.loop-line-test.true ∙ ap (λ x. take i lines ++ x ∷ []) (sym c.line-item.is) in
-    let texts : map string_bytes (take (i + 1) lines) ≡ map string_bytes (take i lines) ++ string_bytes line ∷ [] = ap (map string_bytes) taken ∙ map_last string_bytes (take i lines) line in
+    let taken : take (i + 1) lines ≡ take i lines ++ line ∷ [] = take_more lines i line c.loop-line-test.true
+    ∙ ap (λ x. take i lines ++ x ∷ []) (sym c.line-item.is) in
+    let texts : map string_bytes (take (i + 1) lines) ≡ map string_bytes (take i lines) ++ string_bytes line ∷ [] = ap (map string_bytes) taken
+    ∙ map_last string_bytes (take i lines) line in
     record {
       same_reference = done.same_reference ∙ before.same_reference;
-      survives = survives_then (state g.S.Store first) (state g.S.Store mid) (state g.S.Store new) _ _ (λ _. ⊥) (λ _ db none. none) (λ _ db none. none) before.survives done.survives;
+      survives = survives_then (state g.S.Store first) (state g.S.Store mid) (state g.S.Store new) _ _ (λ _. ⊥) (λ _ db none. none)
+          (λ _ db none. none) before.survives done.survives;
       commit = λ clean.
           let early : HasCleanDisk (state g.S.Store mid) = omega (arith, done.survives.clean, clean) in
           commits_then (state g.S.Store first) (state g.S.Store mid) (state g.S.Store new) (before.commit early) (done.commit clean);
       put = λ clean.
           let early : HasCleanDisk (state g.S.Store mid) = omega (arith, done.survives.clean, clean) in
           let one : Puts g.S.Store mid new (string_bytes line ∷ []) = subst (λ t. Puts g.S.Store mid new (t ∷ [])) c.as_str.ensures.value (done.put clean) in
-          inr (subst (Puts g.S.Store first new) (sym texts) (puts_more g.S.Store first mid new (map string_bytes (take i lines)) (string_bytes line) (before.put early) one));
+          inr (subst (Puts g.S.Store first new) (sym texts) (puts_more g.S.Store first mid new (map string_bytes (take i lines)) (string_bytes line)
+          (before.put early) one));
     }
 
 pub returns-in_err-put_line-clause-cause : goal.returns-in_err-put_line-clause-cause
@@ -53,9 +57,12 @@ returns-in_err-put_line-clause-cause g c clean up =
     let live = puts_open g.S.Store first mid (take i lines) up puts in
     let low : i < length lines = subst (λ n. i < n) (sym (length-map c.args.lines.now string_bytes)) c.loop-line-test.true in
     let there = contains_at c.args.lines.now string_bytes i line c.loop-line-test.true c.line-item.is in
-    let why = subst (λ t. IsCaused (state g.S.Store mid) (state g.S.Store new) (Unstorable (rows_of g.S.Store mid) (t ∷ [])) (fault_of c.in_err-put_line.field-0.0)) c.as_str.ensures.value (c.in_err-put_line.ensures.cause clean live) in
+    let why = subst (λ t. IsCaused (state g.S.Store mid) (state g.S.Store new) (Unstorable (rows_of g.S.Store mid) (t ∷ []))
+    (fault_of c.in_err-put_line.field-0.0)) c.as_str.ensures.value (c.in_err-put_line.ensures.cause clean live) in
     err_and c.from_residual.result _ _
     (λ e is. subst (λ x. IsCaused (state g.S.Store first) (state g.S.Store new) own (fault_of x)) (sym is)
-    (caused_longer (state g.S.Store first) (state g.S.Store mid) (state g.S.Store new) (state g.S.Store new) (Unstorable (rows_of g.S.Store mid) (string_bytes line ∷ [])) own
-    (more_stops g.S.Store first mid lines i low (string_bytes line) there puts) before.survives.counts (omega arith) (sym before.survives.limit) (fault_of c.in_err-put_line.field-0.0) why))
+    (caused_longer (state g.S.Store first) (state g.S.Store mid) (state g.S.Store new) (state g.S.Store new)
+    (Unstorable (rows_of g.S.Store mid) (string_bytes line ∷ [])) own
+    (more_stops g.S.Store first mid lines i low (string_bytes line) there puts) before.survives.counts (omega arith) (sym before.survives.limit)
+    (fault_of c.in_err-put_line.field-0.0) why))
     c.from_residual.ensures.1

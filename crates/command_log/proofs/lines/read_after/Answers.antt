@@ -12,14 +12,16 @@ use Rattle.command_log.proofs.lines.read_after.Goals as goal
 pub returns-clause-lines : goal.returns-clause-lines
 returns-clause-lines g c clean =
     let old = c.args.conn.now in
-    let gives = subst (λ k. GivesRows g.S.Store old c.args.place k c.in_ok-rows.rows.items) (to_z-of_z w64 c.args.limit c.ranges.limit) (c.in_ok-rows.ensures.rows clean) in
+    let gives = subst (λ k. GivesRows g.S.Store old c.args.place k c.in_ok-rows.rows.items) (to_z-of_z w64 c.args.limit c.ranges.limit)
+    (c.in_ok-rows.ensures.rows clean) in
     IfOk-weaker c.lines_from.result _ _ (λ read are. are ∙ lines_read g.S.Store old c.requires c.args.place c.args.limit c.in_ok-rows.rows.items gives)
     (rw c.deref.ensures.value at c.lines_from.ensures.lines)
 
 pub returns-clause-left : goal.returns-clause-left
 returns-clause-left g c clean =
     let old = c.args.conn.now in
-    let gives = subst (λ k. GivesRows g.S.Store old c.args.place k c.in_ok-rows.rows.items) (to_z-of_z w64 c.args.limit c.ranges.limit) (c.in_ok-rows.ensures.rows clean) in
+    let gives = subst (λ k. GivesRows g.S.Store old c.args.place k c.in_ok-rows.rows.items) (to_z-of_z w64 c.args.limit c.ranges.limit)
+    (c.in_ok-rows.ensures.rows clean) in
     IfOk-weaker c.lines_from.result _ _
     (λ read next n is. ap (lines_left g.S.Store old) next ∙ lines_unread g.S.Store old c.requires c.args.place c.args.limit c.in_ok-rows.rows.items gives n is)
     (rw c.deref.ensures.value at c.lines_from.ensures.next)
@@ -31,7 +33,8 @@ returns-in_err-rows-clause-cause g c clean up =
     let own = Unreadable (lines_left g.S.Store old c.args.place) in
     err_and c.from_residual.result _ _
     (λ e is. subst (λ x. IsCaused (state g.S.Store old) (state g.S.Store end) own (fault_of x)) (sym is)
-    (caused_longer (state g.S.Store old) (state g.S.Store old) (state g.S.Store end) (state g.S.Store end) Nothing own (λ f h. absurd h) (omega arith) (omega arith) refl
+    (caused_longer (state g.S.Store old) (state g.S.Store old) (state g.S.Store end) (state g.S.Store end) Nothing own (λ f h. absurd h) (omega arith)
+    (omega arith) refl
     (fault_of c.in_err-rows.field-0.0) (c.in_err-rows.ensures.cause clean up)))
     c.from_residual.ensures.1
 
@@ -39,7 +42,8 @@ pub returns-clause-cause : goal.returns-clause-cause
 returns-clause-cause g c clean up =
     let old = c.args.conn.now in
     let end = c.read_rows.new.conn in
-    let gives = subst (λ k. GivesRows g.S.Store old c.args.place k c.in_ok-rows.rows.items) (to_z-of_z w64 c.args.limit c.ranges.limit) (c.in_ok-rows.ensures.rows clean) in
+    let gives = subst (λ k. GivesRows g.S.Store old c.args.place k c.in_ok-rows.rows.items) (to_z-of_z w64 c.args.limit c.ranges.limit)
+    (c.in_ok-rows.ensures.rows clean) in
     let each = rows_are_lines g.S.Store old c.requires c.args.place c.args.limit c.in_ok-rows.rows.items gives c.schema-schema.ensures.live in
     IfErr-weaker c.lines_from.result _ _ (λ e bad. read_failed g.S.Store old c.requires c.args.place c.args.limit c.in_ok-rows.rows.items gives end e bad)
     ((rw c.deref.ensures.value at c.lines_from.ensures.err) each)

@@ -12,8 +12,10 @@ returns-in_err-rows-clause-log g c =
     let old = c.args.conn.now in
     let last = c.rows_after.new.tx.conn.now in
     let end = c.drop-tx.new.self.0 in
-    let kept = subst (λ h. HasCleanDisk (state g.S.Store last) → KeepsCommit (state g.S.Store h) (state g.S.Store last)) c.transaction-tx.ensures.begun c.rows_after.ensures.commit in
-    let it = rolled_back g.S.Store g.met.S.Store.shut_if_dirty old last end c.requires c.drop-tx.ensures.survives.clean kept c.drop-tx.ensures.ended c.drop-tx.ensures.undone in
+    let kept = subst (λ h. HasCleanDisk (state g.S.Store last) → KeepsCommit (state g.S.Store h) (state g.S.Store last)) c.transaction-tx.ensures.begun
+    c.rows_after.ensures.commit in
+    let it = rolled_back g.S.Store g.met.S.Store.shut_if_dirty old last end c.requires c.drop-tx.ensures.survives.clean kept c.drop-tx.ensures.ended
+    c.drop-tx.ensures.undone in
     let same : end ≡ c.conn-1.given.0 = search rules in
     subst (IsLog g.S.Store) same (kept_log g.S.Store old end c.requires it)
 
@@ -22,8 +24,10 @@ returns-in_err-rows-clause-committed g c =
     let old = c.args.conn.now in
     let last = c.rows_after.new.tx.conn.now in
     let end = c.drop-tx.new.self.0 in
-    let kept = subst (λ h. HasCleanDisk (state g.S.Store last) → KeepsCommit (state g.S.Store h) (state g.S.Store last)) c.transaction-tx.ensures.begun c.rows_after.ensures.commit in
-    let it = rolled_back g.S.Store g.met.S.Store.shut_if_dirty old last end c.requires c.drop-tx.ensures.survives.clean kept c.drop-tx.ensures.ended c.drop-tx.ensures.undone in
+    let kept = subst (λ h. HasCleanDisk (state g.S.Store last) → KeepsCommit (state g.S.Store h) (state g.S.Store last)) c.transaction-tx.ensures.begun
+    c.rows_after.ensures.commit in
+    let it = rolled_back g.S.Store g.met.S.Store.shut_if_dirty old last end c.requires c.drop-tx.ensures.survives.clean kept c.drop-tx.ensures.ended
+    c.drop-tx.ensures.undone in
     let same : end ≡ c.conn-1.given.0 = search rules in
     subst (λ h. IsOpen g.S.Store h → (state g.S.Store h).committed ≡ (state g.S.Store old).committed) same it.committed
 
@@ -33,13 +37,16 @@ returns-in_err-rows-clause-cause g c =
     let last = c.rows_after.new.tx.conn.now in
     let end = c.drop-tx.new.self.0 in
     let same : end ≡ c.conn-1.given.0 = search rules in
-    let none = subst (λ h. HasCleanDisk (state g.S.Store last) → IsOpen g.S.Store h → IsCaused (state g.S.Store h) (state g.S.Store last) Nothing (fault_of c.in_err-rows.field-0.0)) c.transaction-tx.ensures.begun c.in_err-rows.ensures.cause in
-    subst (λ h. HasCleanDisk (state g.S.Store h) → IsOpen g.S.Store old → IfErr c.from_residual.result (λ e. IsCaused (state g.S.Store old) (state g.S.Store h) Nothing (fault_of e))) same
+    let none = subst (λ h. HasCleanDisk (state g.S.Store last) → IsOpen g.S.Store h → IsCaused (state g.S.Store h) (state g.S.Store last) Nothing
+    (fault_of c.in_err-rows.field-0.0)) c.transaction-tx.ensures.begun c.in_err-rows.ensures.cause in
+    subst (λ h. HasCleanDisk (state g.S.Store h) → IsOpen g.S.Store old
+    → IfErr c.from_residual.result (λ e. IsCaused (state g.S.Store old) (state g.S.Store h) Nothing (fault_of e))) same
     (λ clean up.
     let early : HasCleanDisk (state g.S.Store last) = omega (arith, c.drop-tx.ensures.survives.clean, clean) in
     err_and c.from_residual.result _ _
     (λ e is. subst (λ x. IsCaused (state g.S.Store old) (state g.S.Store end) Nothing (fault_of x)) (sym is)
-    (caused_longer (state g.S.Store old) (state g.S.Store (begun g.S.Store old)) (state g.S.Store last) (state g.S.Store end) Nothing Nothing (λ f h. h) (omega arith)
+    (caused_longer (state g.S.Store old) (state g.S.Store (begun g.S.Store old)) (state g.S.Store last) (state g.S.Store end) Nothing Nothing (λ f h. h)
+    (omega arith)
     c.drop-tx.ensures.survives.counts refl (fault_of c.in_err-rows.field-0.0) (none early up)))
     c.from_residual.ensures.1)
 
@@ -48,8 +55,10 @@ returns-in_err-commit-clause-log g c =
     let old = c.args.conn.now in
     let last = c.rows_after.new.tx.conn.now in
     let end = c.commit.new.self.0 in
-    let still = subst (λ h. HasCleanDisk (state g.S.Store last) → IsUnchanged (state g.S.Store h) (state g.S.Store last)) c.transaction-tx.ensures.begun c.in_ok-rows.ensures.same in
-    let it = read_ends g.S.Store g.met.S.Store.shut_if_dirty old last end c.requires c.commit.ensures.survives.clean still c.commit.ensures.ended c.commit.result c.commit.ensures.ok c.commit.ensures.err in
+    let still = subst (λ h. HasCleanDisk (state g.S.Store last) → IsUnchanged (state g.S.Store h) (state g.S.Store last)) c.transaction-tx.ensures.begun
+    c.in_ok-rows.ensures.same in
+    let it = read_ends g.S.Store g.met.S.Store.shut_if_dirty old last end c.requires c.commit.ensures.survives.clean still c.commit.ensures.ended
+    c.commit.result c.commit.ensures.ok c.commit.ensures.err in
     let same : end ≡ c.conn-2-1.given.0 = search rules in
     subst (IsLog g.S.Store) same (kept_log g.S.Store old end c.requires it)
 
@@ -58,8 +67,10 @@ returns-in_err-commit-clause-committed g c =
     let old = c.args.conn.now in
     let last = c.rows_after.new.tx.conn.now in
     let end = c.commit.new.self.0 in
-    let still = subst (λ h. HasCleanDisk (state g.S.Store last) → IsUnchanged (state g.S.Store h) (state g.S.Store last)) c.transaction-tx.ensures.begun c.in_ok-rows.ensures.same in
-    let it = read_ends g.S.Store g.met.S.Store.shut_if_dirty old last end c.requires c.commit.ensures.survives.clean still c.commit.ensures.ended c.commit.result c.commit.ensures.ok c.commit.ensures.err in
+    let still = subst (λ h. HasCleanDisk (state g.S.Store last) → IsUnchanged (state g.S.Store h) (state g.S.Store last)) c.transaction-tx.ensures.begun
+    c.in_ok-rows.ensures.same in
+    let it = read_ends g.S.Store g.met.S.Store.shut_if_dirty old last end c.requires c.commit.ensures.survives.clean still c.commit.ensures.ended
+    c.commit.result c.commit.ensures.ok c.commit.ensures.err in
     let same : end ≡ c.conn-2-1.given.0 = search rules in
     subst (λ h. IsOpen g.S.Store h → (state g.S.Store h).committed ≡ (state g.S.Store old).committed) same it.committed
 
@@ -68,20 +79,25 @@ returns-in_err-commit-clause-survives g c =
     let old = c.args.conn.now in
     let last = c.rows_after.new.tx.conn.now in
     let end = c.commit.new.self.0 in
-    let still = subst (λ h. HasCleanDisk (state g.S.Store last) → IsUnchanged (state g.S.Store h) (state g.S.Store last)) c.transaction-tx.ensures.begun c.in_ok-rows.ensures.same in
-    let it = read_ends g.S.Store g.met.S.Store.shut_if_dirty old last end c.requires c.commit.ensures.survives.clean still c.commit.ensures.ended c.commit.result c.commit.ensures.ok c.commit.ensures.err in
+    let still = subst (λ h. HasCleanDisk (state g.S.Store last) → IsUnchanged (state g.S.Store h) (state g.S.Store last)) c.transaction-tx.ensures.begun
+    c.in_ok-rows.ensures.same in
+    let it = read_ends g.S.Store g.met.S.Store.shut_if_dirty old last end c.requires c.commit.ensures.survives.clean still c.commit.ensures.ended
+    c.commit.result c.commit.ensures.ok c.commit.ensures.err in
     let same : end ≡ c.conn-2-1.given.0 = search rules in
     let inside = subst (λ h. Survives (state g.S.Store h) (state g.S.Store last) (λ _. ⊥)) c.transaction-tx.ensures.begun c.rows_after.ensures.survives in
     subst (λ h. Survives (state g.S.Store old) (state g.S.Store h) (λ _. ⊥)) same
-    (read_survives g.S.Store g.met.S.Store.shut_if_dirty old last end c.requires c.commit.ensures.survives.clean still g.met.S.Store.stays inside c.commit.ensures.survives)
+    (read_survives g.S.Store g.met.S.Store.shut_if_dirty old last end c.requires c.commit.ensures.survives.clean still g.met.S.Store.stays inside
+    c.commit.ensures.survives)
 
 pub returns-clause-log : goal.returns-clause-log
 returns-clause-log g c =
     let old = c.args.conn.now in
     let last = c.rows_after.new.tx.conn.now in
     let end = c.commit.new.self.0 in
-    let still = subst (λ h. HasCleanDisk (state g.S.Store last) → IsUnchanged (state g.S.Store h) (state g.S.Store last)) c.transaction-tx.ensures.begun c.in_ok-rows.ensures.same in
-    let it = read_ends g.S.Store g.met.S.Store.shut_if_dirty old last end c.requires c.commit.ensures.survives.clean still c.commit.ensures.ended c.commit.result c.commit.ensures.ok c.commit.ensures.err in
+    let still = subst (λ h. HasCleanDisk (state g.S.Store last) → IsUnchanged (state g.S.Store h) (state g.S.Store last)) c.transaction-tx.ensures.begun
+    c.in_ok-rows.ensures.same in
+    let it = read_ends g.S.Store g.met.S.Store.shut_if_dirty old last end c.requires c.commit.ensures.survives.clean still c.commit.ensures.ended
+    c.commit.result c.commit.ensures.ok c.commit.ensures.err in
     let same : end ≡ c.conn-2-1.given.0 = search rules in
     subst (IsLog g.S.Store) same (kept_log g.S.Store old end c.requires it)
 
@@ -90,8 +106,10 @@ returns-clause-committed g c =
     let old = c.args.conn.now in
     let last = c.rows_after.new.tx.conn.now in
     let end = c.commit.new.self.0 in
-    let still = subst (λ h. HasCleanDisk (state g.S.Store last) → IsUnchanged (state g.S.Store h) (state g.S.Store last)) c.transaction-tx.ensures.begun c.in_ok-rows.ensures.same in
-    let it = read_ends g.S.Store g.met.S.Store.shut_if_dirty old last end c.requires c.commit.ensures.survives.clean still c.commit.ensures.ended c.commit.result c.commit.ensures.ok c.commit.ensures.err in
+    let still = subst (λ h. HasCleanDisk (state g.S.Store last) → IsUnchanged (state g.S.Store h) (state g.S.Store last)) c.transaction-tx.ensures.begun
+    c.in_ok-rows.ensures.same in
+    let it = read_ends g.S.Store g.met.S.Store.shut_if_dirty old last end c.requires c.commit.ensures.survives.clean still c.commit.ensures.ended
+    c.commit.result c.commit.ensures.ok c.commit.ensures.err in
     let same : end ≡ c.conn-2-1.given.0 = search rules in
     subst (λ h. IsOpen g.S.Store h → (state g.S.Store h).committed ≡ (state g.S.Store old).committed) same it.committed
 
@@ -100,9 +118,12 @@ returns-clause-survives g c =
     let old = c.args.conn.now in
     let last = c.rows_after.new.tx.conn.now in
     let end = c.commit.new.self.0 in
-    let still = subst (λ h. HasCleanDisk (state g.S.Store last) → IsUnchanged (state g.S.Store h) (state g.S.Store last)) c.transaction-tx.ensures.begun c.in_ok-rows.ensures.same in
-    let it = read_ends g.S.Store g.met.S.Store.shut_if_dirty old last end c.requires c.commit.ensures.survives.clean still c.commit.ensures.ended c.commit.result c.commit.ensures.ok c.commit.ensures.err in
+    let still = subst (λ h. HasCleanDisk (state g.S.Store last) → IsUnchanged (state g.S.Store h) (state g.S.Store last)) c.transaction-tx.ensures.begun
+    c.in_ok-rows.ensures.same in
+    let it = read_ends g.S.Store g.met.S.Store.shut_if_dirty old last end c.requires c.commit.ensures.survives.clean still c.commit.ensures.ended
+    c.commit.result c.commit.ensures.ok c.commit.ensures.err in
     let same : end ≡ c.conn-2-1.given.0 = search rules in
     let inside = subst (λ h. Survives (state g.S.Store h) (state g.S.Store last) (λ _. ⊥)) c.transaction-tx.ensures.begun c.rows_after.ensures.survives in
     subst (λ h. Survives (state g.S.Store old) (state g.S.Store h) (λ _. ⊥)) same
-    (read_survives g.S.Store g.met.S.Store.shut_if_dirty old last end c.requires c.commit.ensures.survives.clean still g.met.S.Store.stays inside c.commit.ensures.survives)
+    (read_survives g.S.Store g.met.S.Store.shut_if_dirty old last end c.requires c.commit.ensures.survives.clean still g.met.S.Store.stays inside
+    c.commit.ensures.survives)

@@ -9,7 +9,8 @@ returns-clause-log g c =
     let end = c.commit.new.self.0 in
     let same : end ≡ c.conn-2-1.given.0 = search rules in
     subst (λ h. OnOk c.commit.result (IsLog g.S.Store h)) same
-    (log_if_ok g.S.Store g.met.S.Store.shut_if_dirty last end c.commit.ensures.survives.clean (λ clean. (c.in_ok-create.ensures.made clean).holds) c.commit.ensures.ended c.commit.result c.commit.ensures.ok)
+    (log_if_ok g.S.Store g.met.S.Store.shut_if_dirty last end c.commit.ensures.survives.clean (λ clean. (c.in_ok-create.ensures.made clean).holds)
+    c.commit.ensures.ended c.commit.result c.commit.ensures.ok)
 
 pub returns-clause-empty : goal.returns-clause-empty
 returns-clause-empty g c =
@@ -17,4 +18,5 @@ returns-clause-empty g c =
     let end = c.commit.new.self.0 in
     let same : end ≡ c.conn-2-1.given.0 = search rules in
     subst (λ h. IsOpen g.S.Store h → OnOk c.commit.result (lines_of g.S.Store h ≡ [])) same
-    (lines_if_ok g.S.Store g.met.S.Store.shut_if_dirty last end [] c.commit.ensures.survives.clean (λ clean. (c.in_ok-create.ensures.made clean).lines) c.commit.result c.commit.ensures.ok)
+    (lines_if_ok g.S.Store g.met.S.Store.shut_if_dirty last end [] c.commit.ensures.survives.clean (λ clean. (c.in_ok-create.ensures.made clean).lines)
+    c.commit.result c.commit.ensures.ok)

@@ -2,7 +2,7 @@ use Rattle.std.proofs.Common.{arith}
 use Rattle.sqlite.proofs.Callers.{memory_is_clean}
 use Rattle.site_records.specs.declared.post.Post.{Post}
 use Rattle.post_tables.specs.Rows.{with_new}
-use Rattle.post_tables.specs.Reading.{shown}
+use Rattle.post_tables.specs.Reading.{post_with_id}
 use Rattle.post_tables.specs.Stored.{IsReadable}
 use Rattle.post_tables.proofs.Statements.{makes}
 use Rattle.post_tables.proofs.Inserting.{insert_text}
@@ -12,7 +12,7 @@ use Rattle.post_tables.proofs.posts.insert_post.Goals as goal
 pub returns : goal.returns
 returns c =
     let end = c.execute.new.self in
-    let post : Post = shown c.args.post.now in
+    let post : Post = post_with_id c.args.post.now in
     let good : IsReadable post = record {
       id = omega arith;
       title = c.as_text.ensures.utf8;

@@ -2,7 +2,7 @@ use Rattle.std.proofs.Common.{arith}
 use Rattle.sqlite.proofs.Callers.{memory_is_clean}
 use Rattle.site_records.specs.declared.post.Post.{Post}
 use Rattle.post_tables.specs.Rows.{with_new}
-use Rattle.post_tables.specs.Reading.{shown}
+use Rattle.post_tables.specs.Reading.{post_with_id}
 use Rattle.post_tables.specs.Stored.{IsReadable}
 use Rattle.post_tables.proofs.Statements.{makes_inside}
 use Rattle.post_tables.proofs.Inserting.{insert_text}
@@ -13,7 +13,7 @@ pub returns-clause-made : goal.returns-clause-made
 returns-clause-made c =
     let begin = c.args.tx.now.conn.now in
     let end = c.execute.new.self.conn.now in
-    let post : Post = shown c.args.post.now in
+    let post : Post = post_with_id c.args.post.now in
     let good : IsReadable post = record {
       id = omega arith;
       title = c.as_text.ensures.utf8;

@@ -3,7 +3,7 @@ use Rattle.std.specs.Prelude.{◌||◌, bytes_eq}
 use Rattle.std.proofs.lemmas.List.{length_push, map_more, take_all}
 use Rattle.std.proofs.lemmas.List.Folds.{list_any_more}
 use Rattle.shortcode_scan.specs.Matches.{closing_tag}
-use Rattle.shortcode_scan.specs.Memory.{unsearched}
+use Rattle.shortcode_scan.specs.Memory.{nothing_searched}
 use Rattle.shortcode_scan.proofs.MemoryLemmas.{closings_more, tag_name-some, unsearched_bracket}
 use Rattle.shortcode_scan.proofs.ahead.first_memory.Goals as goal
 
@@ -23,7 +23,7 @@ loop-name-preserved c =
           ∙ ap (λ n. bytes_eq n []) (sym c.name-item.is) ∙ some;
       tags = tags ∙ ap (λ ts. ts ++ closing_tag name ∷ []) before.tags ∙ ap (λ n. map closing_tag (take i names) ++ closing_tag n ∷ []) c.name-item.is
           ∙ sym (map_more closing_tag names i name c.loop-name-test.true);
-      count = ap length closings ∙ length_push c.loop-name.closings.items (unsearched text) ∙ ap (λ n. n + 1) before.count;
+      count = ap length closings ∙ length_push c.loop-name.closings.items (nothing_searched text) ∙ ap (λ n. n + 1) before.count;
       closings = closings_more text names c.loop-name.closings.items c.push_search.new.closings.items name i c.loop-name-test.true c.name-item.is before.count
           closings before.closings;
     }

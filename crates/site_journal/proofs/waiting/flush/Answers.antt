@@ -10,7 +10,8 @@ loop-sink-preserved g c =
     let contents = g.W.Sink.contents in
     let i = c.loop-sink.invariant in
     let steady = g.met.W.Steady.steady c.loop-sink.sink ∙ sym (g.met.W.Steady.steady c.write.new.self) in
-    let front = subst (λ bytes. Appends (contents c.loop-sink.sink) (contents c.write.new.self) (take c.in_ok-taken.taken bytes)) c.deref.ensures.value c.in_ok-taken.ensures.bytes in
+    let front = subst (λ bytes. Appends (contents c.loop-sink.sink) (contents c.write.new.self) (take c.in_ok-taken.taken bytes)) c.deref.ensures.value
+    c.in_ok-taken.ensures.bytes in
     record {
       same = ap (append_known (contents c.write.new.self)) c.remove.ensures.rest
           ∙ written_front (contents c.loop-sink.sink) (contents c.write.new.self) c.loop-sink.waiting.bytes.items c.in_ok-taken.taken steady front ∙ i.same;

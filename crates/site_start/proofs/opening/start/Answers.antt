@@ -113,7 +113,8 @@ returns-clause-replayed g c = λ clean.
     (lines_left store c.read_batch.new.self c.in_ok-first.first.next)) intro.setup
     ∙ ap (λ site. site_after (steps_of g.P.Stated.says g.P.Stated.number (setup_of c.args.site.now)) site
     (lines_left store c.read_batch.new.self c.in_ok-first.first.next)) intro.done
-    ∙ ap (site_after (steps_of g.P.Stated.says g.P.Stated.number (setup_of c.args.site.now)) (steps_of g.P.Stated.says g.P.Stated.number (setup_of c.args.site.now) old c.as_str.result.now).0)
+    ∙ ap (site_after (steps_of g.P.Stated.says g.P.Stated.number (setup_of c.args.site.now))
+    (steps_of g.P.Stated.says g.P.Stated.number (setup_of c.args.site.now) old c.as_str.result.now).0)
     left
     ∙ ap (site_after (steps_of g.P.Stated.says g.P.Stated.number (setup_of c.args.site.now)) old) (sym (still g c up early ∙ first_read g c early)))
     (c.replay.ensures.done clean) (c.replay.ensures.opened clean)

@@ -12,6 +12,7 @@ invariant-loop-line g l =
     let seen = state_of g.P.Stated.says g.P.Stated.number in
     record {
       setup : setup_of l.site ≡ setup_of l.fn.site;
-      done : seen l.site ≡ site_after (steps_of g.P.Stated.says g.P.Stated.number (setup_of l.fn.site)) (seen l.fn.site) (map string_bytes (take l.line-index l.lines));
+      done : seen l.site ≡ site_after (steps_of g.P.Stated.says g.P.Stated.number (setup_of l.fn.site)) (seen l.fn.site)
+          (map string_bytes (take l.line-index l.lines));
       edits : AreEdits (map string_bytes (take l.line-index l.lines));
     }

@@ -59,14 +59,19 @@ batches-preserved g c =
     let lines = map string_bytes c.in_ok-batch.batch.lines.items in
     record {
       setup = did.setup ∙ i.setup;
-      survives = survives_then (state store first) (state store mid) (state store new) _ _ (λ _. ⊥) (λ _ db none. none) (λ _ db none. none) i.survives read.survives;
+      survives = survives_then (state store first) (state store mid) (state store new) _ _ (λ _. ⊥) (λ _ db none. none) (λ _ db none. none) i.survives
+          read.survives;
       same = λ clean. read.committed (read.stays clean) ∙ i.same (clean_before store mid new _ read.survives clean);
       done = λ clean.
           let before = i.done (clean_before store mid new _ read.survives clean) in
           let left = ap (λ d. lines_after c.in_ok-batch.batch.next d.trees) (read.committed (read.stays clean)) ∙ read.left clean in
-          let made = did.done ∙ ap (λ setup. site_after (steps_of g.P.Stated.says g.P.Stated.number setup) (seen c.batches.site) (map string_bytes c.deref.result.now)) i.setup
-          ∙ ap (λ xs. site_after (steps_of g.P.Stated.says g.P.Stated.number (setup_of c.args.site.now)) (seen c.batches.site) (map string_bytes xs)) c.deref.ensures.value in
-          batch_more (steps_of g.P.Stated.says g.P.Stated.number (setup_of c.args.site.now)) (seen c.args.site.now) (seen c.batches.site) (seen c.redo_all.new.site) (lines_left store first c.args.first)
-          before.0 (lines_left store mid c.batches.place) lines (lines_left store new c.in_ok-batch.batch.next) 1000 before.1 before.2 before.3 (read.ok clean) left made
+          let made = did.done ∙ ap (λ setup. site_after (steps_of g.P.Stated.says g.P.Stated.number setup) (seen c.batches.site)
+          (map string_bytes c.deref.result.now)) i.setup
+          ∙ ap (λ xs. site_after (steps_of g.P.Stated.says g.P.Stated.number (setup_of c.args.site.now)) (seen c.batches.site) (map string_bytes xs))
+          c.deref.ensures.value in
+          batch_more (steps_of g.P.Stated.says g.P.Stated.number (setup_of c.args.site.now)) (seen c.args.site.now) (seen c.batches.site)
+          (seen c.redo_all.new.site) (lines_left store first c.args.first)
+          before.0 (lines_left store mid c.batches.place) lines (lines_left store new c.in_ok-batch.batch.next) 1000 before.1 before.2 before.3
+          (read.ok clean) left made
           (subst (λ xs. AreEdits (map string_bytes xs)) c.deref.ensures.value did.edits);
     }

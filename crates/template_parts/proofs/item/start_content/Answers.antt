@@ -2,7 +2,7 @@ use Rattle.std.proofs.Common.{[], codes, refl}
 use Rattle.hook_machine.specs.Runs.{engine_of, world_of}
 use Rattle.hook_machine.proofs.Going.{leads_here}
 use Rattle.page_escapes.specs.Escapes.{ends_escaped}
-use Rattle.template_parts.specs.Pages.{printed, content_pass, shown_pass}
+use Rattle.template_parts.specs.Pages.{print_text, content_pass, shown_pass}
 use Rattle.template_parts.proofs.Moving.{begins_after, shown_passed_over}
 use Rattle.template_parts.proofs.item.start_content.Goals as goal
 
@@ -15,7 +15,7 @@ returns-then-branch g c =
     let content = post.content in
     let later = c.pass_over.new.self in
     begins_after c.args.run.now later c.print_ends_escaped.result c.print_ends_escaped.new.run (λ engine world. content_pass engine settings post world)
-    (λ engine world. printed world (ends_escaped content)) c.in_ok-pass_over.ensures.keeps.engine
+    (λ engine world. print_text world (ends_escaped content)) c.in_ok-pass_over.ensures.keeps.engine
     (shown_passed_over engine settings (world_of c.args.run.now) (world_of later) ends_escaped (codes "the_content") content []
     (rw c.as_str.ensures at (c.in_ok-pass_over.ensures.passed c.requires.0 c.if-branch.true [])))
     (rw c.as_str-then-branch.ensures at c.print_ends_escaped.ensures)

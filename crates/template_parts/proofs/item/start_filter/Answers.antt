@@ -8,7 +8,8 @@ pub returns : goal.returns
 returns g c =
     let engine = engine_of g.S.Stated.says g.S.Stated.number c.args.run.now in
     let begun =
-    filter_begun engine c.args.settings.now (world_of c.args.run.now) (world_of c.start.new.self) c.args.shown (core_name c.args.hook) c.core-hook.result c.args.value
+    filter_begun engine c.args.settings.now (world_of c.args.run.now) (world_of c.start.new.self) c.args.shown (core_name c.args.hook) c.core-hook.result
+    c.args.value
     c.args.args (left_of engine c.start.new.self) c.core-hook.ensures c.in_ok-start.ensures.started in
     record {
       begun = (begun, c.in_ok-start.ensures.keeps.sound, busy (Printed c.args.shown));

@@ -1,6 +1,6 @@
 use Rattle.std.proofs.Common.{Option, Err, sym, subst}
 use Rattle.template_parts.specs.declared.item.Hand.{Hand}
-use Rattle.template_parts.specs.Left.{Moves, begun, then_items, run_left}
+use Rattle.template_parts.specs.Left.{Moves, job_or_nothing, then_items, run_left}
 use Rattle.hook_machine.specs.Runs.{world_of, engine_of, left_of}
 use Rattle.std.proofs.lemmas.Result.{err_from_is_err_and}
 use Rattle.hook_machine.proofs.Going.{leads_here}
@@ -33,9 +33,10 @@ returns-in_err-go_on-in-Some-clause-moves g c =
     let items = items_left settings c.args.posts.now c.args.ahead.now.steps in
     let now = run_left engine settings c.args.posts.now c.go_on.new.self c.args.ahead.now in
     rw (p.1, p.2) (subst (λ (hand : Option Hand). Moves c.args.pace
-    (then_items engine settings (begun (world_of c.args.run.now) (left_of engine c.args.run.now) hand) items) (Err c.in_err-go_on-in-Some.field-0.0)
+    (then_items engine settings (job_or_nothing (world_of c.args.run.now) (left_of engine c.args.run.now) hand) items) (Err c.in_err-go_on-in-Some.field-0.0)
     (world_of c.go_on.new.self) now) (sym c.in-Some.is) (refused_move engine settings c.in-Some.hand items (world_of c.args.run.now) c.args.pace
-    (left_of engine c.args.run.now) (left_of engine c.go_on.new.self) c.in_err-go_on-in-Some.field-0.0 (world_of c.go_on.new.self) (world_of c.go_on.new.self) now
+    (left_of engine c.args.run.now) (left_of engine c.go_on.new.self) c.in_err-go_on-in-Some.field-0.0 (world_of c.go_on.new.self) (world_of c.go_on.new.self)
+    now
     (c.in_err-go_on-in-Some.ensures.turns c.requires.sound)))
 
 -- it has made an invocation

@@ -12,4 +12,5 @@ returns-in-Ok-clause-alone g c clean =
 pub returns-in-Err-clause-cause : goal.returns-in-Err-clause-cause
 returns-in-Err-clause-cause g c clean =
     subst (IsCloseFault c.args.self c.in-Err.store) (sym c.into.ensures)
-    (subst (λ h. IsCloseFault h c.in-Err.store (fault_of c.in-Err.error)) c.self.view_is (close_fault c.self.inside.conn c.in-Err.store c.in-Err.error (c.in-Err.ensures.err.1 clean)))
+    (subst (λ h. IsCloseFault h c.in-Err.store (fault_of c.in-Err.error)) c.self.view_is (close_fault c.self.inside.conn c.in-Err.store c.in-Err.error
+    (c.in-Err.ensures.err.1 clean)))

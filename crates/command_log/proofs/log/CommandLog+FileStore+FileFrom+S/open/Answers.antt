@@ -10,7 +10,8 @@ over-requires-clause-orderly g c = orderly_if_open c.in-Ok.conn (image_at g.S.St
 
 pub returns : goal.returns
 returns g c = record {
-  found = finds_over c.in-Ok.conn (image_at g.S.Start) _ c.in-Ok.ensures.found c.in-Ok.ensures.opened c.over.result c.over.ensures.lines c.over.ensures.survives;
+  found = finds_over c.in-Ok.conn (image_at g.S.Start) _ c.in-Ok.ensures.found c.in-Ok.ensures.opened c.over.result c.over.ensures.lines
+      c.over.ensures.survives;
   read = reads_over c.in-Ok.conn (image_at g.S.Start) _ c.in-Ok.ensures.found c.in-Ok.ensures.opened c.over.result c.over.ensures.lines c.over.ensures.survives;
   opened = opened_over c.in-Ok.conn (image_at g.S.Start) _ c.in-Ok.ensures.opened c.over.result c.over.ensures.stays c.over.ensures.survives;
   other = λ none. (c.in-Ok.conn, c.over.ensures.other.0 none, c.in-Ok.ensures.found);

@@ -9,7 +9,9 @@ use Rattle.command_log.proofs.log.CommandLog.read.Goals as goal
 pub returns-in_err-lines-clause-cause : goal.returns-in_err-lines-clause-cause
 returns-in_err-lines-clause-cause g c clean up =
     let end = c.read_after.new.conn in
-    let why = subst (λ h. HasCleanDisk (state g.S.Store end) → IsOpen g.S.Store h → IsCaused (state g.S.Store h) (state g.S.Store end) (Unreadable (lines_of g.S.Store h)) (fault_of c.in_err-lines.field-0.0))
+    let why = subst (λ h. HasCleanDisk (state g.S.Store end) → IsOpen g.S.Store h → IsCaused (state g.S.Store h) (state g.S.Store end)
+    (Unreadable (lines_of g.S.Store h)) (fault_of c.in_err-lines.field-0.0))
     c.self.view_is c.in_err-lines.ensures.cause in
     err_and c.from_residual.result _ _
-    (λ f is. subst (IsCaused (state g.S.Store c.args.self.now) (state g.S.Store end) (Unreadable (lines_of g.S.Store c.args.self.now))) (sym is) (why clean up)) c.from_residual.ensures.1
+    (λ f is. subst (IsCaused (state g.S.Store c.args.self.now) (state g.S.Store end) (Unreadable (lines_of g.S.Store c.args.self.now))) (sym is) (why clean up))
+    c.from_residual.ensures.1

@@ -9,7 +9,9 @@ use Rattle.command_log.proofs.log.CommandLog.read_batch.Goals as goal
 pub returns-in_err-lines-clause-cause : goal.returns-in_err-lines-clause-cause
 returns-in_err-lines-clause-cause g c clean up =
     let end = c.read_after.new.conn in
-    let why = subst₂ (λ h p. HasCleanDisk (state g.S.Store end) → IsOpen g.S.Store h → IsCaused (state g.S.Store h) (state g.S.Store end) (Unreadable (lines_left g.S.Store h p)) (fault_of c.in_err-lines.field-0.0))
+    let why = subst₂ (λ h p. HasCleanDisk (state g.S.Store end) → IsOpen g.S.Store h → IsCaused (state g.S.Store h) (state g.S.Store end)
+    (Unreadable (lines_left g.S.Store h p)) (fault_of c.in_err-lines.field-0.0))
     c.self.view_is c.last.ensures c.in_err-lines.ensures.cause in
     err_and c.from_residual.result _ _
-    (λ f is. subst (IsCaused (state g.S.Store c.args.self.now) (state g.S.Store end) (Unreadable (lines_left g.S.Store c.args.self.now c.args.place))) (sym is) (why clean up)) c.from_residual.ensures.1
+    (λ f is. subst (IsCaused (state g.S.Store c.args.self.now) (state g.S.Store end) (Unreadable (lines_left g.S.Store c.args.self.now c.args.place))) (sym is)
+    (why clean up)) c.from_residual.ensures.1

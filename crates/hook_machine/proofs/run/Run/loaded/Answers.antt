@@ -9,7 +9,7 @@ use Rattle.hook_machine.proofs.run.Run.loaded.Goals as goal
 pub returns-clause-world : goal.returns-clause-world
 returns-clause-world g c =
     let plugins = shapes_of g.S.Stated.number c.args.plugins.now in
-    let active = c.args.active.now in
-    let load = c.in_ok-loaded.ensures ∙ ap (map load_change) c.deref.ensures.value ∙ c.in_ok-load.ensures in
-    c.share.ensures ∙ (λ i. with_tables (c.in_ok-run.ensures.world i) (load_left (load i)))
-    ∙ sym (loaded_carries plugins (fresh c.args.calls c.args.options.now active))
+    let active = c.args.active in
+    let load = c.in_ok-loaded.ensures ∙ ap (map load_change) c.deref.ensures.value ∙ rw c.as_slice.ensures at c.in_ok-load.ensures in
+    c.share.ensures ∙ (λ i. with_tables (c.over-run.ensures.world i) (load_left (load i)))
+    ∙ sym (loaded_carries plugins (fresh c.args.calls c.args.options active))

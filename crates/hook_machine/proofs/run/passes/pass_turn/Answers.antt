@@ -15,7 +15,8 @@ use Rattle.hook_machine.proofs.run.passes.pass_turn.Goals as goal
 pub returns-in-None-clause-moves : goal.returns-in-None-clause-moves
 returns-in-None-clause-moves g c =
     let engine = engine_over g.S.Stated.says g.S.Stated.number c.args.plugins.now in
-    rw (c.keep_pass.ensures, c.take_value-value.ensures.value, c.in_ok-next.ensures.moved) (moves_then engine (Ok (Handed c.entries.pass.value)) c.leave.new.self c.entries.stack
+    rw (c.keep_pass.ensures, c.take_value-value.ensures.value, c.in_ok-next.ensures.moved)
+    (moves_then engine (Ok (Handed c.entries.pass.value)) c.leave.new.self c.entries.stack
     c.entries.invariant.leads (leave_moves engine c.entries.state c.leave.new.self c.entries.pass c.entries.stack
     (sym c.in-None.is ∙ c.in_ok-next.ensures.entry) c.leave.ensures))
 
@@ -46,7 +47,8 @@ entries-preserved g c =
           c.in-Answered.answer (pass_left engine c.invoke.new.state c.hand_in_turn.new.self)
           (rw (c.next_invocation.ensures.state, c.in-Answered.is) at c.in_ok-went-in-Some.ensures.invokes)
           (rw c.in-Answered.is at c.in_ok-went-in-Some.ensures.may)
-          (pass_handed engine c.invoke.new.state c.next_invocation.new.pass c.hand_in_turn.new.self c.in-Answered.answer c.in_ok-hand_in_turn-in-Answered.ensures));
+          (pass_handed engine c.invoke.new.state c.next_invocation.new.pass c.hand_in_turn.new.self c.in-Answered.answer
+          c.in_ok-hand_in_turn-in-Answered.ensures));
     }
 
 pub returns-in-Waits-clause-moves : goal.returns-in-Waits-clause-moves

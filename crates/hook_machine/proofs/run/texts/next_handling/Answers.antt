@@ -12,7 +12,8 @@ loop-piece-preserved c =
       same = λ inv. c.loop-piece.invariant.same inv ∙ piece_shown inv c.args.state.now c.args.parts.now.cut.text c.text-whole.result.now
           c.loop-piece.parts.so_far
           c.loop-piece.parts.cut.pieces c.take_first.new.self.pieces c.in-Some.piece c.in_ok-work.work c.in-Shown.span c.push_str.new.self
-          (c.text-whole.ensures ∙ c.take_first.ensures.text ∙ c.loop-piece.invariant.text) c.in-Some.ensures.taken (rw c.loop-piece.invariant.state at (c.in_ok-work.ensures.work inv))
+          (c.text-whole.ensures ∙ c.take_first.ensures.text ∙ c.loop-piece.invariant.text) c.in-Some.ensures.taken
+          (rw c.loop-piece.invariant.state at (c.in_ok-work.ensures.work inv))
           c.in-Shown.is (c.in_ok-push_str-in-Shown.ensures.ok ∙ ap (λ t. c.loop-piece.parts.so_far ++ t) c.text_at.ensures);
     }
 

@@ -32,7 +32,8 @@ returns-then-filters_shortcodes-clause-moves g c =
     let goes = text_invokes engine c.pieces.state c.pieces.pass c.next_handling.new.self c.in_ok-next_handling.field-0 c.in-Some.handling
     c.in_ok-next_handling.ensures.found c.in-Some.is c.next_handling.ensures.same (rw c.in-Some.is at c.in_ok-next_handling.ensures.hand) in
     let later = record c.in-Answered.invoked { pending = Next (next.Answer c.in-Answered.answer) } in
-    rw c.filters_shortcodes.ensures.same (put_moves engine _ c.filter_later.result c.invoke.new.state (frame.Invocation later ∷ frame.Shortcodes c.next_handling.new.self ∷ c.pieces.stack)
+    rw c.filters_shortcodes.ensures.same (put_moves engine _ c.filter_later.result c.invoke.new.state (frame.Invocation later
+    ∷ frame.Shortcodes c.next_handling.new.self ∷ c.pieces.stack)
     c.filter_later.new.stack c.filter_later.ensures.ok c.filter_later.ensures.err
     (goes_waiting engine (then_rest engine (text_left engine c.args.state.now c.args.pass) c.args.stack.now) (text_left engine c.pieces.state c.pieces.pass)
     c.pieces.state c.in-Some.handling.invoked.callback c.in-Some.handling.invoked.call (frame.Shortcodes c.next_handling.new.self) c.pieces.stack goes
@@ -48,7 +49,8 @@ pieces-preserved g c =
     c.in_ok-next_handling.ensures.found c.in-Some.is c.next_handling.ensures.same (rw c.in-Some.is at c.in_ok-next_handling.ensures.hand) in
     record {
       frames = c.pieces.invariant.frames;
-      leads = rw (c.keep_spare.ensures, c.filters_shortcodes.ensures.same) (goes_over engine (then_rest engine (text_left engine c.args.state.now c.args.pass) c.args.stack.now)
+      leads = rw (c.keep_spare.ensures, c.filters_shortcodes.ensures.same)
+          (goes_over engine (then_rest engine (text_left engine c.args.state.now c.args.pass) c.args.stack.now)
           (text_left engine c.pieces.state c.pieces.pass) c.pieces.state c.in-Some.handling.invoked.callback
           c.in-Some.handling.invoked.call (frame.Shortcodes c.next_handling.new.self) c.pieces.stack goes c.pieces.invariant.leads c.invoke.new.state
           c.in-Answered.answer (text_left engine c.invoke.new.state c.append.new.self)

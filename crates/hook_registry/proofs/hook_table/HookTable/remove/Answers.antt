@@ -10,7 +10,7 @@ returns-in-Some-get_index_mut-clause-removed c =
     let priority = simp (to_z-of_z, c.ranges.priority) at c.new.ensures in
     rw (← c.self.view_is, ← c.as_str.ensures.text)
     (keeping-at (λ r. not (is_of c.args.priority c.args.callback r)) c.as_str.result.now c.self.inside.hooks.entries c.in-Some.at c.remove.new.self
-    c.in-Some-get_index_mut.list.now
+    c.in-Some-get_index_mut.groups.now
     (is_first_at c.as_str.result.now c.self.inside.hooks.entries c.in-Some.at (sym c.in-Some.ensures.index)) (sym c.in-Some-get_index_mut.ensures.value)
     (rw priority at c.remove.ensures.removed))
 
@@ -20,8 +20,8 @@ returns-in-Some-get_index_mut-clause-there c =
     rw (← c.self.view_is, ← c.as_str.ensures.text)
     ((rw priority at c.remove.ensures.there)
     ∙ ap (list_any (is_of c.args.priority c.args.callback))
-    (registrations-found c.as_str.result.now c.self.inside.hooks.entries c.in-Some-get_index_mut.list.now
-    (found_at c.as_str.result.now c.self.inside.hooks.entries c.in-Some.at c.in-Some-get_index_mut.list.now c.in-Some.ensures.index
+    (registrations-found c.as_str.result.now c.self.inside.hooks.entries c.in-Some-get_index_mut.groups.now
+    (found_at c.as_str.result.now c.self.inside.hooks.entries c.in-Some.at c.in-Some-get_index_mut.groups.now c.in-Some.ensures.index
     c.in-Some-get_index_mut.ensures.value)))
 
 pub returns-in-None-clause-removed : goal.returns-in-None-clause-removed

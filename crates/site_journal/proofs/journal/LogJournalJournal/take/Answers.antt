@@ -2,7 +2,7 @@ use Rattle.std.proofs.Common.{map, subst, sym}
 use Rattle.std.specs.String.{string_bytes}
 use Rattle.std.specs.Io.KnownBytes.{append_known}
 use Rattle.ends.specs.Known.{AppendsFront}
-use Rattle.site_journal.specs.Known.{known}
+use Rattle.site_journal.specs.Known.{known_lines}
 use Rattle.site_journal.proofs.Taking.{Grows-nil, front_waits, whole_waits, on_err}
 use Rattle.site_journal.proofs.journal.LogJournalJournal.take.Goals as goal
 
@@ -10,15 +10,17 @@ use Rattle.site_journal.proofs.journal.LogJournalJournal.take.Goals as goal
 pub returns-in-Err-clause-part : goal.returns-in-Err-clause-part
 returns-in-Err-clause-part g c =
     let old = c.args.self.now in
-    front_waits (g.W.Sink.contents old.sink) old.waiting.bytes.items c.write_to-2.new.writer.bytes.items (g.M.Message.bytes c.args.message.now) c.in-Err.ensures.part
+    front_waits (g.W.Sink.contents old.sink) old.waiting.bytes.items c.write_to-2.new.writer.bytes.items (g.M.Message.bytes c.args.message.now)
+    c.in-Err.ensures.part
 
 pub returns-in-Err-clause-noted : goal.returns-in-Err-clause-noted
-returns-in-Err-clause-noted g c = Grows-nil (known g.S.Store c.args.self.now.log (map string_bytes c.args.self.now.lines.items))
+returns-in-Err-clause-noted g c = Grows-nil (known_lines g.S.Store c.args.self.now.log (map string_bytes c.args.self.now.lines.items))
 
 -- the reply was taken, and then what waits was let out
 pub returns-clause-part : goal.returns-clause-part
 returns-clause-part g c =
     let old = c.args.self.now in
     let bytes = g.M.Message.bytes c.args.message.now in
-    on_err c.settle.result (subst (λ now. AppendsFront (append_known (g.W.Sink.contents old.sink) old.waiting.bytes.items) now bytes) (sym c.settle.ensures.contents)
+    on_err c.settle.result (subst (λ now. AppendsFront (append_known (g.W.Sink.contents old.sink) old.waiting.bytes.items) now bytes)
+    (sym c.settle.ensures.contents)
     (whole_waits (g.W.Sink.contents old.sink) old.waiting.bytes.items c.write_to-2.new.writer.bytes.items bytes c.in_default.ensures.ok))

@@ -10,14 +10,16 @@ pub returns-in_default-clause-carried : goal.returns-in_default-clause-carried
 returns-in_default-clause-carried g c =
     let engine = engine_of g.S.Stated.says g.S.Stated.number c.args.self.now in
     let full = position-places_of engine c.args.state.now.pages ∙ sym c.free_place.ensures.place ∙ none_of c.free_place.result c.in_default.not-Some in
-    begun-full engine (calls_of c.args.self.now) (seen_by g.S.Stated.says g.S.Stated.number c.args.self.now c.args.state.now) c.args.path.now c.if-path-gt-MAX_PATH.false full
+    begun-full engine (calls_of c.args.self.now) (seen_by g.S.Stated.says g.S.Stated.number c.args.self.now c.args.state.now) c.args.path.now
+    c.if-path-gt-MAX_PATH.false full
 
 pub returns-in_err-page-clause-carried : goal.returns-in_err-page-clause-carried
 returns-in_err-page-clause-carried g c =
     let engine = engine_of g.S.Stated.says g.S.Stated.number c.args.self.now in
     let free = position-places_of engine c.args.state.now.pages ∙ sym c.free_place.ensures.place ∙ c.in-Some.is in
     let p = err_from_is_err_and c.from_residual.result c.from_residual.ensures.1 in
-    rw (p.1, p.2) (begun-stopped engine (calls_of c.args.self.now) (seen_by g.S.Stated.says g.S.Stated.number c.args.self.now c.args.state.now) c.args.path.now c.if-path-gt-MAX_PATH.false
+    rw (p.1, p.2) (begun-stopped engine (calls_of c.args.self.now) (seen_by g.S.Stated.says g.S.Stated.number c.args.self.now c.args.state.now) c.args.path.now
+    c.if-path-gt-MAX_PATH.false
     c.in-Some.place _ _ free (rows_seen _ _ (places_of engine c.args.state.now.pages) c.page_at.ensures.same) c.in_err-page.ensures.stopped)
 
 pub returns-clause-carried : goal.returns-clause-carried
@@ -27,4 +29,5 @@ returns-clause-carried g c =
     let free = position-places_of engine c.args.state.now.pages ∙ sym c.free_place.ensures.place ∙ c.in-Some.is in
     let is = put_seen engine c.args.state.now.stored c.page_at.new.stored c.args.state.now.pages c.put.new.self c.in-Some.place
     c.page_at.ensures.same c.in_ok-page.page (requested engine calls c.args.state.now.stored c.args.path.now) c.put.ensures c.in_ok-page.ensures.ok in
-    begun-in engine calls (seen_by g.S.Stated.says g.S.Stated.number c.args.self.now c.args.state.now) c.args.path.now c.if-path-gt-MAX_PATH.false c.in-Some.place _ free is
+    begun-in engine calls (seen_by g.S.Stated.says g.S.Stated.number c.args.self.now c.args.state.now) c.args.path.now c.if-path-gt-MAX_PATH.false
+    c.in-Some.place _ free is

@@ -9,9 +9,10 @@ returns-clause-ok g c =
     let engine = engine_of g.S.Stated.says g.S.Stated.number c.args.self.now in
     let calls = calls_of c.args.self.now in
     let rows = c.args.stored.now in
-    let o : c.as_slice-2.result.now ≡ options_of rows = search rules in
+    let o : c.in_ok-options.options ≡ options_of rows = search rules in
     let t : c.in_ok-templates.templates ≡ templates_of rows = search rules in
-    let a : c.as_slice-3.result.now ≡ active_of rows = search rules in
+    let a : c.in_ok-active.active ≡ active_of rows = search rules in
     let f : c.in_ok-found.found ≡ found_by rows c.args.path.now = search rules in
-    requested-is engine calls rows c.args.path.now (opened_as engine c.in_ok-page.field-0) c.in_ok-found.found c.as_slice-2.result.now c.in_ok-templates.templates
-    c.as_slice-3.result.now f o t a c.in_ok-page.ensures.ok
+    requested-is engine calls rows c.args.path.now (opened_as engine c.in_ok-page.field-0) c.in_ok-found.found c.in_ok-options.options
+    c.in_ok-templates.templates
+    c.in_ok-active.active f o t a c.in_ok-page.ensures.ok

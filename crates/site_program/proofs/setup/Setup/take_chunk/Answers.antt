@@ -15,7 +15,8 @@ pub returns-clause-err : goal.returns-clause-err
 returns-clause-err g c =
     let e = c.take_lines-taken.ensures in
     let s = c.settled.ensures in
-    chunk_fault g.W.Journal _ _ _ _ _ _ _ c.args.writer.now c.take_lines-taken.new.writer c.settled.new.writer _ _ s.result e.ok e.err e.waits s.contents c.if-left-before.false
+    chunk_fault g.W.Journal _ _ _ _ _ _ _ c.args.writer.now c.take_lines-taken.new.writer c.settled.new.writer _ _ s.result e.ok e.err e.waits s.contents
+    c.if-left-before.false
 
 pub returns-clause-records : goal.returns-clause-records
 returns-clause-records g c =
@@ -28,4 +29,5 @@ pub returns-clause-stopped : goal.returns-clause-stopped
 returns-clause-stopped g c =
     let e = c.take_lines-taken.ensures in
     let s = c.settled.ensures in
-    chunk_stopped g.W.Journal _ _ _ _ _ _ _ c.args.writer.now c.take_lines-taken.new.writer c.settled.new.writer _ _ e.records e.stopped e.waits s.same s.out s.contents
+    chunk_stopped g.W.Journal _ _ _ _ _ _ _ c.args.writer.now c.take_lines-taken.new.writer c.settled.new.writer _ _ e.records e.stopped e.waits s.same s.out
+    s.contents

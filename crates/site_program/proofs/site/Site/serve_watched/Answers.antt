@@ -81,8 +81,10 @@ returns-in_err-serve_last-clause-stopped g c =
     let same = c.chunks.held.ok.0 in
     let counted = some_of _ (sym c.is_empty.ensures ∙ c.if-not-is_empty.true) in
     let some : 0 < length c.chunks.held.items = omega (arith, same, counted) in
-    let fails = subst (λ line. FailsAt (steps_of g.S.Stated.says g.S.Stated.number c.args.self.now.setup) (seen_by g.S.Stated.says g.S.Stated.number c.args.self.now.setup c.chunks.state) line
-    (g.W.Journal.contents c.chunks.writer) (g.W.Journal.contents c.serve_last.new.writer) (seen_by g.S.Stated.says g.S.Stated.number c.args.self.now.setup c.serve_last.new.state)) c.deref.ensures.value c.in_err-serve_last.ensures.err in
+    let fails = subst (λ line. FailsAt (steps_of g.S.Stated.says g.S.Stated.number c.args.self.now.setup)
+    (seen_by g.S.Stated.says g.S.Stated.number c.args.self.now.setup c.chunks.state) line
+    (g.W.Journal.contents c.chunks.writer) (g.W.Journal.contents c.serve_last.new.writer)
+    (seen_by g.S.Stated.says g.S.Stated.number c.args.self.now.setup c.serve_last.new.state)) c.deref.ensures.value c.in_err-serve_last.ensures.err in
     rw (p.1, p.2, c.in_err-serve_last.ensures.fault) (Stops-from_last _ _ _ _ _ _ _ _ _ _ _ _ read end i.taken i.line some (i.room some) fails)
 
 -- ---- the journal
@@ -106,7 +108,8 @@ returns-in_err-serve_last-clause-ahead g c =
     let same = c.chunks.held.ok.0 in
     let counted = some_of _ (sym c.is_empty.ensures ∙ c.if-not-is_empty.true) in
     let some : 0 < length c.chunks.held.items = omega (arith, same, counted) in
-    λ start. KeepsAhead-last g.W.Journal _ _ _ _ _ _ _ _ _ c.args.writer.now c.chunks.writer c.serve_last.new.writer _ start read end i.recorded i.line some c.deref.ensures.value c.in_err-serve_last.ensures.handled
+    λ start. KeepsAhead-last g.W.Journal _ _ _ _ _ _ _ _ _ c.args.writer.now c.chunks.writer c.serve_last.new.writer _ start read end i.recorded i.line some
+    c.deref.ensures.value c.in_err-serve_last.ensures.handled
 
 pub returns-clause-settled : goal.returns-clause-settled
 returns-clause-settled g c =
@@ -126,7 +129,8 @@ returns-clause-kept g c =
       | then-not-is_empty+in_ok-serve_last w ↦
           let counted = some_of _ (sym c.is_empty.ensures ∙ w.if-not-is_empty.true) in
           let some : 0 < length c.chunks.held.items = omega (arith, same, counted) in
-          rw (w.writer-is, w.self-is) (IsNoted-last g.W.Journal _ _ _ _ _ _ _ _ _ c.args.writer.now c.chunks.writer w.serve_last.new.writer _ read end i.recorded i.line some w.deref.ensures.value w.in_ok-serve_last.ensures.handled)
+          rw (w.writer-is, w.self-is) (IsNoted-last g.W.Journal _ _ _ _ _ _ _ _ _ c.args.writer.now c.chunks.writer w.serve_last.new.writer _ read end
+          i.recorded i.line some w.deref.ensures.value w.in_ok-serve_last.ensures.handled)
       | else-not-is_empty w ↦
           let counted = eqb-true _ _ (sym c.is_empty.ensures ∙ w.if-not-is_empty.false) in
           let none : length c.chunks.held.items ≡ 0 = omega (arith, same, counted) in
@@ -143,7 +147,8 @@ returns-clause-ahead g c =
       | then-not-is_empty+in_ok-serve_last w ↦
           let counted = some_of _ (sym c.is_empty.ensures ∙ w.if-not-is_empty.true) in
           let some : 0 < length c.chunks.held.items = omega (arith, same, counted) in
-          λ start. rw (w.writer-is, w.self-is) (KeepsAhead-last g.W.Journal _ _ _ _ _ _ _ _ _ c.args.writer.now c.chunks.writer w.serve_last.new.writer _ start read end i.recorded i.line some w.deref.ensures.value w.in_ok-serve_last.ensures.handled)
+          λ start. rw (w.writer-is, w.self-is) (KeepsAhead-last g.W.Journal _ _ _ _ _ _ _ _ _ c.args.writer.now c.chunks.writer w.serve_last.new.writer _ start
+          read end i.recorded i.line some w.deref.ensures.value w.in_ok-serve_last.ensures.handled)
       | else-not-is_empty w ↦ λ start. rw (w.writer-is, w.self-is)
           (KeepsAhead-stopped _ _ _ _ _ _ _ _ _ start read (Stopped-at _ _ _ _ _ _ _ _ i.recorded))
     ]
@@ -161,7 +166,8 @@ returns-clause-ok g c =
           let counted = some_of _ (sym c.is_empty.ensures ∙ w.if-not-is_empty.true) in
           let some : 0 < length c.chunks.held.items = omega (arith, same, counted) in
           let ok = w.in_ok-serve_last.ensures.ok in
-          let replied = subst (λ line. IsReply (steps_of g.S.Stated.says g.S.Stated.number c.args.self.now.setup) (seen_by g.S.Stated.says g.S.Stated.number c.args.self.now.setup c.chunks.state) line ok.0
+          let replied = subst (λ line. IsReply (steps_of g.S.Stated.says g.S.Stated.number c.args.self.now.setup)
+          (seen_by g.S.Stated.says g.S.Stated.number c.args.self.now.setup c.chunks.state) line ok.0
           (seen_by g.S.Stated.says g.S.Stated.number c.args.self.now.setup w.serve_last.new.state)) w.deref.ensures.value ok.1 in
           rw (w.writer-is, w.self-is) (ServesAll-from_last _ _ _ _ _ _ _ ok.0 _ _ _ _ _ read end i.taken i.line some (i.room some) replied ok.2)
       | else-not-is_empty w ↦

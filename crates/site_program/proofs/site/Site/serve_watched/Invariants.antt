@@ -15,13 +15,15 @@ invariant-chunks g l =
     record {
       stretch : List ℕ;
       read : Consumes (remaining l.fn.reader) (remaining l.reader) stretch;
-      taken : Takes (steps_of g.S.Stated.says g.S.Stated.number l.fn.self.setup) (seen_by g.S.Stated.says g.S.Stated.number l.fn.self.setup l.fn.self.state) 1000000 stretch (contents l.fn.writer) (contents l.writer)
+      taken : Takes (steps_of g.S.Stated.says g.S.Stated.number l.fn.self.setup) (seen_by g.S.Stated.says g.S.Stated.number l.fn.self.setup l.fn.self.state)
+          1000000 stretch (contents l.fn.writer) (contents l.writer)
           (seen_by g.S.Stated.says g.S.Stated.number l.fn.self.setup l.state) l.left l.held.items;
       line : IsLine l.held.items;
       room : 0 < length l.held.items → 0 < l.left;
       limit : l.state.stored.step_limit ≡ l.fn.self.state.stored.step_limit;
       cache : l.state.cache ≡ l.fn.self.state.cache;
-      recorded : Records g.W.Journal (steps_of g.S.Stated.says g.S.Stated.number l.fn.self.setup) (seen_by g.S.Stated.says g.S.Stated.number l.fn.self.setup l.fn.self.state) stretch l.fn.writer l.writer
+      recorded : Records g.W.Journal (steps_of g.S.Stated.says g.S.Stated.number l.fn.self.setup)
+          (seen_by g.S.Stated.says g.S.Stated.number l.fn.self.setup l.fn.self.state) stretch l.fn.writer l.writer
           (seen_by g.S.Stated.says g.S.Stated.number l.fn.self.setup l.state) l.held.items;
       settled : IsSettled g.W.Journal l.fn.writer → IsSettled g.W.Journal l.writer;
       reader_sound : g.R.Source.has_failed l.reader ≡ false;

@@ -1,8 +1,8 @@
 use Rattle.std.proofs.Common.{◌≡◌, ◌++◌, map, drop}
-use Rattle.hook_machine.specs.Loads.{all_carried, core_load, load_change}
+use Rattle.hook_machine.specs.Loads.{registered_after_all, core_load, load_change}
 use Rattle.hook_machine.proofs.state.tables.RunTables.load.Given as goal
 
 -- carrying out the changes that are left leads to where the whole load leads
 abbrev pub invariant-loop-change : goal.invariant-loop-change
-invariant-loop-change l = all_carried l.self (map load_change (drop l.change-index l.load))
-    ≡ all_carried l.fn.self (core_load ++ map load_change l.load)
+invariant-loop-change l = registered_after_all l.self (map load_change (drop l.change-index l.load))
+    ≡ registered_after_all l.fn.self (core_load ++ map load_change l.load)

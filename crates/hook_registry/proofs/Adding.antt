@@ -1,0 +1,62 @@
+-- An entry added to those of its priority.
+use Rattle.std.proofs.Common.{◌≡◌, ℕ, ℤ, zero, suc, ◌<◌, true, false, true≢false, Bool, ◌||◌, ◌∙◌, List, [], ◌∷◌, ◌++◌, set, length, get_or, refl, ap}
+use Rattle.std.proofs.Common.{subst, sym, arith}
+use Rattle.std.specs.Prelude.{◌==◌, not, filter, Option, None, Some, IfSome, MatchOption}
+use Rattle.std.specs.Ordering.{int_eq}
+use Rattle.std.specs.List.{AllWithin, list_any}
+use Rattle.hook_registry.specs.Table.{is_of}
+use Rattle.hook_registry.specs.Groups.{registrations_at}
+use Rattle.hook_registry.specs.declared.registration.Entry.{Entry}
+use Rattle.hook_registry.specs.Entries.{with_entry, is_by}
+
+pub none_of : (a b : Bool) → (a || b) ≡ false → (a ≡ false) × (b ≡ false)
+none_of true b f = absurd (true≢false f)
+none_of false b f = (refl, f)
+
+entries_any : (p q : ℤ) (c : ℕ) (es : List Entry) → int_eq q p ≡ true
+    → list_any (is_of p c) (registrations_at q es) ≡ list_any (λ (e : Entry). e.callback == c) es
+entries_any p q c [] t = refl
+entries_any p q c (e ∷ es) t = rw t (ap (λ b. e.callback == c || b) (entries_any p q c es t))
+
+module _ (new : Entry) where
+  -- another callback's
+  abbrev pub IsOther : Entry → Type 0
+  IsOther e = (e.callback == new.callback) ≡ false
+
+  later : (x : Entry) (xs : List Entry) (i : ℕ) → AllWithin IsOther (x ∷ xs) 0 (suc i) → AllWithin IsOther xs 0 i
+  later x xs i f k d l h = f (suc k) d (omega arith) (omega arith)
+
+  pub entry-there : (es : List Entry) (at : ℕ) (e m : Entry) → at < length es → AllWithin IsOther es 0 at → e ≡ get_or es at e → m ≡ get_or es at m
+      → (e.callback == new.callback) ≡ true
+      → set es at (record m { accepted = new.accepted }) ≡ with_entry es new
+  entry-there [] at e m h f u v t = absurd (omega arith)
+  entry-there (x ∷ es) zero e m h f u v t =
+      let here : (x.callback == new.callback) ≡ true = subst (λ (y : Entry). (y.callback == new.callback) ≡ true) u t in
+      rw here (ap (λ (y : Entry). record y { accepted = new.accepted } ∷ es) v)
+  entry-there (x ∷ es) (suc at) e m h f u v t = rw (f 0 x (omega arith) (omega arith))
+      (ap (λ ys. x ∷ ys) (entry-there es at e m (omega arith) (later x es at f) u v t))
+
+  pub entry-last : (es : List Entry) → AllWithin IsOther es 0 (length es) → es ++ new ∷ [] ≡ with_entry es new
+  entry-last [] f = refl
+  entry-last (x ∷ es) f = rw (f 0 x (omega arith) (omega arith)) (ap (λ ys. x ∷ ys) (entry-last es (later x es (length es) f)))
+
+  -- no entry is the callback's
+  pub entry-new : (es : List Entry) → list_any (λ (e : Entry). e.callback == new.callback) es ≡ false → es ++ new ∷ [] ≡ with_entry es new
+  entry-new [] f = refl
+  entry-new (x ∷ es) f =
+      let n = none_of (x.callback == new.callback) (list_any (λ (e : Entry). e.callback == new.callback) es) f in
+      rw n.0 (ap (λ ys. x ∷ ys) (entry-new es n.1))
+
+-- the list that passes share is still the entries, once both are without a callback's
+pub still_shared : (c : ℕ) (shared left : Option (List Entry)) (own new : List Entry) → IfSome shared (λ list. list ≡ own)
+    → IfSome left (λ list. MatchOption shared ⊥ (λ entries. list ≡ filter (λ e. not (is_by c e)) entries)) → new ≡ filter (λ e. not (is_by c e)) own
+    → IfSome left (λ list. list ≡ new)
+still_shared c shared None own new s l n = tt
+still_shared c None (Some list) own new s l n = absurd l
+still_shared c (Some entries) (Some list) own new s l n = l ∙ ap (filter (λ e. not (is_by c e))) s ∙ sym n
+
+-- what passes share is the entries with the new one, if it was the entries before
+pub pushed_is : (shared : Option (List Entry)) (more own : List Entry) (new : Entry) → IfSome shared (λ list. list ≡ own)
+    → MatchOption shared (more ≡ own ++ new ∷ []) (λ entries. more ≡ entries ++ new ∷ []) → more ≡ own ++ new ∷ []
+pushed_is None more own new s m = m
+pushed_is (Some entries) more own new s m = m ∙ ap (λ es. es ++ new ∷ []) s
