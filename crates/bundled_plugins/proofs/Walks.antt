@@ -22,5 +22,5 @@ walked (x ∷ xs) (suc i) is = search (rules, walked xs i is)
 -- one attribute more, after a text that has those before it
 pub named_more : (named : List (List ℕ × List ℕ)) (i : ℕ) (p : List ℕ × List ℕ) → slice_get named i ≡ Some p → (start text later : List ℕ)
     → text ≡ start ++ named_listed (take i named) → later ≡ text ++ (p.0 ++ 61 ∷ (p.1 ++ 59 ∷ [])) → later ≡ start ++ named_listed (take (i + 1) named)
-named_more named i p is start text later before behind =
-    search (rules, before, behind, flat_map_one (λ pair. pair.0 ++ codes "=" ++ pair.1 ++ codes ";") named i p is, append_assoc)
+named_more named i p is start text later before following =
+    search (rules, before, following, flat_map_one (λ pair. pair.0 ++ codes "=" ++ pair.1 ++ codes ";") named i p is, append_assoc)

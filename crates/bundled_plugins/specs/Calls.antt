@@ -1,12 +1,9 @@
 -- What a callback finds in its call.
 use Rattle.std.specs.Prelude.{ℕ, true, false, List, [], ◌∷◌, ◌++◌, codes, flat_map}
 use Rattle.std.specs.Fmt.{signed_decimal}
+use Rattle.hook_changes.specs.Texts.{Text}
 use Rattle.hook_changes.specs.declared.reply.Answer.{Answer}
 use Rattle.hook_changes.specs.declared.reply.Answer.TheVariants as answer
-
--- a text, as its bytes
-abbrev pub Text : Type 0
-Text = List ℕ
 
 -- the first argument, or empty text
 abbrev pub first_argument : List Text → Text

@@ -13,7 +13,8 @@ use Rattle.bundled_plugins.specs.declared.rows.TextPart.{TextPart}
 use Rattle.bundled_plugins.specs.declared.rows.TextPart.TheVariants.{Fixed, First, Second, Count, Content}
 use Rattle.bundled_plugins.specs.declared.rows.ReplyRow.{ReplyRow}
 use Rattle.bundled_plugins.specs.declared.shipped.Shipped.{Shipped}
-use Rattle.bundled_plugins.specs.Calls.{Text, first_argument, second_argument}
+use Rattle.hook_changes.specs.Texts.{Text}
+use Rattle.bundled_plugins.specs.Calls.{first_argument, second_argument}
 use Rattle.bundled_plugins.specs.Replies.{reply_in, stated_functions}
 use Rattle.bundled_plugins.specs.Bundle.{plugin}
 use Rattle.callback_store.specs.Shape.{Shape}

@@ -89,12 +89,14 @@ any_at test (y ∷ ys) (suc i) x e t = elim (test y) as (λ b. (b || list_any te
 
 module _ {S : Type 0} (number : S → ℕ) where
   -- the callback at a place of the plugin at a place is held
-  pub held_at : (id : ℕ) (ps : List (Plugin S)) (i j : ℕ) (p : Plugin S) (s : S) → slice_get ps i ≡ Some p → slice_get p.callbacks j ≡ Some s
-      → (number s == id) ≡ true
-      → is_held (map (shape_of number) ps) id ≡ true
-  held_at id ps i j p s e f t =
-      list_any-map (has_callback id) (shape_of number) ps
-      ∙ any_at (λ q. has_callback id (shape_of number q)) ps i p e (has-shape_of number id p ∙ any_at (λ c. number c == id) p.callbacks j s f t)
+  pub held_at : (id : ℕ) (plugins : List (Plugin S)) (i j : ℕ) (plugin : Plugin S) (callback : S) → slice_get plugins i ≡ Some plugin
+      → slice_get plugin.callbacks j ≡ Some callback
+      → (number callback == id) ≡ true
+      → is_held (map (shape_of number) plugins) id ≡ true
+  held_at id plugins i j plugin callback in_list in_plugin has_id =
+      list_any-map (has_callback id) (shape_of number) plugins
+      ∙ any_at (λ q. has_callback id (shape_of number q)) plugins i plugin in_list
+      (has-shape_of number id plugin ∙ any_at (λ c. number c == id) plugin.callbacks j callback in_plugin has_id)
 
   -- the callback at a place of a plugin is the plugin's
   pub has_one_at : (id : ℕ) (p : Plugin S) (j : ℕ) (s : S) → slice_get p.callbacks j ≡ Some s → (number s == id) ≡ true

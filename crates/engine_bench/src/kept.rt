@@ -12,6 +12,7 @@ pub struct Kept {
 }
 
 impl Kept {
+    /// Makes the callback of a number.
     pub fn new(id: CallbackId) -> Self {
         Kept { id }
     }

@@ -8,7 +8,7 @@ use Rattle.hook_changes.specs.declared.reply.Answer.TheVariants as answer
 use Rattle.hook_changes.specs.declared.reply.Ask.{Ask}
 use Rattle.hook_changes.specs.declared.reply.Ask.TheVariants.{Apply, Act, Did, Doing, Has}
 use Rattle.hook_changes.specs.Replies.{answers_text, asks, prints_and_answers}
-use Rattle.hook_machine.specs.World.{Text}
+use Rattle.hook_changes.specs.Texts.{Text}
 use Rattle.hook_machine.specs.Meaning.{first_or_empty}
 
 abbrev pub second_or_empty : List Text → Text

@@ -6,7 +6,7 @@ use Rattle.hook_changes.specs.declared.reply.Reply.{Reply}
 use Rattle.hook_changes.specs.declared.reply.Change.TheVariants.{Add, Remove, RemoveAll}
 use Rattle.hook_changes.specs.Replies.{changes_and_answers}
 use Rattle.bundled_plugins.specs.Replies.{says}
-use Rattle.hook_machine.specs.World.{Text}
+use Rattle.hook_changes.specs.Texts.{Text}
 use Rattle.hook_machine.specs.Meaning.{first_or_empty}
 use Rattle.engine_tests.specs.Asking.{asking}
 

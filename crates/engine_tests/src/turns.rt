@@ -144,6 +144,7 @@ fn settings(alloc: Global) -> Result<Settings, AllocError> {
     })
 }
 
+/// Makes the page of a case, before its first turn.
 pub fn begun<'p>(
     alloc: Global,
     plugins: &'p Plugins<Tested>,

@@ -1,5 +1,6 @@
 -- The plugin `exclaim`: its load list, and what its callback is stated to reply.
 use Rattle.std.specs.Prelude.{ℕ, pos, List, [], ◌∷◌, ◌++◌, codes}
+use Rattle.hook_changes.specs.Texts.{Text}
 use Rattle.hook_changes.specs.declared.reply.Call.{Call}
 use Rattle.hook_changes.specs.declared.reply.Reply.{Reply}
 use Rattle.hook_changes.specs.declared.reply.Then.TheVariants as next
@@ -7,10 +8,6 @@ use Rattle.hook_changes.specs.declared.reply.Change.{Change}
 use Rattle.hook_changes.specs.declared.reply.Change.TheVariants.{Add}
 use Rattle.callback_store.specs.Shape.{Shape}
 use Rattle.exclaim.specs.declared.Exclaim.{Exclaim}
-
--- a text, as its bytes
-abbrev pub Text : Type 0
-Text = List ℕ
 
 -- callback 1 runs on the_title at priority 10 and wants one argument, the title
 abbrev pub load : List Change

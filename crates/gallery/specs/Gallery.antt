@@ -6,6 +6,7 @@ use Rattle.shortcode_atts.specs.Attributes.{Attributes, value_of}
 use Rattle.hook_changes.specs.declared.reply.Call.{Call}
 use Rattle.hook_changes.specs.declared.reply.Reply.{Reply}
 use Rattle.hook_changes.specs.Replies.{answers_text, asks, prints_and_answers}
+use Rattle.hook_changes.specs.Texts.{Text}
 use Rattle.hook_changes.specs.declared.reply.Answer.{Answer}
 use Rattle.hook_changes.specs.declared.reply.Answer.TheVariants as answer
 use Rattle.hook_changes.specs.declared.reply.Ask.TheVariants.{GetOption}
@@ -13,10 +14,6 @@ use Rattle.hook_changes.specs.declared.reply.Change.{Change}
 use Rattle.hook_changes.specs.declared.reply.Change.TheVariants.{Add, AddTag}
 use Rattle.callback_store.specs.Shape.{Shape}
 use Rattle.page_escapes.specs.Escapes.{html_escaped}
-
--- a text, as its bytes
-abbrev pub Text : Type 0
-Text = List ℕ
 
 -- callback 1 is the handler of [gallery], callback 2 an action at the end of each page, without arguments
 abbrev pub load : List Change

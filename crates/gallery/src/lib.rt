@@ -1,4 +1,5 @@
-//! The plugin `gallery`: a shortcode that shows pictures, as many in a row as it is told, and a line at the page's end.
+//! The plugin `gallery`: a shortcode that shows pictures, as many in a row as it is told, and a
+//! line at the page's end.
 //! docs/PLUGINS.md goes through it.
 #![tactic(auto)]
 
@@ -8,7 +9,8 @@ mod tests;
 ghost use Rattle.std.specs.Prelude.{◌≡◌, ◌<◌, ◌∷◌, [], IfOk, flat_map, map, unwrap_or};
 ghost use Rattle.shortcode_atts.specs.Attributes.{value_of};
 ghost use Rattle.callback_store.specs.Shape.{shape_of};
-ghost use Rattle.gallery.specs.Gallery.{columns_in, credit, drawn, gallery, gallery_html, ids_in, load, picture};
+ghost use Rattle.gallery.specs.Gallery.{columns_in, credit, drawn, gallery, gallery_html, ids_in};
+ghost use Rattle.gallery.specs.Gallery.{load, picture};
 ghost use Rattle.gallery.specs.Numbers.{number_of};
 
 use callback_store::{Plugin, Stated};

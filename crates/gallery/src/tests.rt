@@ -1,5 +1,5 @@
-//! What the handler draws for some attributes: that it draws anything at all, no contract can say, since a body may
-//! report an allocation failure at each call.
+//! What the handler draws for some attributes: that it draws anything at all, no contract can say,
+//! since a body may report an allocation failure at each call.
 
 use crate::gallery_html;
 use shortcode_atts::parse;

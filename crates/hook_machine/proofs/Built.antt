@@ -8,7 +8,8 @@ use Rattle.callback_store.specs.Shape.{Shape}
 use Rattle.hook_registry.specs.Table.{Table}
 use Rattle.hook_registry.specs.OneList as one_list
 use Rattle.hook_registry.specs.OneList.{TableChange, Added, Removed, RemovedAll}
-use Rattle.hook_machine.specs.World.{Text, World, is_active, world_after_change, core_changes, load_changes, loaded, fresh}
+use Rattle.hook_changes.specs.Texts.{Text}
+use Rattle.hook_machine.specs.World.{World, is_active, world_after_change, core_changes, load_changes, loaded, fresh}
 use Rattle.hook_machine.specs.Tables.{table_changes, table_with, HasBuiltTable}
 use Rattle.hook_machine.specs.Throughout.{Throughout}
 use Rattle.hook_machine.specs.Meaning.{Engine, filtered, acted, replaced}

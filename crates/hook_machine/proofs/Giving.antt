@@ -5,7 +5,8 @@ use Rattle.hook_registry.specs.declared.registration.Entry.{Entry}
 use Rattle.hook_registry.specs.Table.{group, after}
 use Rattle.hook_machine.specs.declared.fault.RunFault.{RunFault}
 use Rattle.hook_machine.specs.declared.run.calls.PassKind.TheVariants.{Action}
-use Rattle.hook_machine.specs.World.{Text, World}
+use Rattle.hook_changes.specs.Texts.{Text}
+use Rattle.hook_machine.specs.World.{World}
 use Rattle.hook_machine.specs.Trace.{Trace, Done, Refused, Turn, and_then, work_if, Ended, outcome_of}
 use Rattle.hook_machine.specs.Meaning.{Invocation, group_pass, priorities_pass, pass, action_pass, with_firing}
 

@@ -12,7 +12,8 @@ use Rattle.hook_machine.specs.declared.run.frames.Move.TheVariants.{Turned, Hand
 use Rattle.hook_machine.specs.declared.run.frames.Pace.{Pace}
 use Rattle.hook_machine.specs.declared.run.frames.Pace.TheVariants.{ByTurns, Through}
 use Rattle.hook_machine.specs.declared.run.jobs.Turn.{Turn}
-use Rattle.hook_machine.specs.World.{Text, World}
+use Rattle.hook_changes.specs.Texts.{Text}
+use Rattle.hook_machine.specs.World.{World}
 use Rattle.hook_machine.specs.Trace.{Trace, Done, Turn as turned_to, and_then, outcome_of, turns_of}
 use Rattle.hook_machine.specs.Meaning.{Engine, invoke}
 use Rattle.hook_machine.specs.Outcomes.{RunsAs}
@@ -126,22 +127,26 @@ module _ (engine : Engine) where
     unfolding rest goes_on
     invocation_waits t w i fs fs' e f = record { leads = leads_here (rw f (ap (λ (t : Trace Text). then_rest engine t fs) e)) }
 
-    pub moves_then : {t u : Trace Text} (r : Result Move RunFault) (w : World) (fs : List Frame) → Leads pace t u → Moves pace engine u r w fs
-        → Moves pace engine t r w fs
-    moves_then {t} {u} r w fs l m = record { leads = on_then pace t u _ r l m.leads }
+    pub moves_then : {trace other : Trace Text} (result : Result Move RunFault) (end : World) (left : List Frame) → Leads pace trace other
+        → Moves pace engine other result end left
+        → Moves pace engine trace result end left
+    moves_then {trace} {other} result end left leading moves = record { leads = on_then pace trace other _ result leading moves.leads }
 
     -- work that waits at a frame, which was put before the others
-    pub moves_onto : (t u : Trace Text) (f : Frame) (fs fs' : List Frame) → t ≡ and_then u (λ later x. handed engine later f x) → fs' ≡ f ∷ fs
-        → (r : Result Move RunFault) (w : World) (gs : List Frame) → Moves pace engine (then_rest engine u fs') r w gs
-        → Moves pace engine (then_rest engine t fs) r w gs
-    moves_onto t u f fs fs' e q r w gs m =
-        moves_then r w gs
-        (leads_here (ap (λ (t : Trace Text). then_rest engine t fs) e ∙ onto_frame engine u f fs ∙ ap (λ (l : List Frame). then_rest engine u l) (sym q))) m
+    pub moves_onto : (trace inner : Trace Text) (top : Frame) (frames pushed : List Frame)
+        → trace ≡ and_then inner (λ later given. handed engine later top given) → pushed ≡ top ∷ frames
+        → (result : Result Move RunFault) (end : World) (left : List Frame) → Moves pace engine (then_rest engine inner pushed) result end left
+        → Moves pace engine (then_rest engine trace frames) result end left
+    moves_onto trace inner top frames pushed is_then pushed_is result end left moves =
+        moves_then result end left
+        (leads_here (ap (λ (trace : Trace Text). then_rest engine trace frames) is_then ∙ onto_frame engine inner top frames
+        ∙ ap (λ (stack : List Frame). then_rest engine inner stack) (sym pushed_is))) moves
 
     -- work that is done at once
-    pub moves_same : (t u : Trace Text) (fs : List Frame) → t ≡ u → (r : Result Move RunFault) (w : World) (gs : List Frame)
-        → Moves pace engine (then_rest engine u fs) r w gs → Moves pace engine (then_rest engine t fs) r w gs
-    moves_same t u fs e r w gs m = moves_then r w gs (leads_here (ap (λ (t : Trace Text). then_rest engine t fs) e)) m
+    pub moves_same : (trace other : Trace Text) (frames : List Frame) → trace ≡ other → (result : Result Move RunFault) (end : World) (left : List Frame)
+        → Moves pace engine (then_rest engine other frames) result end left → Moves pace engine (then_rest engine trace frames) result end left
+    moves_same trace other frames same result end left moves = moves_then result end left
+        (leads_here (ap (λ (trace : Trace Text). then_rest engine trace frames) same)) moves
 
     -- frames that were put, unless memory ran out
     pub put_moves : (t : Trace Text) (r : Result Move RunFault) (w : World) (fs fs' : List Frame) → IfOk r (λ move. (move ≡ Turned) × (fs' ≡ fs))

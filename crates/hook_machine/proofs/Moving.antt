@@ -34,7 +34,8 @@ use Rattle.hook_machine.specs.declared.run.frames.Move.TheVariants.{Handed}
 use Rattle.hook_machine.specs.declared.run.texts.Handling.{Handling}
 use Rattle.hook_machine.specs.Cuts.{CutText, PassOverText}
 use Rattle.hook_machine.specs.Handling.{handling_pass}
-use Rattle.hook_machine.specs.World.{Text, World}
+use Rattle.hook_changes.specs.Texts.{Text}
+use Rattle.hook_machine.specs.World.{World}
 use Rattle.hook_machine.specs.Trace.{Trace, Done, Refused, and_then}
 use Rattle.hook_machine.specs.Meaning.{Engine, Invocation, hook_call, arguments, value_after, pass, filter_pass, action_pass, filtered, with_firing, text_at}
 use Rattle.hook_machine.specs.Meaning.{shortcode_filter, pieces_pass, shortcodes_pass, answered, invoke, first_or_empty, last_or_empty, has_answer}
@@ -56,416 +57,504 @@ use Rattle.hook_machine.proofs.Steps.{pass_goes, pass_ends, pass_begins, ask_pla
 use Rattle.hook_machine.proofs.Steps.{text_begins, then_done}
 
 -- the position stays in its hook
-next_hook : (table : Table) (hook : Text) (at : Option ℤ) (es : List Entry)
-    → (next_entry table (record { hook = hook; reached = at; entries = es })).1.hook ≡ hook
+next_hook : (table : Table) (hook : Text) (at : Option ℤ) (entries : List Entry)
+    → (next_entry table (record { hook = hook; reached = at; entries = entries })).1.hook ≡ hook
 next_hook table hook at [] = from_next (next_priority table hook at)
   where
-    from_group : (p : ℤ) (es : List Entry) → (first_of (record { hook = hook; reached = Some p; entries = [] }) es).1.hook ≡ hook
+    from_group : (p : ℤ) (entries : List Entry) → (first_of (record { hook = hook; reached = Some p; entries = [] }) entries).1.hook ≡ hook
     from_group p [] = refl
-    from_group p (x ∷ es) = refl
+    from_group p (x ∷ entries) = refl
 
     from_next : (o : Option ℤ) → (reach table (record { hook = hook; reached = at; entries = [] }) o).1.hook ≡ hook
     from_next None = refl
     from_next (Some p) = from_group p (group table hook p)
-next_hook table hook at (x ∷ es) = refl
+next_hook table hook at (x ∷ entries) = refl
 
 module _ (engine : Engine) where
   -- a frame that ends hands its result on
-  pub handed_moves : {pace : Pace} (t : Trace Text) (w : World) (x : Text) (fs : List Frame) → t ≡ Done w x → Moves pace engine (then_rest engine t fs)
-      (Ok (Handed x)) w fs
-  handed_moves t w x fs e = record { leads = leads_here (ap (λ (t : Trace Text). then_rest engine t fs) e) }
+  pub handed_moves : {pace : Pace} (trace : Trace Text) (world : World) (given : Text) (frames : List Frame) → trace ≡ Done world given
+      → Moves pace engine (then_rest engine trace frames)
+      (Ok (Handed given)) world frames
+  handed_moves trace world given frames is_done = record { leads = leads_here (ap (λ (trace : Trace Text). then_rest engine trace frames) is_done) }
 
   -- a run that is refused, unless memory ran out
-  pub deep_moves : {pace : Pace} (t : Trace Text) (depth : ℕ) (f : RunFault) (fs : List Frame) → (32 ≤ depth → t ≡ Refused TooDeep)
-      → (f ≡ OutOfMemory) ⊎ ((f ≡ TooDeep) × (32 ≤ depth)) → (v : World) (gs : List Frame) → Moves pace engine (then_rest engine t fs) (Err f) v gs
-  deep_moves t depth f fs h (inl e) v gs = rw e (record { leads = tt })
-  deep_moves t depth f fs h (inr e) v gs = rw e.0 (record { leads = leads_here (ap (λ (t : Trace Text). then_rest engine t fs) (h e.1)) })
+  pub deep_moves : {pace : Pace} (trace : Trace Text) (depth : ℕ) (fault : RunFault) (frames : List Frame) → (32 ≤ depth → trace ≡ Refused TooDeep)
+      → (fault ≡ OutOfMemory) ⊎ ((fault ≡ TooDeep) × (32 ≤ depth)) → (world : World) (left : List Frame)
+      → Moves pace engine (then_rest engine trace frames) (Err fault) world left
+  deep_moves trace depth fault frames too_deep (inl is_fault) world left = rw is_fault (record { leads = tt })
+  deep_moves trace depth fault frames too_deep (inr is_fault) world left = rw is_fault.0
+      (record { leads = leads_here (ap (λ (trace : Trace Text). then_rest engine trace frames) (too_deep is_fault.1)) })
 
   -- ---- passes
 
-  kept_alike : (later : World) (p : HookPass) (q : Position) (kept x : Text) → value_after p.kind kept x ≡ value_after p.kind p.value x
-      → handed engine later (frame.Pass (record p { position = q })) x ≡ handed engine later (frame.Pass (record p { value = kept; position = q })) x
+  kept_alike : (later : World) (hook_pass : HookPass) (moved : Position) (kept given : Text)
+      → value_after hook_pass.kind kept given ≡ value_after hook_pass.kind hook_pass.value given
+      → handed engine later (frame.Pass (record hook_pass { position = moved })) given
+      ≡ handed engine later (frame.Pass (record hook_pass { value = kept; position = moved })) given
   unfolding handed
-  kept_alike later p q kept x k = ap (λ (v : Text). pass_left engine later (record p { value = v; position = q })) (sym k)
+  kept_alike later hook_pass moved kept given alike = ap (λ (v : Text). pass_left engine later (record hook_pass { value = v; position = moved })) (sym alike)
 
-  pass_by : (w : World) (p : HookPass) (e : Entry) (q : Position) (kept : Text) (call : Call) → Some e ≡ (next_entry w.table p.position).0
-      → q ≡ (next_entry w.table p.position).1 → call ≡ hook_call q.hook (take e.accepted (arguments p.kind p.value p.args))
-      → ((x : Text) → value_after p.kind kept x ≡ value_after p.kind p.value x)
-      → pass_left engine w p
-      ≡ and_then (invoke engine w e.callback call) (λ later x. handed engine later (frame.Pass (record p { value = kept; position = q })) x)
-  pass_by w p e q kept call h k c l =
-      pass_goes engine w p e h
-      ∙ ap (λ (z : Position). and_then (invoke engine w e.callback (hook_call p.position.hook (take e.accepted (arguments p.kind p.value p.args))))
-      (λ later x. handed engine later (frame.Pass (record p { position = z })) x)) (sym k)
-      ∙ ap (λ (z : Call). and_then (invoke engine w e.callback z) (λ later x. handed engine later (frame.Pass (record p { position = q })) x))
-      (ap (λ (z : Text). hook_call z (take e.accepted (arguments p.kind p.value p.args)))
-      (sym (ap (λ (z : Position). z.hook) k ∙ next_hook w.table p.position.hook p.position.reached p.position.entries)) ∙ sym c)
-      ∙ then_under (invoke engine w e.callback call) (λ later x. handed engine later (frame.Pass (record p { position = q })) x)
-      (λ later x. handed engine later (frame.Pass (record p { value = kept; position = q })) x) (λ later x. kept_alike later p q kept x (l x))
+  pass_by : (world : World) (hook_pass : HookPass) (entry : Entry) (moved : Position) (kept : Text) (call : Call)
+      → Some entry ≡ (next_entry world.table hook_pass.position).0
+      → moved ≡ (next_entry world.table hook_pass.position).1
+      → call ≡ hook_call moved.hook (take entry.accepted (arguments hook_pass.kind hook_pass.value hook_pass.args))
+      → ((given : Text) → value_after hook_pass.kind kept given ≡ value_after hook_pass.kind hook_pass.value given)
+      → pass_left engine world hook_pass
+      ≡ and_then (invoke engine world entry.callback call)
+      (λ later given. handed engine later (frame.Pass (record hook_pass { value = kept; position = moved })) given)
+  pass_by world hook_pass entry moved kept call is_next is_moved is_call keeps =
+      pass_goes engine world hook_pass entry is_next
+      ∙ ap (λ (z : Position). and_then (invoke engine world entry.callback
+      (hook_call hook_pass.position.hook (take entry.accepted (arguments hook_pass.kind hook_pass.value hook_pass.args))))
+      (λ later given. handed engine later (frame.Pass (record hook_pass { position = z })) given)) (sym is_moved)
+      ∙ ap (λ (z : Call). and_then (invoke engine world entry.callback z)
+      (λ later given. handed engine later (frame.Pass (record hook_pass { position = moved })) given))
+      (ap (λ (z : Text). hook_call z (take entry.accepted (arguments hook_pass.kind hook_pass.value hook_pass.args)))
+      (sym (ap (λ (z : Position). z.hook) is_moved ∙ next_hook world.table hook_pass.position.hook hook_pass.position.reached hook_pass.position.entries))
+      ∙ sym is_call)
+      ∙ then_under (invoke engine world entry.callback call) (λ later given. handed engine later (frame.Pass (record hook_pass { position = moved })) given)
+      (λ later given. handed engine later (frame.Pass (record hook_pass { value = kept; position = moved })) given)
+      (λ later given. kept_alike later hook_pass moved kept given (keeps given))
 
   -- a pass invokes its next entry, by the pass and the invocation as they are then
-  pub pass_invokes : (w : World) (p moved now : HookPass) (e : Entry) (i : Invoked) → Some e ≡ (next_entry w.table p.position).0
-      → moved ≡ record p { position = (next_entry w.table p.position).1 } → i.callback ≡ e.callback
-      → i.call ≡ hook_call moved.position.hook (take e.accepted (arguments moved.kind moved.value moved.args))
-      → ((x : Text) → value_after moved.kind now.value x ≡ value_after moved.kind moved.value x) → now ≡ record moved { value = now.value }
-      → pass_left engine w p ≡ and_then (invoke engine w i.callback i.call) (λ later x. handed engine later (frame.Pass now) x)
-  pass_invokes w p moved now e i h q k c l n =
-      pass_by w p e (next_entry w.table p.position).1 now.value i.call h refl (rw q at c) (rw q at l)
-      ∙ ap (λ (z : ℕ). and_then (invoke engine w z i.call) (λ later x. handed engine later (frame.Pass (record p {
+  pub pass_invokes : (world : World) (hook_pass moved now : HookPass) (entry : Entry) (invoked : Invoked)
+      → Some entry ≡ (next_entry world.table hook_pass.position).0
+      → moved ≡ record hook_pass { position = (next_entry world.table hook_pass.position).1 } → invoked.callback ≡ entry.callback
+      → invoked.call ≡ hook_call moved.position.hook (take entry.accepted (arguments moved.kind moved.value moved.args))
+      → ((given : Text) → value_after moved.kind now.value given ≡ value_after moved.kind moved.value given) → now ≡ record moved { value = now.value }
+      → pass_left engine world hook_pass ≡ and_then (invoke engine world invoked.callback invoked.call)
+      (λ later given. handed engine later (frame.Pass now) given)
+  pass_invokes world hook_pass moved now entry invoked is_next is_moved same_callback is_call keeps now_is =
+      pass_by world hook_pass entry (next_entry world.table hook_pass.position).1 now.value invoked.call is_next refl (rw is_moved at is_call)
+      (rw is_moved at keeps)
+      ∙ ap (λ (z : ℕ). and_then (invoke engine world z invoked.call) (λ later given. handed engine later (frame.Pass (record hook_pass {
         value = now.value;
-        position = (next_entry w.table p.position).1;
-      })) x)) (sym k)
-      ∙ ap (λ (z : HookPass). and_then (invoke engine w i.callback i.call) (λ later x. handed engine later (frame.Pass z) x))
-      (sym (n ∙ ap (λ (z : HookPass). record z { value = now.value }) q))
+        position = (next_entry world.table hook_pass.position).1;
+      })) given)) (sym same_callback)
+      ∙ ap (λ (z : HookPass). and_then (invoke engine world invoked.callback invoked.call) (λ later given. handed engine later (frame.Pass z) given))
+      (sym (now_is ∙ ap (λ (z : HookPass). record z { value = now.value }) is_moved))
 
   -- a pass that is handed an answer
-  pub pass_handed : (w : World) (p q : HookPass) (x : Text) → q ≡ record p { value = value_after p.kind p.value x }
-      → handed engine w (frame.Pass p) x ≡ pass_left engine w q
+  pub pass_handed : (world : World) (hook_pass after : HookPass) (given : Text)
+      → after ≡ record hook_pass { value = value_after hook_pass.kind hook_pass.value given }
+      → handed engine world (frame.Pass hook_pass) given ≡ pass_left engine world after
   unfolding handed
-  pass_handed w p q x e = ap (λ (z : HookPass). pass_left engine w z) (sym e)
+  pass_handed world hook_pass after given after_is = ap (λ (z : HookPass). pass_left engine world z) (sym after_is)
 
-  pub leave_moves : {pace : Pace} (w left : World) (p : HookPass) (fs : List Frame) → None ≡ (next_entry w.table p.position).0 → left ≡ left_hook w
-      → Moves pace engine (then_rest engine (pass_left engine w p) fs) (Ok (Handed p.value)) left fs
-  leave_moves w left p fs h e = handed_moves (pass_left engine w p) left p.value fs (pass_ends engine w p h ∙ ap (λ (v : World). Done v p.value) (sym e))
+  pub leave_moves : {pace : Pace} (world outside : World) (hook_pass : HookPass) (frames : List Frame) → None ≡ (next_entry world.table hook_pass.position).0
+      → outside ≡ left_hook world
+      → Moves pace engine (then_rest engine (pass_left engine world hook_pass) frames) (Ok (Handed hook_pass.value)) outside frames
+  leave_moves world outside hook_pass frames is_last outside_is = handed_moves (pass_left engine world hook_pass) outside hook_pass.value frames
+      (pass_ends engine world hook_pass is_last ∙ ap (λ (v : World). Done v hook_pass.value) (sym outside_is))
 
-  pub begin_moves : {pace : Pace} (w entered : World) (kind : PassKind) (hook v : Text) (args : List Text) (at : Position) (fs : List Frame)
-      → entered ≡ record w { running = w.running ++ hook ∷ [] } → at ≡ record { hook = hook; reached = None; entries = [] }
-      → (r : Result Move RunFault) (s : World) (gs : List Frame) → Moves pace engine
-      (then_rest engine (pass_left engine entered (record { kind = kind; args = args; value = v; position = at })) fs) r s gs
-      → Moves pace engine (then_rest engine (pass (invoke engine) kind w hook v args) fs) r s gs
-  begin_moves w entered kind hook v args at fs e q r s gs m =
-      moves_same engine (pass (invoke engine) kind w hook v args) (pass_left engine entered (record { kind = kind; args = args; value = v; position = at }))
-      fs (rw (e, q) (pass_begins engine w kind hook v args)) r s gs m
+  pub begin_moves : {pace : Pace} (world entered : World) (kind : PassKind) (hook value : Text) (args : List Text) (at : Position) (frames : List Frame)
+      → entered ≡ record world { running = world.running ++ hook ∷ [] } → at ≡ record { hook = hook; reached = None; entries = [] }
+      → (result : Result Move RunFault) (end : World) (left : List Frame) → Moves pace engine
+      (then_rest engine (pass_left engine entered (record { kind = kind; args = args; value = value; position = at })) frames) result end left
+      → Moves pace engine (then_rest engine (pass (invoke engine) kind world hook value args) frames) result end left
+  begin_moves world entered kind hook value args at frames entered_is at_is result end left moves =
+      moves_same engine (pass (invoke engine) kind world hook value args)
+      (pass_left engine entered (record { kind = kind; args = args; value = value; position = at }))
+      frames (rw (entered_is, at_is) (pass_begins engine world kind hook value args)) result end left moves
 
-  pub filter_moves : {pace : Pace} (w : World) (hook name v : Text) (args : List Text) (fs : List Frame) → name ≡ hook → is_hook_name hook ≡ true
-      → (r : Result Move RunFault) (s : World) (gs : List Frame) → Moves pace engine (then_rest engine (pass (invoke engine) Filter w name v args) fs) r s gs
-      → Moves pace engine (then_rest engine (filter_pass (invoke engine) w hook v args) fs) r s gs
-  filter_moves w hook name v args fs e h r s gs m =
-      moves_same engine (filter_pass (invoke engine) w hook v args) (pass (invoke engine) Filter w name v args) fs
-      (filter_named (invoke engine) w hook v args h ∙ ap (λ (n : Text). pass (invoke engine) Filter w n v args) (sym e)) r s gs m
+  pub filter_moves : {pace : Pace} (world : World) (hook name value : Text) (args : List Text) (frames : List Frame) → name ≡ hook → is_hook_name hook ≡ true
+      → (result : Result Move RunFault) (end : World) (left : List Frame)
+      → Moves pace engine (then_rest engine (pass (invoke engine) Filter world name value args) frames) result end left
+      → Moves pace engine (then_rest engine (filter_pass (invoke engine) world hook value args) frames) result end left
+  filter_moves world hook name value args frames same_name is_hook result end left moves =
+      moves_same engine (filter_pass (invoke engine) world hook value args) (pass (invoke engine) Filter world name value args) frames
+      (filter_named (invoke engine) world hook value args is_hook
+      ∙ ap (λ (n : Text). pass (invoke engine) Filter world n value args) (sym same_name)) result end left moves
 
-  pub filter_back : {pace : Pace} (w : World) (hook v : Text) (args : List Text) (fs : List Frame) → is_hook_name hook ≡ false
-      → Moves pace engine (then_rest engine (filter_pass (invoke engine) w hook v args) fs) (Ok (Handed v)) w fs
-  filter_back w hook v args fs h = handed_moves (filter_pass (invoke engine) w hook v args) w v fs (filter_unnamed (invoke engine) w hook v args h)
+  pub filter_back : {pace : Pace} (world : World) (hook value : Text) (args : List Text) (frames : List Frame) → is_hook_name hook ≡ false
+      → Moves pace engine (then_rest engine (filter_pass (invoke engine) world hook value args) frames) (Ok (Handed value)) world frames
+  filter_back world hook value args frames no_hook = handed_moves (filter_pass (invoke engine) world hook value args) world value frames
+      (filter_unnamed (invoke engine) world hook value args no_hook)
 
-  pub action_moves : {pace : Pace} (w counted : World) (hook name nothing : Text) (args : List Text) (fs : List Frame) → name ≡ hook → is_hook_name hook ≡ true
-      → counted ≡ with_firing w name → nothing ≡ []
-      → (r : Result Move RunFault) (s : World) (gs : List Frame)
-      → Moves pace engine (then_rest engine (pass (invoke engine) Action counted name nothing args) fs)
-      r s gs → Moves pace engine (then_rest engine (action_pass (invoke engine) w hook args) fs) r s gs
-  action_moves w counted hook name nothing args fs e h c n r s gs m =
-      moves_same engine (action_pass (invoke engine) w hook args) (pass (invoke engine) Action counted name nothing args) fs
-      (rw (c, n, e) (action_named (invoke engine) w hook args h)) r s gs m
+  pub action_moves : {pace : Pace} (world counted : World) (hook name nothing : Text) (args : List Text) (frames : List Frame) → name ≡ hook
+      → is_hook_name hook ≡ true
+      → counted ≡ with_firing world name → nothing ≡ []
+      → (result : Result Move RunFault) (end : World) (left : List Frame)
+      → Moves pace engine (then_rest engine (pass (invoke engine) Action counted name nothing args) frames)
+      result end left → Moves pace engine (then_rest engine (action_pass (invoke engine) world hook args) frames) result end left
+  action_moves world counted hook name nothing args frames same_name is_hook counted_is is_empty result end left moves =
+      moves_same engine (action_pass (invoke engine) world hook args) (pass (invoke engine) Action counted name nothing args) frames
+      (rw (counted_is, is_empty, same_name) (action_named (invoke engine) world hook args is_hook)) result end left moves
 
-  pub action_back : {pace : Pace} (w : World) (hook nothing : Text) (args : List Text) (fs : List Frame) → is_hook_name hook ≡ false → nothing ≡ []
-      → Moves pace engine (then_rest engine (action_pass (invoke engine) w hook args) fs) (Ok (Handed nothing)) w fs
-  action_back w hook nothing args fs h n = rw n (handed_moves (action_pass (invoke engine) w hook args) w [] fs (action_unnamed (invoke engine) w hook args h))
+  pub action_back : {pace : Pace} (world : World) (hook nothing : Text) (args : List Text) (frames : List Frame) → is_hook_name hook ≡ false → nothing ≡ []
+      → Moves pace engine (then_rest engine (action_pass (invoke engine) world hook args) frames) (Ok (Handed nothing)) world frames
+  action_back world hook nothing args frames no_hook is_empty = rw is_empty
+      (handed_moves (action_pass (invoke engine) world hook args) world [] frames (action_unnamed (invoke engine) world hook args no_hook))
 
   -- a hook on which nothing is registered
 
-  pub filter_away : {pace : Pace} (w : World) (hook v : Text) (args : List Text) (fs : List Frame) → has w.table hook ≡ false
-      → Moves pace engine (then_rest engine (filter_pass (invoke engine) w hook v args) fs) (Ok (Handed v)) w fs
-  filter_away w hook v args fs h = handed_moves (filter_pass (invoke engine) w hook v args) w v fs (filter_unhooked (invoke engine) w hook v args h)
+  pub filter_away : {pace : Pace} (world : World) (hook value : Text) (args : List Text) (frames : List Frame) → has world.table hook ≡ false
+      → Moves pace engine (then_rest engine (filter_pass (invoke engine) world hook value args) frames) (Ok (Handed value)) world frames
+  filter_away world hook value args frames unhooked_is = handed_moves (filter_pass (invoke engine) world hook value args) world value frames
+      (filter_unhooked (invoke engine) world hook value args unhooked_is)
 
-  pub action_away : {pace : Pace} (w counted : World) (hook name nothing : Text) (args : List Text) (fs : List Frame) → name ≡ hook → is_hook_name hook ≡ true
-      → counted ≡ with_firing w name → nothing ≡ [] → has counted.table name ≡ false
-      → Moves pace engine (then_rest engine (action_pass (invoke engine) w hook args) fs) (Ok (Handed nothing)) counted fs
-  action_away w counted hook name nothing args fs e h c n none =
-      action_moves w counted hook name nothing args fs e h c n _ _ _
-      (handed_moves (pass (invoke engine) Action counted name nothing args) counted nothing fs (unhooked (invoke engine) Action counted name nothing args none))
+  pub action_away : {pace : Pace} (world counted : World) (hook name nothing : Text) (args : List Text) (frames : List Frame) → name ≡ hook
+      → is_hook_name hook ≡ true
+      → counted ≡ with_firing world name → nothing ≡ [] → has counted.table name ≡ false
+      → Moves pace engine (then_rest engine (action_pass (invoke engine) world hook args) frames) (Ok (Handed nothing)) counted frames
+  action_away world counted hook name nothing args frames same_name is_hook counted_is is_empty none =
+      action_moves world counted hook name nothing args frames same_name is_hook counted_is is_empty _ _ _
+      (handed_moves (pass (invoke engine) Action counted name nothing args) counted nothing frames
+      (unhooked (invoke engine) Action counted name nothing args none))
 
   -- core's callback alone, over a text without shortcodes, is passed over
-  pub passed_over : {pace : Pace} (w spent : World) (hook v : Text) (args : List Text) → filter_pass (invoke engine) w hook v args ≡ left_by_core w hook v
-      → pace ≡ Through → spent ≡ record w { calls = w.calls - 1 } → Leads pace (filtered engine w hook v args) (Done spent v)
+  pub passed_over : {pace : Pace} (world spent : World) (hook value : Text) (args : List Text)
+      → filter_pass (invoke engine) world hook value args ≡ left_by_core world hook value
+      → pace ≡ Through → spent ≡ record world { calls = world.calls - 1 } → Leads pace (filtered engine world hook value args) (Done spent value)
   unfolding filtered
-  passed_over w spent hook v args e p q = rw q (leads_over _ _ e p)
+  passed_over world spent hook value args is_left through spent_is = rw spent_is (leads_over _ _ is_left through)
 
-  pub core_passed_over : {pace : Pace} (w spent : World) (hook v : Text) (args : List Text) (fs : List Frame)
-      → filter_pass (invoke engine) w hook v args ≡ left_by_core w hook v → pace ≡ Through → spent ≡ record w { calls = w.calls - 1 }
-      → Moves pace engine (then_rest engine (filter_pass (invoke engine) w hook v args) fs) (Ok (Handed v)) spent fs
-  core_passed_over w spent hook v args fs e p q =
-      rw q (record { leads = leads_over _ _ (ap (λ (t : Trace Text). then_rest engine t fs) e) p })
+  pub core_passed_over : {pace : Pace} (world spent : World) (hook value : Text) (args : List Text) (frames : List Frame)
+      → filter_pass (invoke engine) world hook value args ≡ left_by_core world hook value → pace ≡ Through → spent ≡ record world { calls = world.calls - 1 }
+      → Moves pace engine (then_rest engine (filter_pass (invoke engine) world hook value args) frames) (Ok (Handed value)) spent frames
+  core_passed_over world spent hook value args frames is_left through spent_is =
+      rw spent_is (record { leads = leads_over _ _ (ap (λ (t : Trace Text). then_rest engine t frames) is_left) through })
 
   -- ---- asks
 
-  pub apply_moves : {pace : Pace} (w inside : World) (k : ℕ) (call : Call) (hook name v : Text) (args : List Text) (fs fs' : List Frame) → w.depth < 32
-      → inside ≡ record w { depth = w.depth + 1 } → name ≡ hook → fs' ≡ frame.Invocation (record { callback = k; call = call; pending = ForText }) ∷ fs
-      → (r : Result Move RunFault) (s : World) (gs : List Frame) → Moves pace engine (then_rest engine (filter_pass (invoke engine) inside name v args) fs') r s
-      gs
-      → Moves pace engine (then_rest engine (pending_left engine w k call (Next (next.Ask (Apply hook v args)))) fs) r s gs
-  apply_moves w inside k call hook name v args fs fs' d e n f r s gs m =
-      moves_onto engine (pending_left engine w k call (Next (next.Ask (Apply hook v args)))) (filter_pass (invoke engine) inside name v args)
-      (frame.Invocation (record { callback = k; call = call; pending = ForText })) fs fs' (rw (e, n) (ask_apply engine w k call hook v args d)) f r s gs m
+  pub apply_moves : {pace : Pace} (world inside : World) (callback_id : ℕ) (call : Call) (hook name value : Text) (args : List Text)
+      (frames pushed : List Frame) → world.depth < 32
+      → inside ≡ record world { depth = world.depth + 1 } → name ≡ hook
+      → pushed ≡ frame.Invocation (record { callback = callback_id; call = call; pending = ForText }) ∷ frames
+      → (result : Result Move RunFault) (end : World) (left : List Frame)
+      → Moves pace engine (then_rest engine (filter_pass (invoke engine) inside name value args) pushed) result end
+      left
+      → Moves pace engine (then_rest engine (pending_left engine world callback_id call (Next (next.Ask (Apply hook value args)))) frames) result end left
+  apply_moves world inside callback_id call hook name value args frames pushed has_room inside_is same_name pushed_is result end left moves =
+      moves_onto engine (pending_left engine world callback_id call (Next (next.Ask (Apply hook value args))))
+      (filter_pass (invoke engine) inside name value args)
+      (frame.Invocation (record { callback = callback_id; call = call; pending = ForText })) frames pushed
+      (rw (inside_is, same_name) (ask_apply engine world callback_id call hook value args has_room)) pushed_is result end left moves
 
-  pub act_moves : {pace : Pace} (w inside : World) (k : ℕ) (call : Call) (hook name : Text) (args : List Text) (fs fs' : List Frame) → w.depth < 32
-      → inside ≡ record w { depth = w.depth + 1 } → name ≡ hook → fs' ≡ frame.Invocation (record { callback = k; call = call; pending = ForNothing }) ∷ fs
-      → (r : Result Move RunFault) (s : World) (gs : List Frame) → Moves pace engine (then_rest engine (action_pass (invoke engine) inside name args) fs') r s
-      gs
-      → Moves pace engine (then_rest engine (pending_left engine w k call (Next (next.Ask (Act hook args)))) fs) r s gs
-  act_moves w inside k call hook name args fs fs' d e n f r s gs m =
-      moves_onto engine (pending_left engine w k call (Next (next.Ask (Act hook args)))) (action_pass (invoke engine) inside name args)
-      (frame.Invocation (record { callback = k; call = call; pending = ForNothing })) fs fs' (rw (e, n) (ask_act engine w k call hook args d)) f r s gs m
+  pub act_moves : {pace : Pace} (world inside : World) (callback_id : ℕ) (call : Call) (hook name : Text) (args : List Text) (frames pushed : List Frame)
+      → world.depth < 32
+      → inside ≡ record world { depth = world.depth + 1 } → name ≡ hook
+      → pushed ≡ frame.Invocation (record { callback = callback_id; call = call; pending = ForNothing }) ∷ frames
+      → (result : Result Move RunFault) (end : World) (left : List Frame)
+      → Moves pace engine (then_rest engine (action_pass (invoke engine) inside name args) pushed) result end
+      left
+      → Moves pace engine (then_rest engine (pending_left engine world callback_id call (Next (next.Ask (Act hook args)))) frames) result end left
+  act_moves world inside callback_id call hook name args frames pushed has_room inside_is same_name pushed_is result end left moves =
+      moves_onto engine (pending_left engine world callback_id call (Next (next.Ask (Act hook args)))) (action_pass (invoke engine) inside name args)
+      (frame.Invocation (record { callback = callback_id; call = call; pending = ForNothing })) frames pushed
+      (rw (inside_is, same_name) (ask_act engine world callback_id call hook args has_room)) pushed_is result end left moves
 
-  pub shortcodes_moves : {pace : Pace} (w inside : World) (k : ℕ) (call : Call) (text : Text) (fs fs' : List Frame) → w.depth < 32
-      → inside ≡ record w { depth = w.depth + 1 } → fs' ≡ frame.Invocation (record { callback = k; call = call; pending = ForText }) ∷ fs
-      → (r : Result Move RunFault) (s : World) (gs : List Frame) → Moves pace engine (then_rest engine (shortcodes_pass (invoke engine) inside text) fs') r s gs
-      → Moves pace engine (then_rest engine (pending_left engine w k call (Next (next.Ask (Shortcodes text)))) fs) r s gs
-  shortcodes_moves w inside k call text fs fs' d e f r s gs m =
-      moves_onto engine (pending_left engine w k call (Next (next.Ask (Shortcodes text)))) (shortcodes_pass (invoke engine) inside text)
-      (frame.Invocation (record { callback = k; call = call; pending = ForText })) fs fs' (rw e (ask_shortcodes engine w k call text d)) f r s gs m
+  pub shortcodes_moves : {pace : Pace} (world inside : World) (callback_id : ℕ) (call : Call) (text : Text) (frames pushed : List Frame) → world.depth < 32
+      → inside ≡ record world { depth = world.depth + 1 }
+      → pushed ≡ frame.Invocation (record { callback = callback_id; call = call; pending = ForText }) ∷ frames
+      → (result : Result Move RunFault) (end : World) (left : List Frame)
+      → Moves pace engine (then_rest engine (shortcodes_pass (invoke engine) inside text) pushed) result end left
+      → Moves pace engine (then_rest engine (pending_left engine world callback_id call (Next (next.Ask (Shortcodes text)))) frames) result end left
+  shortcodes_moves world inside callback_id call text frames pushed has_room inside_is pushed_is result end left moves =
+      moves_onto engine (pending_left engine world callback_id call (Next (next.Ask (Shortcodes text)))) (shortcodes_pass (invoke engine) inside text)
+      (frame.Invocation (record { callback = callback_id; call = call; pending = ForText })) frames pushed
+      (rw inside_is (ask_shortcodes engine world callback_id call text has_room)) pushed_is result end left moves
 
-  pub core_moves : {pace : Pace} (w inside : World) (k : ℕ) (call kept : Call) (text : Text) (fs fs' : List Frame) → w.depth < 32
-      → inside ≡ record w { depth = w.depth + 1 } → text ≡ first_or_empty call.args
-      → fs' ≡ frame.Invocation (record { callback = k; call = kept; pending = ForCore }) ∷ fs
-      → (r : Result Move RunFault) (s : World) (gs : List Frame) → Moves pace engine (then_rest engine (shortcodes_pass (invoke engine) inside text) fs') r s gs
-      → Moves pace engine (then_rest engine (pending_left engine w k call Core) fs) r s gs
-  core_moves w inside k call kept text fs fs' d e t f r s gs m =
-      moves_onto engine (pending_left engine w k call Core) (shortcodes_pass (invoke engine) inside text)
-      (frame.Invocation (record { callback = k; call = kept; pending = ForCore })) fs fs' (rw (e, t) (core_goes engine w k call kept d)) f r s gs m
+  pub core_moves : {pace : Pace} (world inside : World) (callback_id : ℕ) (call kept : Call) (text : Text) (frames pushed : List Frame) → world.depth < 32
+      → inside ≡ record world { depth = world.depth + 1 } → text ≡ first_or_empty call.args
+      → pushed ≡ frame.Invocation (record { callback = callback_id; call = kept; pending = ForCore }) ∷ frames
+      → (result : Result Move RunFault) (end : World) (left : List Frame)
+      → Moves pace engine (then_rest engine (shortcodes_pass (invoke engine) inside text) pushed) result end left
+      → Moves pace engine (then_rest engine (pending_left engine world callback_id call Core) frames) result end left
+  core_moves world inside callback_id call kept text frames pushed has_room inside_is text_is pushed_is result end left moves =
+      moves_onto engine (pending_left engine world callback_id call Core) (shortcodes_pass (invoke engine) inside text)
+      (frame.Invocation (record { callback = callback_id; call = kept; pending = ForCore })) frames pushed
+      (rw (inside_is, text_is) (core_goes engine world callback_id call kept has_room)) pushed_is result end left moves
 
-  pub plain_moves : {pace : Pace} (w : World) (k : ℕ) (call : Call) (ask : Ask) (reply : Answer) (fs : List Frame) → answered (invoke engine) w ask
-      ≡ Done w reply
-      → (r : Result Move RunFault) (s : World) (gs : List Frame) → Moves pace engine (then_rest engine (invoke engine w k (with_answer call reply)) fs) r s gs
-      → Moves pace engine (then_rest engine (pending_left engine w k call (Next (next.Ask ask))) fs) r s gs
-  plain_moves w k call ask reply fs h r s gs m =
-      moves_same engine (pending_left engine w k call (Next (next.Ask ask))) (invoke engine w k (with_answer call reply)) fs
-      (ask_plain engine w k call ask reply h) r s gs m
+  pub plain_moves : {pace : Pace} (world : World) (callback_id : ℕ) (call : Call) (ask : Ask) (reply : Answer) (frames : List Frame)
+      → answered (invoke engine) world ask
+      ≡ Done world reply
+      → (result : Result Move RunFault) (end : World) (left : List Frame)
+      → Moves pace engine (then_rest engine (invoke engine world callback_id (with_answer call reply)) frames) result end left
+      → Moves pace engine (then_rest engine (pending_left engine world callback_id call (Next (next.Ask ask))) frames) result end left
+  plain_moves world callback_id call ask reply frames is_reply result end left moves =
+      moves_same engine (pending_left engine world callback_id call (Next (next.Ask ask))) (invoke engine world callback_id (with_answer call reply)) frames
+      (ask_plain engine world callback_id call ask reply is_reply) result end left moves
 
-  pub did_is : (w : World) (hook : Text) → answered (invoke engine) w (Did hook) ≡ Done w (answer.Number (pos (times_fired w.counts hook)))
+  pub did_is : (world : World) (hook : Text) → answered (invoke engine) world (Did hook) ≡ Done world (answer.Number (pos (times_fired world.counts hook)))
   unfolding answered
-  did_is w hook = refl
+  did_is world hook = refl
 
-  pub current_is : (w : World) → answered (invoke engine) w Current ≡ Done w (answer.Text (last_or_empty w.running))
+  pub current_is : (world : World) → answered (invoke engine) world Current ≡ Done world (answer.Text (last_or_empty world.running))
   unfolding answered
-  current_is w = refl
+  current_is world = refl
 
-  pub doing_is : (w : World) (hook : Text) → answered (invoke engine) w (Doing hook) ≡ Done w (answer.Flag (list_any (bytes_eq hook) w.running))
+  pub doing_is : (world : World) (hook : Text) → answered (invoke engine) world (Doing hook) ≡ Done world (answer.Flag (list_any (bytes_eq hook) world.running))
   unfolding answered
-  doing_is w hook = refl
+  doing_is world hook = refl
 
-  pub has_is : (w : World) (hook : Text) (callback : Option ℕ) → answered (invoke engine) w (Has hook callback) ≡ Done w (has_answer w hook callback)
+  pub has_is : (world : World) (hook : Text) (callback : Option ℕ)
+      → answered (invoke engine) world (Has hook callback) ≡ Done world (has_answer world hook callback)
   unfolding answered
-  has_is w hook callback = refl
+  has_is world hook callback = refl
 
-  pub tag_is : (w : World) (tag : Text) → answered (invoke engine) w (TagExists tag) ≡ Done w (answer.Flag (is_some (value_of w.tags tag)))
+  pub tag_is : (world : World) (tag : Text) → answered (invoke engine) world (TagExists tag) ≡ Done world (answer.Flag (is_some (value_of world.tags tag)))
   unfolding answered
-  tag_is w tag = refl
+  tag_is world tag = refl
 
-  pub option_is : (w : World) (name : Text) → answered (invoke engine) w (GetOption name) ≡ Done w (text_or_false (value_of w.options name))
+  pub option_is : (world : World) (name : Text) → answered (invoke engine) world (GetOption name) ≡ Done world (text_or_false (value_of world.options name))
   unfolding answered
-  option_is w name = refl
+  option_is world name = refl
 
   -- ---- the answers that take no call
 
-  pub did_moves : {pace : Pace} (w : World) (k : ℕ) (call : Call) (hook name : Text) (reply : Answer) (fs : List Frame) → name ≡ hook
-      → reply ≡ answer.Number (pos (times_fired w.counts name))
-      → (r : Result Move RunFault) (s : World) (gs : List Frame) → Moves pace engine (then_rest engine (invoke engine w k (with_answer call reply)) fs) r s gs
-      → Moves pace engine (then_rest engine (pending_left engine w k call (Next (next.Ask (Did hook)))) fs) r s gs
-  did_moves w k call hook name reply fs n e r s gs m = plain_moves w k call (Did hook) reply fs (rw (e, n) (did_is w hook)) r s gs m
+  pub did_moves : {pace : Pace} (world : World) (callback_id : ℕ) (call : Call) (hook name : Text) (reply : Answer) (frames : List Frame) → name ≡ hook
+      → reply ≡ answer.Number (pos (times_fired world.counts name))
+      → (result : Result Move RunFault) (end : World) (left : List Frame)
+      → Moves pace engine (then_rest engine (invoke engine world callback_id (with_answer call reply)) frames) result end left
+      → Moves pace engine (then_rest engine (pending_left engine world callback_id call (Next (next.Ask (Did hook)))) frames) result end left
+  did_moves world callback_id call hook name reply frames same_name is_reply result end left moves = plain_moves world callback_id call
+      (Did hook) reply frames (rw (is_reply, same_name) (did_is world hook)) result end left moves
 
-  pub doing_moves : {pace : Pace} (w : World) (k : ℕ) (call : Call) (hook name : Text) (reply : Answer) (fs : List Frame) → name ≡ hook
-      → reply ≡ answer.Flag (list_any (bytes_eq name) w.running)
-      → (r : Result Move RunFault) (s : World) (gs : List Frame) → Moves pace engine (then_rest engine (invoke engine w k (with_answer call reply)) fs) r s gs
-      → Moves pace engine (then_rest engine (pending_left engine w k call (Next (next.Ask (Doing hook)))) fs) r s gs
-  doing_moves w k call hook name reply fs n e r s gs m = plain_moves w k call (Doing hook) reply fs (rw (e, n) (doing_is w hook)) r s gs m
+  pub doing_moves : {pace : Pace} (world : World) (callback_id : ℕ) (call : Call) (hook name : Text) (reply : Answer) (frames : List Frame) → name ≡ hook
+      → reply ≡ answer.Flag (list_any (bytes_eq name) world.running)
+      → (result : Result Move RunFault) (end : World) (left : List Frame)
+      → Moves pace engine (then_rest engine (invoke engine world callback_id (with_answer call reply)) frames) result end left
+      → Moves pace engine (then_rest engine (pending_left engine world callback_id call (Next (next.Ask (Doing hook)))) frames) result end left
+  doing_moves world callback_id call hook name reply frames same_name is_reply result end left moves = plain_moves world callback_id call
+      (Doing hook) reply frames (rw (is_reply, same_name) (doing_is world hook)) result end left moves
 
-  pub tag_moves : {pace : Pace} (w : World) (k : ℕ) (call : Call) (hook name : Text) (reply : Answer) (fs : List Frame) → name ≡ hook
-      → reply ≡ answer.Flag (is_some (value_of w.tags name))
-      → (r : Result Move RunFault) (s : World) (gs : List Frame) → Moves pace engine (then_rest engine (invoke engine w k (with_answer call reply)) fs) r s gs
-      → Moves pace engine (then_rest engine (pending_left engine w k call (Next (next.Ask (TagExists hook)))) fs) r s gs
-  tag_moves w k call hook name reply fs n e r s gs m = plain_moves w k call (TagExists hook) reply fs (rw (e, n) (tag_is w hook)) r s gs m
+  pub tag_moves : {pace : Pace} (world : World) (callback_id : ℕ) (call : Call) (hook name : Text) (reply : Answer) (frames : List Frame) → name ≡ hook
+      → reply ≡ answer.Flag (is_some (value_of world.tags name))
+      → (result : Result Move RunFault) (end : World) (left : List Frame)
+      → Moves pace engine (then_rest engine (invoke engine world callback_id (with_answer call reply)) frames) result end left
+      → Moves pace engine (then_rest engine (pending_left engine world callback_id call (Next (next.Ask (TagExists hook)))) frames) result end left
+  tag_moves world callback_id call hook name reply frames same_name is_reply result end left moves = plain_moves world callback_id call
+      (TagExists hook) reply frames (rw (is_reply, same_name) (tag_is world hook)) result end left moves
 
-  pub option_moves : {pace : Pace} (w : World) (k : ℕ) (call : Call) (hook name : Text) (reply : Answer) (fs : List Frame) → name ≡ hook
-      → reply ≡ text_or_false (value_of w.options name)
-      → (r : Result Move RunFault) (s : World) (gs : List Frame) → Moves pace engine (then_rest engine (invoke engine w k (with_answer call reply)) fs) r s gs
-      → Moves pace engine (then_rest engine (pending_left engine w k call (Next (next.Ask (GetOption hook)))) fs) r s gs
-  option_moves w k call hook name reply fs n e r s gs m = plain_moves w k call (GetOption hook) reply fs (rw (e, n) (option_is w hook)) r s gs m
+  pub option_moves : {pace : Pace} (world : World) (callback_id : ℕ) (call : Call) (hook name : Text) (reply : Answer) (frames : List Frame) → name ≡ hook
+      → reply ≡ text_or_false (value_of world.options name)
+      → (result : Result Move RunFault) (end : World) (left : List Frame)
+      → Moves pace engine (then_rest engine (invoke engine world callback_id (with_answer call reply)) frames) result end left
+      → Moves pace engine (then_rest engine (pending_left engine world callback_id call (Next (next.Ask (GetOption hook)))) frames) result end left
+  option_moves world callback_id call hook name reply frames same_name is_reply result end left moves = plain_moves world callback_id call
+      (GetOption hook) reply frames (rw (is_reply, same_name) (option_is world hook)) result end left moves
 
-  pub has_moves : {pace : Pace} (w : World) (k : ℕ) (call : Call) (hook name : Text) (other : Option ℕ) (reply : Answer) (fs : List Frame) → name ≡ hook
-      → reply ≡ has_answer w name other
-      → (r : Result Move RunFault) (s : World) (gs : List Frame) → Moves pace engine (then_rest engine (invoke engine w k (with_answer call reply)) fs) r s gs
-      → Moves pace engine (then_rest engine (pending_left engine w k call (Next (next.Ask (Has hook other)))) fs) r s gs
-  has_moves w k call hook name other reply fs n e r s gs m = plain_moves w k call (Has hook other) reply fs (rw (e, n) (has_is w hook other)) r s gs m
+  pub has_moves : {pace : Pace} (world : World) (callback_id : ℕ) (call : Call) (hook name : Text) (other : Option ℕ) (reply : Answer) (frames : List Frame)
+      → name ≡ hook
+      → reply ≡ has_answer world name other
+      → (result : Result Move RunFault) (end : World) (left : List Frame)
+      → Moves pace engine (then_rest engine (invoke engine world callback_id (with_answer call reply)) frames) result end left
+      → Moves pace engine (then_rest engine (pending_left engine world callback_id call (Next (next.Ask (Has hook other)))) frames) result end left
+  has_moves world callback_id call hook name other reply frames same_name is_reply result end left moves = plain_moves world callback_id call
+      (Has hook other) reply frames (rw (is_reply, same_name) (has_is world hook other)) result end left moves
 
-  pub current_moves : {pace : Pace} (w : World) (k : ℕ) (call : Call) (reply : Answer) (fs : List Frame) → reply ≡ answer.Text (last_or_empty w.running)
-      → (r : Result Move RunFault) (s : World) (gs : List Frame) → Moves pace engine (then_rest engine (invoke engine w k (with_answer call reply)) fs) r s gs
-      → Moves pace engine (then_rest engine (pending_left engine w k call (Next (next.Ask Current))) fs) r s gs
-  current_moves w k call reply fs e r s gs m = plain_moves w k call Current reply fs (rw e (current_is w)) r s gs m
+  pub current_moves : {pace : Pace} (world : World) (callback_id : ℕ) (call : Call) (reply : Answer) (frames : List Frame)
+      → reply ≡ answer.Text (last_or_empty world.running)
+      → (result : Result Move RunFault) (end : World) (left : List Frame)
+      → Moves pace engine (then_rest engine (invoke engine world callback_id (with_answer call reply)) frames) result end left
+      → Moves pace engine (then_rest engine (pending_left engine world callback_id call (Next (next.Ask Current))) frames) result end left
+  current_moves world callback_id call reply frames is_reply result end left moves = plain_moves world callback_id call Current reply frames
+      (rw is_reply (current_is world)) result end left moves
 
   -- ---- by the pending step
 
-  pub waits_moves : {pace : Pace} (w : World) (k : ℕ) (call : Call) (nothing : Text) (fs : List Frame) (pending : Pending)
-      → pending_left engine w k call pending ≡ Done w [] → nothing ≡ []
-      → Moves pace engine (then_rest engine (pending_left engine w k call pending) fs) (Ok (Handed nothing)) w fs
-  waits_moves w k call nothing fs pending e n = rw n (handed_moves (pending_left engine w k call pending) w [] fs e)
+  pub waits_moves : {pace : Pace} (world : World) (callback_id : ℕ) (call : Call) (nothing : Text) (frames : List Frame) (pending : Pending)
+      → pending_left engine world callback_id call pending ≡ Done world [] → nothing ≡ []
+      → Moves pace engine (then_rest engine (pending_left engine world callback_id call pending) frames) (Ok (Handed nothing)) world frames
+  waits_moves world callback_id call nothing frames pending is_done is_empty = rw is_empty
+      (handed_moves (pending_left engine world callback_id call pending) world [] frames is_done)
 
   -- an invocation that waits, to which nothing is handed
-  pub others_wait : (w : World) (k : ℕ) (call : Call) (pending : Pending) → ((n : Then) → pending ≡ Next n → ⊥) → (pending ≡ Core → ⊥)
-      → pending_left engine w k call pending ≡ Done w []
+  pub others_wait : (world : World) (callback_id : ℕ) (call : Call) (pending : Pending) → ((following : Then) → pending ≡ Next following → ⊥)
+      → (pending ≡ Core → ⊥)
+      → pending_left engine world callback_id call pending ≡ Done world []
   unfolding pending_left
-  others_wait w k call (Next n) h g = absurd (h n refl)
-  others_wait w k call Core h g = absurd (g refl)
-  others_wait w k call ForText h g = refl
-  others_wait w k call ForNothing h g = refl
-  others_wait w k call ForCore h g = refl
+  others_wait world callback_id call (Next following) not_next not_core = absurd (not_next following refl)
+  others_wait world callback_id call Core not_next not_core = absurd (not_core refl)
+  others_wait world callback_id call ForText not_next not_core = refl
+  others_wait world callback_id call ForNothing not_next not_core = refl
+  others_wait world callback_id call ForCore not_next not_core = refl
 
   -- a result that is handed to an invocation
-  pub text_answered : {pace : Pace} (w up : World) (k : ℕ) (call : Call) (text : Text) (fs : List Frame) → up ≡ one_level_up w
-      → (r : Result Move RunFault) (s : World) (gs : List Frame) → Moves pace engine
-      (then_rest engine (invoke engine up k (with_answer call (answer.Text text))) fs) r s gs
-      → Moves pace engine (then_rest engine (pending_handed engine w k call ForText text) fs) r s gs
+  pub text_answered : {pace : Pace} (world up : World) (callback_id : ℕ) (call : Call) (text : Text) (frames : List Frame) → up ≡ one_level_up world
+      → (result : Result Move RunFault) (end : World) (left : List Frame) → Moves pace engine
+      (then_rest engine (invoke engine up callback_id (with_answer call (answer.Text text))) frames) result end left
+      → Moves pace engine (then_rest engine (pending_handed engine world callback_id call ForText text) frames) result end left
   unfolding pending_handed
-  text_answered w up k call text fs e r s gs m = moves_same engine (invoke engine (one_level_up w) k (with_answer call (answer.Text text)))
-      (invoke engine up k (with_answer call (answer.Text text))) fs (ap (λ (v : World). invoke engine v k (with_answer call (answer.Text text))) (sym e)) r s
-      gs m
+  text_answered world up callback_id call text frames up_is result end left moves = moves_same engine
+      (invoke engine (one_level_up world) callback_id (with_answer call (answer.Text text)))
+      (invoke engine up callback_id (with_answer call (answer.Text text))) frames
+      (ap (λ (other : World). invoke engine other callback_id (with_answer call (answer.Text text))) (sym up_is)) result end
+      left moves
 
-  pub nothing_handed : {pace : Pace} (w up : World) (k : ℕ) (call : Call) (text : Text) (fs : List Frame) → up ≡ one_level_up w
-      → (r : Result Move RunFault) (s : World) (gs : List Frame)
-      → Moves pace engine (then_rest engine (invoke engine up k (with_answer call answer.Nothing)) fs) r
-      s gs → Moves pace engine (then_rest engine (pending_handed engine w k call ForNothing text) fs) r s gs
+  pub nothing_handed : {pace : Pace} (world up : World) (callback_id : ℕ) (call : Call) (text : Text) (frames : List Frame) → up ≡ one_level_up world
+      → (result : Result Move RunFault) (end : World) (left : List Frame)
+      → Moves pace engine (then_rest engine (invoke engine up callback_id (with_answer call answer.Nothing)) frames) result
+      end left → Moves pace engine (then_rest engine (pending_handed engine world callback_id call ForNothing text) frames) result end left
   unfolding pending_handed
-  nothing_handed w up k call text fs e r s gs m = moves_same engine (invoke engine (one_level_up w) k (with_answer call answer.Nothing))
-      (invoke engine up k (with_answer call answer.Nothing)) fs (ap (λ (v : World). invoke engine v k (with_answer call answer.Nothing)) (sym e)) r s gs m
+  nothing_handed world up callback_id call text frames up_is result end left moves = moves_same engine
+      (invoke engine (one_level_up world) callback_id (with_answer call answer.Nothing))
+      (invoke engine up callback_id (with_answer call answer.Nothing)) frames
+      (ap (λ (other : World). invoke engine other callback_id (with_answer call answer.Nothing)) (sym up_is)) result end left moves
 
-  pub core_handed : {pace : Pace} (w up : World) (k : ℕ) (call : Call) (text : Text) (fs : List Frame) → up ≡ one_level_up w
-      → Moves pace engine (then_rest engine (pending_handed engine w k call ForCore text) fs) (Ok (Handed text)) up fs
+  pub core_handed : {pace : Pace} (world up : World) (callback_id : ℕ) (call : Call) (text : Text) (frames : List Frame) → up ≡ one_level_up world
+      → Moves pace engine (then_rest engine (pending_handed engine world callback_id call ForCore text) frames) (Ok (Handed text)) up frames
   unfolding pending_handed
-  core_handed w up k call text fs e = handed_moves (Done (one_level_up w) text) up text fs (ap (λ (v : World). Done v text) (sym e))
+  core_handed world up callback_id call text frames up_is = handed_moves (Done (one_level_up world) text) up text frames
+      (ap (λ (other : World). Done other text) (sym up_is))
 
   -- one that waits for nothing hands the result on
-  others_hand : (w : World) (k : ℕ) (call : Call) (pending : Pending) (text : Text) → (pending ≡ ForText → ⊥) → (pending ≡ ForNothing → ⊥)
-      → (pending ≡ ForCore → ⊥) → pending_handed engine w k call pending text ≡ Done w text
+  others_hand : (world : World) (callback_id : ℕ) (call : Call) (pending : Pending) (text : Text) → (pending ≡ ForText → ⊥) → (pending ≡ ForNothing → ⊥)
+      → (pending ≡ ForCore → ⊥) → pending_handed engine world callback_id call pending text ≡ Done world text
   unfolding pending_handed
-  others_hand w k call (Next n) text f g h = refl
-  others_hand w k call Core text f g h = refl
-  others_hand w k call ForText text f g h = absurd (f refl)
-  others_hand w k call ForNothing text f g h = absurd (g refl)
-  others_hand w k call ForCore text f g h = absurd (h refl)
+  others_hand world callback_id call (Next following) text not_text not_nothing not_core = refl
+  others_hand world callback_id call Core text not_text not_nothing not_core = refl
+  others_hand world callback_id call ForText text not_text not_nothing not_core = absurd (not_text refl)
+  others_hand world callback_id call ForNothing text not_text not_nothing not_core = absurd (not_nothing refl)
+  others_hand world callback_id call ForCore text not_text not_nothing not_core = absurd (not_core refl)
 
-  pub others_handed : {pace : Pace} (w : World) (k : ℕ) (call : Call) (pending : Pending) (text : Text) (fs : List Frame) → (pending ≡ ForText → ⊥)
+  pub others_handed : {pace : Pace} (world : World) (callback_id : ℕ) (call : Call) (pending : Pending) (text : Text) (frames : List Frame)
+      → (pending ≡ ForText → ⊥)
       → (pending ≡ ForNothing → ⊥) → (pending ≡ ForCore → ⊥)
-      → Moves pace engine (then_rest engine (pending_handed engine w k call pending text) fs) (Ok (Handed text)) w fs
-  others_handed w k call pending text fs f g h =
-      handed_moves (pending_handed engine w k call pending text) w text fs (others_hand w k call pending text f g h)
+      → Moves pace engine (then_rest engine (pending_handed engine world callback_id call pending text) frames) (Ok (Handed text)) world frames
+  others_handed world callback_id call pending text frames not_text not_nothing not_core =
+      handed_moves (pending_handed engine world callback_id call pending text) world text frames
+      (others_hand world callback_id call pending text not_text not_nothing not_core)
 
   -- ---- shortcodes
 
   -- a shortcode pass invokes its next handler, by the pass and the invocation as they are then
-  pub text_invokes : (w : World) (p now : PassOverText) (found : Option Handling) (h : Handling)
-      → ((inv : Invocation) → pieces_pass inv p.cut.text w p.so_far p.cut.pieces ≡ handling_pass inv p.cut.text w found now.so_far now.cut.pieces)
-      → found ≡ Some h → now.cut.text ≡ p.cut.text → now.hand ≡ Some h.matched
-      → text_left engine w p ≡ and_then (invoke engine w h.invoked.callback h.invoked.call) (λ later x. handed engine later (frame.Shortcodes now) x)
+  pub text_invokes : (world : World) (text_pass now : PassOverText) (found : Option Handling) (handler : Handling)
+      → ((inv : Invocation) → pieces_pass inv text_pass.cut.text world text_pass.so_far text_pass.cut.pieces
+      ≡ handling_pass inv text_pass.cut.text world found now.so_far now.cut.pieces)
+      → found ≡ Some handler → now.cut.text ≡ text_pass.cut.text → now.hand ≡ Some handler.matched
+      → text_left engine world text_pass ≡ and_then (invoke engine world handler.invoked.callback handler.invoked.call)
+      (λ later given. handed engine later (frame.Shortcodes now) given)
   unfolding handed text_handed
-  text_invokes w p now found h e q t m =
-      e (invoke engine)
-      ∙ ap (λ (o : Option Handling). handling_pass (invoke engine) p.cut.text w o now.so_far now.cut.pieces) q
-      ∙ ap (λ (z : Text). and_then (invoke engine w h.invoked.callback h.invoked.call)
-      (λ later x. and_then (answer_shown (invoke engine) z later h.matched x)
-      (λ last shown. pieces_pass (invoke engine) z last (now.so_far ++ shown) now.cut.pieces))) (sym t)
-      ∙ ap (λ (o : Option Matched). and_then (invoke engine w h.invoked.callback h.invoked.call)
-      (λ later x. handed engine later (frame.Shortcodes (record { cut = now.cut; so_far = now.so_far; hand = o })) x)) (sym m)
+  text_invokes world text_pass now found handler same_pieces found_is same_text matched_is =
+      same_pieces (invoke engine)
+      ∙ ap (λ (some : Option Handling). handling_pass (invoke engine) text_pass.cut.text world some now.so_far now.cut.pieces) found_is
+      ∙ ap (λ (over : Text). and_then (invoke engine world handler.invoked.callback handler.invoked.call)
+      (λ later given. and_then (answer_shown (invoke engine) over later handler.matched given)
+      (λ last shown. pieces_pass (invoke engine) over last (now.so_far ++ shown) now.cut.pieces))) (sym same_text)
+      ∙ ap (λ (some : Option Matched). and_then (invoke engine world handler.invoked.callback handler.invoked.call)
+      (λ later given. handed engine later (frame.Shortcodes (record { cut = now.cut; so_far = now.so_far; hand = some })) given)) (sym matched_is)
 
-  pub text_begin : {pace : Pace} (w : World) (text shown so_far : Text) (ps : List Piece) (cut : CutText) (fs : List Frame) → shown ≡ text
-      → ps ≡ pieces_of (live (map (λ p. p.0) w.tags) shown) shown → cut ≡ record { text = text; pieces = ps } → so_far ≡ []
-      → (r : Result Move RunFault) (s : World) (gs : List Frame) → Moves pace engine
-      (then_rest engine (text_left engine w (record { cut = cut; so_far = so_far; hand = None })) fs) r s gs
-      → Moves pace engine (then_rest engine (shortcodes_pass (invoke engine) w text) fs) r s gs
-  text_begin w text shown so_far ps cut fs t e c n r s gs m =
-      moves_same engine (shortcodes_pass (invoke engine) w text) (text_left engine w (record { cut = cut; so_far = so_far; hand = None })) fs
-      (rw (c, n, e, t) (text_begins engine w text)) r s gs m
+  pub text_begin : {pace : Pace} (world : World) (text shown so_far : Text) (cut_pieces : List Piece) (cut : CutText) (frames : List Frame) → shown ≡ text
+      → cut_pieces ≡ pieces_of (live (map (λ pair. pair.0) world.tags) shown) shown → cut ≡ record { text = text; pieces = cut_pieces } → so_far ≡ []
+      → (result : Result Move RunFault) (end : World) (left : List Frame) → Moves pace engine
+      (then_rest engine (text_left engine world (record { cut = cut; so_far = so_far; hand = None })) frames) result end left
+      → Moves pace engine (then_rest engine (shortcodes_pass (invoke engine) world text) frames) result end left
+  text_begin world text shown so_far cut_pieces cut frames shown_is pieces_are cut_is is_empty result end left moves =
+      moves_same engine (shortcodes_pass (invoke engine) world text) (text_left engine world (record { cut = cut; so_far = so_far; hand = None })) frames
+      (rw (cut_is, is_empty, pieces_are, shown_is) (text_begins engine world text)) result end left moves
 
   -- a handler's answer goes through the filter, whose value the pass waits for
-  pub filter_begins : {pace : Pace} (w : World) (p : PassOverText) (m : Matched) (x name shown : Text) (args : List Text) (fs fs' : List Frame)
-      → name ≡ shortcode_filter → shown ≡ between_brackets m x → args ≡ text_at p.cut.text m.name ∷ []
-      → fs' ≡ frame.Shortcodes (record p { hand = None }) ∷ fs
-      → (r : Result Move RunFault) (s : World) (gs : List Frame) → Moves pace engine (then_rest engine (filter_pass (invoke engine) w name shown args) fs') r s
-      gs
-      → Moves pace engine (then_rest engine (text_handed engine w p (Some m) x) fs) r s gs
+  pub filter_begins : {pace : Pace} (world : World) (text_pass : PassOverText) (match : Matched) (given name shown : Text) (args : List Text)
+      (frames pushed : List Frame)
+      → name ≡ shortcode_filter → shown ≡ between_brackets match given → args ≡ text_at text_pass.cut.text match.name ∷ []
+      → pushed ≡ frame.Shortcodes (record text_pass { hand = None }) ∷ frames
+      → (result : Result Move RunFault) (end : World) (left : List Frame)
+      → Moves pace engine (then_rest engine (filter_pass (invoke engine) world name shown args) pushed) result end
+      left
+      → Moves pace engine (then_rest engine (text_handed engine world text_pass (Some match) given) frames) result end left
   unfolding handed text_handed
-  filter_begins w p m x name shown args fs fs' n b a f r s gs k =
-      moves_onto engine (text_handed engine w p (Some m) x) (filter_pass (invoke engine) w name shown args)
-      (frame.Shortcodes (record p { hand = None })) fs fs'
-      (rw (n, b, a) refl) f r s gs k
+  filter_begins world text_pass match given name shown args frames pushed name_is shown_is args_are pushed_is result end left moves =
+      moves_onto engine (text_handed engine world text_pass (Some match) given) (filter_pass (invoke engine) world name shown args)
+      (frame.Shortcodes (record text_pass { hand = None })) frames pushed
+      (rw (name_is, shown_is, args_are) refl) pushed_is result end left moves
 
   -- a text that replaces a match as it is: the filter's value, or a handler's answer if nothing is registered on the
   -- filter
-  placed : (w : World) (p : PassOverText) (x : Text) (hand : Option Matched) → (IsSome hand → has w.table shortcode_filter ≡ false)
-      → text_handed engine w p hand x ≡ text_left engine w (record p { so_far = p.so_far ++ in_place hand x })
+  placed : (world : World) (text_pass : PassOverText) (given : Text) (hand : Option Matched) → (IsSome hand → has world.table shortcode_filter ≡ false)
+      → text_handed engine world text_pass hand given ≡ text_left engine world (record text_pass { so_far = text_pass.so_far ++ in_place hand given })
   unfolding text_handed
-  placed w p x None h = refl
-  placed w p x (Some m) h =
-      ap (λ (t : Trace Text). and_then t (λ later shown. pieces_pass (invoke engine) p.cut.text later (p.so_far ++ shown) p.cut.pieces))
-      (filter_unhooked (invoke engine) w shortcode_filter (between_brackets m x) (text_at p.cut.text m.name ∷ []) (h refl))
+  placed world text_pass given None unhooked = refl
+  placed world text_pass given (Some match) unhooked =
+      ap (λ (filtering : Trace Text). and_then filtering
+      (λ later shown. pieces_pass (invoke engine) text_pass.cut.text later (text_pass.so_far ++ shown) text_pass.cut.pieces))
+      (filter_unhooked (invoke engine) world shortcode_filter (between_brackets match given) (text_at text_pass.cut.text match.name ∷ []) (unhooked refl))
 
   -- the same, of a pass that is handed a handler's answer
-  pub answer_placed : (w : World) (p q : PassOverText) (x : Text) → has w.table shortcode_filter ≡ false
-      → q ≡ record p { so_far = p.so_far ++ in_place p.hand x } → handed engine w (frame.Shortcodes p) x ≡ text_left engine w q
+  pub answer_placed : (world : World) (text_pass after : PassOverText) (given : Text) → has world.table shortcode_filter ≡ false
+      → after ≡ record text_pass { so_far = text_pass.so_far ++ in_place text_pass.hand given }
+      → handed engine world (frame.Shortcodes text_pass) given ≡ text_left engine world after
   unfolding handed
-  answer_placed w p q x h e = placed w p x p.hand (λ some. h) ∙ ap (λ (z : PassOverText). text_left engine w z) (sym e)
+  answer_placed world text_pass after given unhooked after_is = placed world text_pass given text_pass.hand (λ some. unhooked)
+      ∙ ap (λ (other : PassOverText). text_left engine world other) (sym after_is)
 
-  pub text_placed : {pace : Pace} (w : World) (p q : PassOverText) (x : Text) (fs : List Frame) → (IsSome p.hand → has w.table shortcode_filter ≡ false)
-      → q ≡ record p { so_far = p.so_far ++ in_place p.hand x }
-      → (r : Result Move RunFault) (s : World) (gs : List Frame) → Moves pace engine (then_rest engine (text_left engine w q) fs) r s gs
-      → Moves pace engine (then_rest engine (text_handed engine w p p.hand x) fs) r s gs
-  text_placed w p q x fs h e r s gs k =
-      moves_same engine (text_handed engine w p p.hand x) (text_left engine w q) fs
-      (placed w p x p.hand h ∙ ap (λ (z : PassOverText). text_left engine w z) (sym e)) r s gs k
+  pub text_placed : {pace : Pace} (world : World) (text_pass after : PassOverText) (given : Text) (frames : List Frame)
+      → (IsSome text_pass.hand → has world.table shortcode_filter ≡ false)
+      → after ≡ record text_pass { so_far = text_pass.so_far ++ in_place text_pass.hand given }
+      → (result : Result Move RunFault) (end : World) (left : List Frame)
+      → Moves pace engine (then_rest engine (text_left engine world after) frames) result end left
+      → Moves pace engine (then_rest engine (text_handed engine world text_pass text_pass.hand given) frames) result end left
+  text_placed world text_pass after given frames unhooked after_is result end left moves =
+      moves_same engine (text_handed engine world text_pass text_pass.hand given) (text_left engine world after) frames
+      (placed world text_pass given text_pass.hand unhooked ∙ ap (λ (other : PassOverText). text_left engine world other) (sym after_is)) result end left moves
 
   -- a text without shortcodes
-  pub text_back : {pace : Pace} (w : World) (text shown : Text) (ps : List Piece) (fs : List Frame) → shown ≡ text
-      → ps ≡ pieces_of (live (map (λ p. p.0) w.tags) shown) shown → pieces_pass (invoke engine) text w [] ps ≡ Done w text
-      → Moves pace engine (then_rest engine (shortcodes_pass (invoke engine) w text) fs) (Ok (Handed text)) w fs
-  text_back w text shown ps fs t e d = handed_moves (shortcodes_pass (invoke engine) w text) w text fs (text_begins engine w text ∙ (rw (e, t) at d))
+  pub text_back : {pace : Pace} (world : World) (text shown : Text) (cut_pieces : List Piece) (frames : List Frame) → shown ≡ text
+      → cut_pieces ≡ pieces_of (live (map (λ pair. pair.0) world.tags) shown) shown → pieces_pass (invoke engine) text world [] cut_pieces ≡ Done world text
+      → Moves pace engine (then_rest engine (shortcodes_pass (invoke engine) world text) frames) (Ok (Handed text)) world frames
+  text_back world text shown cut_pieces frames shown_is pieces_are is_done = handed_moves (shortcodes_pass (invoke engine) world text) world text frames
+      (text_begins engine world text ∙ (rw (pieces_are, shown_is) at is_done))
 
   -- ---- the innermost frame
 
-  pub pass_first : {pace : Pace} (w : World) (p : HookPass) (fs : List Frame) (r : Result Move RunFault) (s : World) (gs : List Frame)
-      → Moves pace engine (then_rest engine (pass_left engine w p) fs) r s gs → Moves pace engine (rest engine w (frame.Pass p ∷ fs)) r s gs
+  pub pass_first : {pace : Pace} (world : World) (hook_pass : HookPass) (frames : List Frame) (result : Result Move RunFault) (end : World) (left : List Frame)
+      → Moves pace engine (then_rest engine (pass_left engine world hook_pass) frames) result end left
+      → Moves pace engine (rest engine world (frame.Pass hook_pass ∷ frames)) result end left
   unfolding rest goes_on
-  pass_first w p fs r s gs m = m
+  pass_first world hook_pass frames result end left moves = moves
 
-  pub invocation_first : {pace : Pace} (w : World) (i : Invoked) (fs : List Frame) (r : Result Move RunFault) (s : World) (gs : List Frame)
-      → Moves pace engine (then_rest engine (pending_left engine w i.callback i.call i.pending) fs) r s gs
-      → Moves pace engine (rest engine w (frame.Invocation i ∷ fs)) r s gs
+  pub invocation_first : {pace : Pace} (world : World) (invoked : Invoked) (frames : List Frame) (result : Result Move RunFault) (end : World)
+      (left : List Frame)
+      → Moves pace engine (then_rest engine (pending_left engine world invoked.callback invoked.call invoked.pending) frames) result end left
+      → Moves pace engine (rest engine world (frame.Invocation invoked ∷ frames)) result end left
   unfolding rest goes_on
-  invocation_first w i fs r s gs m = m
+  invocation_first world invoked frames result end left moves = moves
 
-  pub text_first : {pace : Pace} (w : World) (p : PassOverText) (fs : List Frame) (r : Result Move RunFault) (s : World) (gs : List Frame)
-      → Moves pace engine (then_rest engine (text_left engine w p) fs) r s gs → Moves pace engine (rest engine w (frame.Shortcodes p ∷ fs)) r s gs
+  pub text_first : {pace : Pace} (world : World) (text_pass : PassOverText) (frames : List Frame) (result : Result Move RunFault) (end : World)
+      (left : List Frame)
+      → Moves pace engine (then_rest engine (text_left engine world text_pass) frames) result end left
+      → Moves pace engine (rest engine world (frame.Shortcodes text_pass ∷ frames)) result end left
   unfolding rest goes_on
-  text_first w p fs r s gs m = m
+  text_first world text_pass frames result end left moves = moves
 
   -- once it is handed a result
 
-  pub pass_next : {pace : Pace} (w : World) (p q : HookPass) (x : Text) (fs : List Frame) → q ≡ record p { value = value_after p.kind p.value x }
-      → (r : Result Move RunFault) (s : World) (gs : List Frame) → Moves pace engine (then_rest engine (pass_left engine w q) fs) r s gs
-      → Moves pace engine (rest_with engine w (frame.Pass p ∷ fs) x) r s gs
+  pub pass_next : {pace : Pace} (world : World) (hook_pass after : HookPass) (given : Text) (frames : List Frame)
+      → after ≡ record hook_pass { value = value_after hook_pass.kind hook_pass.value given }
+      → (result : Result Move RunFault) (end : World) (left : List Frame)
+      → Moves pace engine (then_rest engine (pass_left engine world after) frames) result end left
+      → Moves pace engine (rest_with engine world (frame.Pass hook_pass ∷ frames) given) result end left
   unfolding rest_with handed
-  pass_next w p q x fs e r s gs m = moves_same engine (pass_left engine w (record p { value = value_after p.kind p.value x })) (pass_left engine w q) fs
-      (ap (λ (z : HookPass). pass_left engine w z) (sym e)) r s gs m
+  pass_next world hook_pass after given frames after_is result end left moves = moves_same engine
+      (pass_left engine world (record hook_pass { value = value_after hook_pass.kind hook_pass.value given })) (pass_left engine world after) frames
+      (ap (λ (other : HookPass). pass_left engine world other) (sym after_is)) result end left moves
 
-  pub invocation_next : {pace : Pace} (w : World) (i : Invoked) (x : Text) (fs : List Frame) (r : Result Move RunFault) (s : World) (gs : List Frame)
-      → Moves pace engine (then_rest engine (pending_handed engine w i.callback i.call i.pending x) fs) r s gs
-      → Moves pace engine (rest_with engine w (frame.Invocation i ∷ fs) x) r s gs
+  pub invocation_next : {pace : Pace} (world : World) (invoked : Invoked) (given : Text) (frames : List Frame) (result : Result Move RunFault) (end : World)
+      (left : List Frame)
+      → Moves pace engine (then_rest engine (pending_handed engine world invoked.callback invoked.call invoked.pending given) frames) result end left
+      → Moves pace engine (rest_with engine world (frame.Invocation invoked ∷ frames) given) result end left
   unfolding rest_with handed
-  invocation_next w i x fs r s gs m = m
+  invocation_next world invoked given frames result end left moves = moves
 
-  pub text_next : {pace : Pace} (w : World) (p : PassOverText) (x : Text) (fs : List Frame) (r : Result Move RunFault) (s : World) (gs : List Frame)
-      → Moves pace engine (then_rest engine (text_handed engine w p p.hand x) fs) r s gs → Moves pace engine (rest_with engine w (frame.Shortcodes p ∷ fs) x) r
-      s gs
+  pub text_next : {pace : Pace} (world : World) (text_pass : PassOverText) (given : Text) (frames : List Frame) (result : Result Move RunFault) (end : World)
+      (left : List Frame)
+      → Moves pace engine (then_rest engine (text_handed engine world text_pass text_pass.hand given) frames) result end left
+      → Moves pace engine (rest_with engine world (frame.Shortcodes text_pass ∷ frames) given) result
+      end left
   unfolding rest_with handed
-  text_next w p x fs r s gs m = m
+  text_next world text_pass given frames result end left moves = moves
 
   -- ---- no frame
 
-  pub none_next : (w : World) (fs : List Frame) (x : Text) → fs ≡ [] → rest_with engine w fs x ≡ Done w x
+  pub none_next : (world : World) (frames : List Frame) (given : Text) → frames ≡ [] → rest_with engine world frames given ≡ Done world given
   unfolding rest_with
-  none_next w fs x e = rw e refl
+  none_next world frames given are_none = rw are_none refl
 
-  pub nothing_left : (w : World) (job : Option Job) (fs gs : List Frame) (x : Text) → job ≡ None → fs ≡ [] → gs ≡ [] → x ≡ []
-      → left_from engine w job fs ≡ rest_with engine w gs x
+  pub nothing_left : (world : World) (job : Option Job) (frames none : List Frame) (given : Text) → job ≡ None → frames ≡ [] → none ≡ [] → given ≡ []
+      → left_from engine world job frames ≡ rest_with engine world none given
   unfolding rest rest_with
-  nothing_left w job fs gs x j e f n = rw (j, e, f, n) refl
+  nothing_left world job frames none given job_is are_none left_is is_empty = rw (job_is, are_none, left_is, is_empty) refl
 
   pub job_alone : (w : World) (job : Job) (fs : List Frame) → fs ≡ [] → left_from engine w (Some job) fs ≡ job_left engine w job
   job_alone w job fs e = rw e (then_done engine (job_left engine w job))

@@ -13,7 +13,8 @@ use Rattle.shortcode_scan.specs.Matches.{span}
 use Rattle.shortcode_scan.specs.Pieces.{pieces_of, plain_between}
 use Rattle.shortcode_scan.specs.Live.{live}
 use Rattle.hook_machine.specs.declared.run.calls.PassKind.TheVariants.{Filter}
-use Rattle.hook_machine.specs.World.{Text, World}
+use Rattle.hook_changes.specs.Texts.{Text}
+use Rattle.hook_machine.specs.World.{World}
 use Rattle.hook_machine.specs.Trace.{Trace, Done, Turn, and_then}
 use Rattle.hook_machine.specs.Meaning.{Engine, Invocation, hook_call, deeper, pieces_pass, shortcodes_pass, filter_pass, invoke, first_or_empty}
 use Rattle.hook_machine.specs.Rest.{pass_from, pending_left}

@@ -27,7 +27,8 @@ use Rattle.hook_machine.specs.declared.run.frames.Frame.{Frame}
 use Rattle.hook_machine.specs.declared.run.frames.Frame.TheVariants as frame
 use Rattle.hook_machine.specs.declared.run.pieces.Work.{Work}
 use Rattle.hook_machine.specs.declared.run.pieces.Work.TheVariants as work
-use Rattle.hook_machine.specs.World.{Text, World}
+use Rattle.hook_changes.specs.Texts.{Text}
+use Rattle.hook_machine.specs.World.{World}
 use Rattle.hook_machine.specs.Trace.{Trace, Done, Refused, Turn, and_then}
 use Rattle.hook_machine.specs.Meaning.{Engine, Invocation, hook_call, arguments, value_after, group_pass, priorities_pass, pass, filter_pass, action_pass}
 use Rattle.hook_machine.specs.Meaning.{piece_pass, pieces_pass, shortcodes_pass, answered, deeper, follow, reply_to_call, invoked, invoked_with, invoke}

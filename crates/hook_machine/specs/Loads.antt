@@ -7,7 +7,8 @@ use Rattle.hook_changes.specs.declared.reply.Change.TheVariants.{Add, Remove, Re
 use Rattle.callback_store.specs.Shape.{Shape, is_held_by}
 use Rattle.hook_registry.specs.Named.{set_value, remove_value}
 use Rattle.hook_registry.specs.Table.{Registered, add, remove, remove_all}
-use Rattle.hook_machine.specs.World.{Text, World, core_changes}
+use Rattle.hook_changes.specs.Texts.{Text}
+use Rattle.hook_machine.specs.World.{World, core_changes}
 
 -- what is registered after a change
 abbrev pub registered_after : Registered → Change → Bool → Registered

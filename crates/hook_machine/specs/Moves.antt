@@ -12,7 +12,8 @@ use Rattle.hook_machine.specs.declared.run.frames.Move.{Move}
 use Rattle.hook_machine.specs.declared.run.frames.Move.TheVariants.{Turned, Handed}
 use Rattle.hook_machine.specs.declared.run.jobs.Turn.{Turn}
 use Rattle.hook_machine.specs.declared.run.jobs.Turn.TheVariants as turn
-use Rattle.hook_machine.specs.World.{Text, World}
+use Rattle.hook_changes.specs.Texts.{Text}
+use Rattle.hook_machine.specs.World.{World}
 use Rattle.hook_machine.specs.Trace.{Trace, Done, Refused, Turn as turned_to}
 use Rattle.hook_machine.specs.Meaning.{Engine}
 use Rattle.hook_machine.specs.Outcomes.{UnlessOutOfMemory}

@@ -23,18 +23,19 @@ module _ (new : Entry) where
   abbrev pub IsOther : Entry → Type 0
   IsOther e = (e.callback == new.callback) ≡ false
 
-  later : (x : Entry) (xs : List Entry) (i : ℕ) → AllWithin IsOther (x ∷ xs) 0 (suc i) → AllWithin IsOther xs 0 i
-  later x xs i f k d l h = f (suc k) d (omega arith) (omega arith)
+  later : (x : Entry) (items : List Entry) (i : ℕ) → AllWithin IsOther (x ∷ items) 0 (suc i) → AllWithin IsOther items 0 i
+  later x items i all at other low high = all (suc at) other (omega arith) (omega arith)
 
-  pub entry-there : (es : List Entry) (at : ℕ) (e m : Entry) → at < length es → AllWithin IsOther es 0 at → e ≡ get_or es at e → m ≡ get_or es at m
-      → (e.callback == new.callback) ≡ true
-      → set es at (record m { accepted = new.accepted }) ≡ with_entry es new
-  entry-there [] at e m h f u v t = absurd (omega arith)
-  entry-there (x ∷ es) zero e m h f u v t =
-      let here : (x.callback == new.callback) ≡ true = subst (λ (y : Entry). (y.callback == new.callback) ≡ true) u t in
-      rw here (ap (λ (y : Entry). record y { accepted = new.accepted } ∷ es) v)
-  entry-there (x ∷ es) (suc at) e m h f u v t = rw (f 0 x (omega arith) (omega arith))
-      (ap (λ ys. x ∷ ys) (entry-there es at e m (omega arith) (later x es at f) u v t))
+  pub entry-there : (entries : List Entry) (at : ℕ) (found old : Entry) → at < length entries → AllWithin IsOther entries 0 at
+      → found ≡ get_or entries at found → old ≡ get_or entries at old
+      → (found.callback == new.callback) ≡ true
+      → set entries at (record old { accepted = new.accepted }) ≡ with_entry entries new
+  entry-there [] at found old within others found_is old_is is_callback = absurd (omega arith)
+  entry-there (x ∷ entries) zero found old within others found_is old_is is_callback =
+      let here : (x.callback == new.callback) ≡ true = subst (λ (y : Entry). (y.callback == new.callback) ≡ true) found_is is_callback in
+      rw here (ap (λ (y : Entry). record y { accepted = new.accepted } ∷ entries) old_is)
+  entry-there (x ∷ entries) (suc at) found old within others found_is old_is is_callback = rw (others 0 x (omega arith) (omega arith))
+      (ap (λ ys. x ∷ ys) (entry-there entries at found old (omega arith) (later x entries at others) found_is old_is is_callback))
 
   pub entry-last : (es : List Entry) → AllWithin IsOther es 0 (length es) → es ++ new ∷ [] ≡ with_entry es new
   entry-last [] f = refl

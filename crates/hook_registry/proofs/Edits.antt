@@ -225,7 +225,8 @@ module _ (p : ℤ) where
   each-other [] h = tt
   each-other (g ∷ gs) h = (ap not h.0, each-other gs h.1)
 
-  pub removed-group : (gs : List Group) (at : ℕ) → AreGroups gs → IsAt p gs at → registrations_of (remove gs at) ≡ filter (is_other (Some p)) (registrations_of gs)
+  pub removed-group : (gs : List Group) (at : ℕ) → AreGroups gs → IsAt p gs at
+      → registrations_of (remove gs at) ≡ filter (is_other (Some p)) (registrations_of gs)
   removed-group [] at l i = absurd i
   removed-group (x ∷ gs) zero l i =
       sym

@@ -17,12 +17,13 @@ module _ (test : ℤ → Bool) (lesser : (p q : ℤ) → int_lt p q ≡ true →
   first_passes p (g ∷ gs) zero d h l t = lesser p g.priority h.0 t
   first_passes p (g ∷ gs) (suc j) d h l t = first_passes p gs j d h.1 (omega arith) t
 
-  pub is_partitioned : (gs : List Group) → AreGroups gs → IsPartitionedBy (λ g. test g.priority) gs
-  is_partitioned [] h i j d o l t = absurd (omega arith)
-  is_partitioned (g ∷ gs) h zero zero d o l t = t
-  is_partitioned (g ∷ gs) h zero (suc j) d o l t = first_passes g.priority gs j d h.1 (omega arith) t
-  is_partitioned (g ∷ gs) h (suc i) zero d o l t = absurd (omega arith)
-  is_partitioned (g ∷ gs) h (suc i) (suc j) d o l t = is_partitioned gs h.2 i j d (omega arith) (omega arith) t
+  pub is_partitioned : (groups : List Group) → AreGroups groups → IsPartitionedBy (λ g. test g.priority) groups
+  is_partitioned [] are_groups i j given ordered inside passes = absurd (omega arith)
+  is_partitioned (g ∷ groups) are_groups zero zero given ordered inside passes = passes
+  is_partitioned (g ∷ groups) are_groups zero (suc j) given ordered inside passes = first_passes g.priority groups j given are_groups.1 (omega arith) passes
+  is_partitioned (g ∷ groups) are_groups (suc i) zero given ordered inside passes = absurd (omega arith)
+  is_partitioned (g ∷ groups) are_groups (suc i) (suc j) given ordered inside passes = is_partitioned groups are_groups.2 i j given (omega arith)
+      (omega arith) passes
 
 pub still_below : (p a b : ℤ) → int_lt a b ≡ true → int_lt b p ≡ true → int_lt a p ≡ true
 still_below p a b l h = grind (arith, ints)
@@ -33,11 +34,11 @@ still_not_above p a b l h = let low : int_lt p a ≡ false = lower (not_true (in
     lower : int_lt p b ≡ false → int_lt p a ≡ false
     lower k = grind (arith, ints)
 
-later : (P : Group → Type 0) (x : Group) (xs : List Group) (i : ℕ) → AllWithin P (x ∷ xs) 0 (suc i) → AllWithin P xs 0 i
-later P x xs i f k d l h = f (suc k) d (omega arith) (omega arith)
+later : (P : Group → Type 0) (x : Group) (items : List Group) (i : ℕ) → AllWithin P (x ∷ items) 0 (suc i) → AllWithin P items 0 i
+later P x items i all at other low high = all (suc at) other (omega arith) (omega arith)
 
-rest : (P : Group → Type 0) (x : Group) (xs : List Group) (i : ℕ) → AllWithin P (x ∷ xs) (suc i) (length (x ∷ xs)) → AllWithin P xs i (length xs)
-rest P x xs i f k d l h = f (suc k) d (omega arith) (omega arith)
+rest : (P : Group → Type 0) (x : Group) (items : List Group) (i : ℕ) → AllWithin P (x ∷ items) (suc i) (length (x ∷ items)) → AllWithin P items i (length items)
+rest P x items i all at other low high = all (suc at) other (omega arith) (omega arith)
 
 module _ (p : ℤ) where
   abbrev Below : Group → Type 0

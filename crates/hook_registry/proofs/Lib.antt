@@ -5,8 +5,9 @@ pub mod Hooks
 pub mod TagNames
 pub mod RunOrder
 pub mod OneList
-pub mod Behind
+pub mod LaterPriorities
 pub mod Groups
+pub mod Alone
 pub mod Edits
 pub mod GroupPlaces
 pub mod Adding

@@ -69,8 +69,8 @@ module _ (c : ℕ) where
   abbrev pub IsWithout : Group → Type 0
   IsWithout g = list_any (is_by c) g.entries ≡ false
 
-  later : (x : Group) (gs : List Group) (i : ℕ) → AllWithin IsWithout (x ∷ gs) 0 (suc i) → AllWithin IsWithout gs 0 i
-  later x gs i f k d l h = f (suc k) d (omega arith) (omega arith)
+  later : (x : Group) (groups : List Group) (i : ℕ) → AllWithin IsWithout (x ∷ groups) 0 (suc i) → AllWithin IsWithout groups 0 i
+  later x groups i all at other low high = all (suc at) other (omega arith) (omega arith)
 
   pass_over : (q : ℤ) (es : List Entry) (rest : List Registration) → list_any (is_by c) es ≡ false
       → filter of_callback (registrations_at q es ++ rest) ≡ filter of_callback rest
@@ -82,7 +82,8 @@ module _ (c : ℕ) where
   first_there q [] rest t = absurd (true≢false (sym t))
   first_there q (e ∷ es) rest t =
       elim (e.callback == c) as (λ b. (b || list_any (is_by c) es) ≡ true → option_map (λ (r : Registration). r.priority)
-      (slice_get (cond b (registration_at q e ∷ filter of_callback (registrations_at q es ++ rest)) (filter of_callback (registrations_at q es ++ rest))) 0) ≡ Some q)
+      (slice_get (cond b (registration_at q e ∷ filter of_callback (registrations_at q es ++ rest)) (filter of_callback (registrations_at q es ++ rest))) 0)
+      ≡ Some q)
       [ true ↦ λ k. refl | false ↦ λ k. first_there q es rest k ] t
 
   pub least-found : (gs : List Group) (at : ℕ) (g : Group) → AreGroups gs → AllWithin IsWithout gs 0 at → at < length gs → g ≡ get_or gs at g
@@ -109,7 +110,8 @@ any_at : (p q : ℤ) (c : ℕ) (es : List Entry) (rest : List Registration) → 
     → list_any (is_of p c) (registrations_at q es ++ rest) ≡ (list_any (is_by c) es || list_any (is_of p c) rest)
 any_at p q c [] rest t = refl
 any_at p q c (e ∷ es) rest t =
-    rw t (elim (e.callback == c) as (λ b. (b || list_any (is_of p c) (registrations_at q es ++ rest)) ≡ ((b || list_any (is_by c) es) || list_any (is_of p c) rest))
+    rw t (elim (e.callback == c) as (λ b. (b || list_any (is_of p c) (registrations_at q es ++ rest))
+    ≡ ((b || list_any (is_by c) es) || list_any (is_of p c) rest))
     [ true ↦ refl | false ↦ any_at p q c es rest t ])
 
 any_elsewhere : (p q : ℤ) (c : ℕ) (es : List Entry) (rest : List Registration) → int_eq q p ≡ false

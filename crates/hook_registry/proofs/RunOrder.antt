@@ -76,7 +76,8 @@ module _ (new : Registration) where
               | true ↦ rw e refl
               | false ↦
                   elim (int_lt new.priority s.priority) as (λ b. int_lt new.priority s.priority ≡ b
-                  → cond b (new ∷ s ∷ with_placed r ss) (s ∷ with_added (with_placed r ss) new) ≡ with_placed r (cond b (new ∷ s ∷ ss) (s ∷ with_added ss new))) [
+                  → cond b (new ∷ s ∷ with_placed r ss) (s ∷ with_added (with_placed r ss) new)
+                  ≡ with_placed r (cond b (new ∷ s ∷ ss) (s ∷ with_added ss new))) [
                     | true ↦ λ k. rw (lower new.priority s.priority r.priority k e, e) refl
                     | false ↦ λ k. rw e (ap (λ rest. s ∷ rest) (added-placed r ss n))
                   ] refl

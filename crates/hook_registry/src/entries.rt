@@ -1,4 +1,4 @@
-//! The entries of one priority: those that the registry has, and the list of them that passes share.
+//! The entries of one priority: the registry's own list of them, and the one that passes share.
 ghost use Rattle.std.specs.Prelude.{◌≡◌, ◌∷◌, ◌++◌, [], ◌==◌, not, filter, length};
 ghost use Rattle.std.specs.Prelude.{IfOk, IfSome, MatchOption, OnOk, OnErr};
 ghost use Rattle.std.specs.List.{list_any};
@@ -113,7 +113,7 @@ fn without(shared: Option<SharedEntries>, callback: CallbackId) -> Option<Shared
 ///
 /// Passes go over a list of the entries that they share with the registry, so that a change doesn't
 /// alter what a pass has still to come to (class WP_Hook). The registry has the entries once more
-/// for itself: so a removal takes no memory, also while a pass shares the list.
+/// for itself, so that a removal does not allocate, also while a pass shares the list.
 pub struct GroupEntries {
     own: Vec<Entry>,
     /// The same entries, for passes to share. There are none after a removal while a pass shared

@@ -1,6 +1,6 @@
 //! The groups of one hook.
-ghost use Rattle.std.specs.Prelude.{◌≡◌, ◌==◌, ◌<◌, ◌+◌, ◌∷◌, [], true, not, length, map};
-ghost use Rattle.std.specs.Prelude.{filter, None, Some, IfOk, IfSome, IsTrue, OnOk, OnErr};
+ghost use Rattle.std.specs.Prelude.{◌≡◌, ◌==◌, ◌<◌, ◌+◌, ◌∷◌, [], true, false, not, length, map};
+ghost use Rattle.std.specs.Prelude.{filter, None, Some, IfOk, IsTrue, OnOk, OnErr};
 ghost use Rattle.std.specs.Prelude.{MatchOption, MatchResult};
 ghost use Rattle.std.specs.List.{list_any};
 ghost use Rattle.hook_registry.specs.Table.{with_added, is_at, is_of, is_other, is_above, entry_of};
@@ -123,9 +123,10 @@ impl HookGroups {
         None
     }
 
-    /// Returns the registration of a hook that has no other.
+    /// Returns the registration of a hook that has no other; `None` if it has none or several.
     pub fn only(&self) -> Option<Registration>
-        ensures { IfSome result (λ only. self.now ≡ only ∷ []) }
+        ensures { MatchOption result ((length self.now == 1) ≡ false)
+            (λ only. self.now ≡ only ∷ []) }
     {
         if self.groups.len() != 1 {
             return None;

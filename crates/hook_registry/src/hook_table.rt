@@ -1,6 +1,6 @@
 //! The registrations of every hook.
-ghost use Rattle.std.specs.Prelude.{◌≡◌, ◌≤◌, ◌∷◌, [], None, Some, IfOk, IfSome, OnOk, OnErr};
-ghost use Rattle.std.specs.Prelude.{MatchOption, not};
+ghost use Rattle.std.specs.Prelude.{◌≡◌, ◌==◌, ◌≤◌, ◌∷◌, [], None, Some, IfOk, OnOk, OnErr};
+ghost use Rattle.std.specs.Prelude.{MatchOption, false, length, not};
 ghost use Rattle.std.specs.List.{list_any};
 ghost use Rattle.hook_registry.specs.Named.{value_of};
 ghost use Rattle.hook_registry.specs.Table.{Table, registrations, add, remove, remove_all};
@@ -164,7 +164,8 @@ impl HookTable {
 
     /// Returns the registration of a hook that has no other; `None` if it has none or several.
     pub fn only(&self, hook: &str) -> Option<Registration>
-        ensures { IfSome result (λ only. registrations self.now hook.now ≡ only ∷ []) }
+        ensures { MatchOption result ((length (registrations self.now hook.now) == 1) ≡ false)
+            (λ only. registrations self.now hook.now ≡ only ∷ []) }
     {
         match self.hooks.get(hook) {
             None => None,

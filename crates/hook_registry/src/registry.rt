@@ -1,6 +1,6 @@
 //! The registry.
-ghost use Rattle.std.specs.Prelude.{◌≡◌, ◌≤◌, ◌+◌, ◌∷◌, [], length, IfOk, IfSome, IsTrue, OnOk, OnErr};
-ghost use Rattle.std.specs.Prelude.{MatchOption, Some, None, map, option_map, is_some, min};
+ghost use Rattle.std.specs.Prelude.{◌≡◌, ◌==◌, ◌≤◌, ◌+◌, ◌∷◌, [], false, length, map, min, is_some};
+ghost use Rattle.std.specs.Prelude.{MatchOption, Some, None, IfOk, IsTrue, OnOk, OnErr, option_map};
 ghost use Rattle.std.specs.List.{list_all, list_any};
 ghost use Rattle.hook_changes.specs.Names.{is_tag_name};
 ghost use Rattle.hook_registry.specs.Named.{value_of, set_value, remove_value};
@@ -147,7 +147,8 @@ impl Registry {
 
     /// Returns the registration of a hook that has no other; `None` if it has none or several.
     pub fn only(&self, hook: &str) -> Option<Registration>
-        ensures { IfSome result (λ only. registrations self.now.table hook.now ≡ only ∷ []) }
+        ensures { MatchOption result ((length (registrations self.now.table hook.now) == 1) ≡ false)
+            (λ only. registrations self.now.table hook.now ≡ only ∷ []) }
     {
         self.hooks.only(hook)
     }

@@ -36,20 +36,23 @@ pub fn worked_table()
     ensures zero_next { after far_apart the_title (negsuc 2147483647) ≡ Some (pos 0) }
     ensures greatest_next { after far_apart the_title (pos 0) ≡ Some (pos 2147483647) }
     ensures none_next { after far_apart the_title (pos 2147483647) ≡ None }
-    ensures next_below_zero { after (with_title (at (negsuc 0) 1 1 ∷ at (negsuc 9) 2 1 ∷ at (negsuc 4) 3 1 ∷ []))
+    ensures next_below_zero { after
+        (with_title (at (negsuc 0) 1 1 ∷ at (negsuc 9) 2 1 ∷ at (negsuc 4) 3 1 ∷ []))
         the_title (negsuc 9)
         ≡ Some (negsuc 4) }
 
     // Removing one registration leaves the callback's others and the other callbacks.
     ensures removed { registrations (remove one_at_two_priorities the_title (pos 10) 7) the_title
         ≡ at (pos 9) 7 2 ∷ at (pos 10) 3 2 ∷ [] }
-    ensures removed_all_at { registrations (remove_all one_at_two_priorities the_title (Some (pos 10))) the_title
+    ensures removed_all_at { registrations
+        (remove_all one_at_two_priorities the_title (Some (pos 10))) the_title
         ≡ at (pos 9) 7 2 ∷ [] }
     ensures removed_all { registrations (remove_all one_at_two_priorities the_title None) the_title
         ≡ [] }
 
     // If a callback has several priorities, the smallest one is returned.
-    ensures least_priority { priority_of (with_title (at (pos 20) 7 1 ∷ at (pos 10) 3 1 ∷ at (pos 5) 7 1 ∷ []))
+    ensures least_priority { priority_of
+        (with_title (at (pos 20) 7 1 ∷ at (pos 10) 3 1 ∷ at (pos 5) 7 1 ∷ []))
         the_title 7
         ≡ Some (pos 5) }
 {}

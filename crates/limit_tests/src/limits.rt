@@ -71,9 +71,12 @@ static COMMANDS: [(&[u8], Wanted); 18] = [
 ];
 
 const IMPORT: &[u8] = b"{\"cmd\":\"import\",\"site\":{\"version\":1,\"posts\":[\
-    {\"id\":40,\"kind\":\"page\",\"status\":\"publish\",\"title\":\"P\",\"content\":\"Q\",\"date\":\"2024-05-03 10:00:00\"},\
-    {\"id\":41,\"kind\":\"post\",\"status\":\"publish\",\"title\":\"R\",\"content\":\"S\",\"date\":\"2024-05-04 10:00:00\"}\
-    ],\"options\":{\"blogname\":\"B\"},\"templates\":{\"page\":[{\"tag\":\"site_name\"}]},\"active\":[\"climb\"]}}";
+    {\"id\":40,\"kind\":\"page\",\"status\":\"publish\",\
+    \"title\":\"P\",\"content\":\"Q\",\"date\":\"2024-05-03 10:00:00\"},\
+    {\"id\":41,\"kind\":\"post\",\"status\":\"publish\",\
+    \"title\":\"R\",\"content\":\"S\",\"date\":\"2024-05-04 10:00:00\"}\
+    ],\"options\":{\"blogname\":\"B\"},\
+    \"templates\":{\"page\":[{\"tag\":\"site_name\"}]},\"active\":[\"climb\"]}}";
 
 /// Commands that are refused before a statement is run.
 static EARLY: [(&[u8], Wanted); 4] = [
@@ -162,6 +165,8 @@ fn is_stopped_with(
     false
 }
 
+/// Returns whether each command is refused under each limit that is too small, and then carried
+/// out.
 pub fn are_limited(alloc: Global, site: &mut Site<'_, Climbing>) -> bool {
     for (line, wanted) in &COMMANDS {
         if !is_stopped_or_done(alloc, site, line, *wanted) {
@@ -176,6 +181,8 @@ fn each_command_is_stopped_or_done(rt: HostRuntime) {
     assert!(rt; passes(rt.alloc(), 10_000, 11, Trial::EachLimit));
 }
 
+/// Returns whether commands that need no statement are refused for their own reason under a limit
+/// of no rows.
 pub fn are_refused_early(site: &mut Site<'_, Climbing>) -> bool {
     site.limit_steps(Some(0));
     are_replies(site, &EARLY)

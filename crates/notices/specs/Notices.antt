@@ -4,6 +4,7 @@ use Rattle.shortcode_atts.specs.Attributes.{Attributes, value_of}
 use Rattle.hook_changes.specs.declared.reply.Call.{Call}
 use Rattle.hook_changes.specs.declared.reply.Reply.{Reply}
 use Rattle.hook_changes.specs.Replies.{answers_text, asks}
+use Rattle.hook_changes.specs.Texts.{Text}
 use Rattle.hook_changes.specs.declared.reply.Answer.{Answer}
 use Rattle.hook_changes.specs.declared.reply.Answer.TheVariants as answer
 use Rattle.hook_changes.specs.declared.reply.Ask.TheVariants.{Shortcodes}
@@ -11,10 +12,6 @@ use Rattle.hook_changes.specs.declared.reply.Change.{Change}
 use Rattle.hook_changes.specs.declared.reply.Change.TheVariants.{Add, AddTag}
 use Rattle.callback_store.specs.Shape.{Shape}
 use Rattle.page_escapes.specs.Escapes.{html_escaped}
-
--- a text, as its bytes
-abbrev pub Text : Type 0
-Text = List ℕ
 
 -- the handler of [notice] is number 1, the filter on titles number 2, which wants the title and the post's ID
 abbrev pub load : List Change

@@ -1,11 +1,13 @@
-//! The plugin `notices`: a shortcode that draws a box round its content, and titles with their post's ID before them.
+//! The plugin `notices`: a shortcode that draws a box round its content, and titles with their
+//! post's ID before them.
 //! docs/PLUGINS.md goes through it.
 #![tactic(auto)]
 
 ghost use Rattle.std.specs.Prelude.{◌≡◌, ◌∷◌, [], IfOk, map};
 ghost use Rattle.shortcode_atts.specs.Attributes.{pair_bytes, with_defaults};
 ghost use Rattle.callback_store.specs.Shape.{shape_of};
-ghost use Rattle.notices.specs.Notices.{load, notices, notice, notice_html, defaults, boxed, numbered};
+ghost use Rattle.notices.specs.Notices.{load, notices, notice, notice_html, defaults, boxed};
+ghost use Rattle.notices.specs.Notices.{numbered};
 ghost use Rattle.notices.specs.Numbers.{number_of};
 
 use callback_store::{Plugin, Stated};
@@ -87,7 +89,8 @@ fn load(alloc: Global) -> Result<Listed<Change>, AllocError>
 
 /// Draws a box round the content, in which the shortcodes are replaced first.
 fn notice(alloc: Global, call: &Call) -> Result<Reply, AllocError>
-    ensures { IfOk result (λ reply. reply ≡ notice call.now.atts call.now.content call.now.answers) }
+    ensures { IfOk result
+        (λ reply. reply ≡ notice call.now.atts call.now.content call.now.answers) }
 {
     match call.answers.as_slice() {
         [] => {

@@ -1,5 +1,5 @@
-//! A site with the plugin `notices` in place of the bundle: it serves lines of JSON from standard input to standard
-//! output, as the program `site` does. docs/PLUGINS.md goes through it.
+//! A site with the plugin `notices` in place of the bundle: it serves lines of JSON from standard
+//! input to standard output, as the program `site` does. docs/PLUGINS.md goes through it.
 #![tactic(auto)]
 
 use anyhow::Result;

@@ -46,10 +46,10 @@ at_end back x y =
     λ i. first i ++ (second i ++ (codes "&gt;" ++ afresh back i))
 
 -- no end begins at a byte that is put before a text
-lacks_behind : (s : List ℕ) (n i : ℕ) → ((k : ℕ) → k < n → LacksTextAt end s k) → i < n → LacksTextAt end (0 ∷ 0 ∷ s) i
-lacks_behind s n zero lacks inside = λ rest same. cc
-lacks_behind s n (suc zero) lacks inside = λ rest same. cc
-lacks_behind s n (suc (suc i)) lacks inside = lacks i (omega arith)
+lacks_after : (s : List ℕ) (n i : ℕ) → ((k : ℕ) → k < n → LacksTextAt end s k) → i < n → LacksTextAt end (0 ∷ 0 ∷ s) i
+lacks_after s n zero lacks inside = λ rest same. cc
+lacks_after s n (suc zero) lacks inside = λ rest same. cc
+lacks_after s n (suc (suc i)) lacks inside = lacks i (omega arith)
 
 -- a front part without the start of an end stays
 front_stays : (s front back after : List ℕ) → s ≡ front ++ back
@@ -58,8 +58,8 @@ front_stays : (s front back after : List ℕ) → s ≡ front ++ back
     → ends_escaped s ≡ front ++ after
 front_stays s front back after parts lacks escaped =
     let P : List ℕ → Type 0 = λ l. (i : ℕ) → i < length front → LacksTextAt end (0 ∷ 0 ∷ l) i in
-    let behind = subst P parts (λ i inside. lacks_behind s (length front) i lacks inside) in
-    ap ends_escaped parts ∙ kept 0 0 front back after behind escaped
+    let following = subst P parts (λ i inside. lacks_after s (length front) i lacks inside) in
+    ap ends_escaped parts ∙ kept 0 0 front back after following escaped
 
 -- a text without an end stays
 without : (s : List ℕ) → ((i : ℕ) → i ≤ length s → LacksTextAt end s i) → ends_escaped s ≡ s

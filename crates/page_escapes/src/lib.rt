@@ -85,7 +85,7 @@ pub fn worked_escapes()
     // Only a `>` right after `]]` is escaped; the byte after that one doesn't come after `]]` any
     // more.
     ensures end { ends_escaped (codes "]]>") ≡ codes "]]&gt;" }
-    ensures end_behind_a_bracket { ends_escaped (codes "]]]>>") ≡ codes "]]]&gt;>" }
+    ensures end_after_a_bracket { ends_escaped (codes "]]]>>") ≡ codes "]]]&gt;>" }
     ensures one_bracket { ends_escaped (codes "]>") ≡ codes "]>" }
     ensures two_ends { ends_escaped (codes "a]]>b]]>") ≡ codes "a]]&gt;b]]&gt;" }
 

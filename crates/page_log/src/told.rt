@@ -1,4 +1,4 @@
-//! What is told of a page.
+//! What the log says of a page.
 use hook_changes::{Call, CallbackId, Reply};
 
 /// A page, by what a command names it by.
@@ -10,7 +10,7 @@ pub enum PageName<'a> {
     Open(u32),
 }
 
-/// An invocation that was made, and what came of it.
+/// An invocation that was made, with its reply.
 #[derive(Drop)]
 pub struct Told<'a> {
     /// How many invocations the page has made, this one included.

@@ -169,28 +169,30 @@ written t h =
 -- ---- two texts from a place on
 
 -- a number of n digits is there in both
-pub field : (i n : ℕ) (t u : List ℕ) (x y : ℕ) → i + n ≤ length t → i + n ≤ length u → number (take n (drop i t)) ≡ Some x → number (take n (drop i u)) ≡ Some y
-    → by_bytes (drop i t) (drop i u) ≡ ordering_then (nat_cmp x y) (by_bytes (drop (i + n) t) (drop (i + n) u))
-field i n t u x y h g p q =
-    let at = length-drop i t in
-    let bt = length-drop i u in
-    let long : length (take n (drop i t)) ≡ length (take n (drop i u)) = length-take-le n (drop i t) (omega (arith, at))
-    ∙ sym (length-take-le n (drop i u) (omega (arith, bt))) in
-    cut n (drop i t) (drop i u) (omega (arith, at)) (omega (arith, bt))
-    ∙ ap (λ o. ordering_then o (by_bytes (drop n (drop i t)) (drop n (drop i u)))) (digits 0 0 x y (take n (drop i t)) (take n (drop i u)) long p q)
-    ∙ ap (λ l. ordering_then (nat_cmp x y) (by_bytes l (drop n (drop i u)))) (drop-drop n i t)
-    ∙ ap (λ l. ordering_then (nat_cmp x y) (by_bytes (drop (i + n) t) l)) (drop-drop n i u)
+pub field : (from count : ℕ) (date other : List ℕ) (part other_part : ℕ) → from + count ≤ length date → from + count ≤ length other
+    → number (take count (drop from date)) ≡ Some part → number (take count (drop from other)) ≡ Some other_part
+    → by_bytes (drop from date) (drop from other) ≡ ordering_then (nat_cmp part other_part) (by_bytes (drop (from + count) date) (drop (from + count) other))
+field from count date other part other_part within within_other part_is other_part_is =
+    let at = length-drop from date in
+    let bt = length-drop from other in
+    let long : length (take count (drop from date)) ≡ length (take count (drop from other)) = length-take-le count (drop from date) (omega (arith, at))
+    ∙ sym (length-take-le count (drop from other) (omega (arith, bt))) in
+    cut count (drop from date) (drop from other) (omega (arith, at)) (omega (arith, bt))
+    ∙ ap (λ o. ordering_then o (by_bytes (drop count (drop from date)) (drop count (drop from other))))
+    (digits 0 0 part other_part (take count (drop from date)) (take count (drop from other)) long part_is other_part_is)
+    ∙ ap (λ l. ordering_then (nat_cmp part other_part) (by_bytes l (drop count (drop from other)))) (drop-drop count from date)
+    ∙ ap (λ l. ordering_then (nat_cmp part other_part) (by_bytes (drop (from + count) date) l)) (drop-drop count from other)
 
 same_itself : (n : ℕ) → nat_cmp n n ≡ Equal
 same_itself n = grind (arith, nat_tests)
 
 -- a mark is there in both
-pub mark : (i m : ℕ) (t u : List ℕ) → i < length t → i < length u → slice_index t i ≡ m → slice_index u i ≡ m
-    → by_bytes (drop i t) (drop i u) ≡ by_bytes (drop (suc i) t) (drop (suc i) u)
-mark i m t u h g p q =
-    let one : drop i t ≡ m ∷ drop (suc i) t = drop-cons t i 0 h ∙ ap (λ b. b ∷ drop (suc i) t) p in
-    let two : drop i u ≡ m ∷ drop (suc i) u = drop-cons u i 0 g ∙ ap (λ b. b ∷ drop (suc i) u) q in
-    rw (one, two, same_itself m) refl
+pub mark : (at byte : ℕ) (date other : List ℕ) → at < length date → at < length other → slice_index date at ≡ byte → slice_index other at ≡ byte
+    → by_bytes (drop at date) (drop at other) ≡ by_bytes (drop (suc at) date) (drop (suc at) other)
+mark at byte date other within within_other is_byte is_byte_of_other =
+    let one : drop at date ≡ byte ∷ drop (suc at) date = drop-cons date at 0 within ∙ ap (λ b. b ∷ drop (suc at) date) is_byte in
+    let two : drop at other ≡ byte ∷ drop (suc at) other = drop-cons other at 0 within_other ∙ ap (λ b. b ∷ drop (suc at) other) is_byte_of_other in
+    rw (one, two, same_itself byte) refl
 
 abbrev pub by_moment : Moment → Moment → Ordering
 by_moment a b =

@@ -39,8 +39,8 @@ lossy-valid : (bs : List ℕ) → nat_eq (utf8_valid_len bs) (length bs) ≡ tru
 unfolding utf8_lossy
 lossy-valid bs h = within-valid (length bs) bs h
 
-not_ascii_behind : (front rest : List ℕ) → is_ascii (front ++ (0xEF ∷ rest)) ≡ false
-not_ascii_behind front rest = list_all-append (λ b. nat_lt b 128) front (0xEF ∷ rest) ∙ and_right (is_ascii front) false refl
+not_ascii_after : (front rest : List ℕ) → is_ascii (front ++ (0xEF ∷ rest)) ≡ false
+not_ascii_after front rest = list_all-append (λ b. nat_lt b 128) front (0xEF ∷ rest) ∙ and_right (is_ascii front) false refl
 
 -- U+FFFD is not ASCII, so what becomes ASCII was so
 lossy-not_ascii : (bs : List ℕ) → is_ascii bs ≡ false → is_ascii (utf8_lossy bs) ≡ false
@@ -49,7 +49,7 @@ lossy-not_ascii bs h =
       | inl holds ↦ rw (lossy-valid bs holds) h
       | inr fails ↦
           let cut : utf8_valid_len bs ≡ length bs → ⊥ = λ e. let holds = eq-eqb _ _ e in cc in
-          rw (utf8_lossy_step bs cut) (not_ascii_behind (take (utf8_valid_len bs) bs) _)
+          rw (utf8_lossy_step bs cut) (not_ascii_after (take (utf8_valid_len bs) bs) _)
     ]
 
 digit_ascii : (b : ℕ) → is_digit b ≡ true → nat_lt b 128 ≡ true

@@ -5,13 +5,14 @@ use Rattle.sqlite.specs.Order.{Row}
 use Rattle.sqlite_trees.specs.declared.memory.MemStore.{MemStore}
 use Rattle.sqlite.specs.declared.error.Error.{Error}
 use Rattle.sqlite.specs.Held.{Held, state}
+use Rattle.sqlite.specs.declared.transaction.Transaction.{Transaction}
 use Rattle.sqlite.specs.Steps.{over_memory, FailsToCommit}
 use Rattle.sqlite.specs.Listing.{understood}
 use Rattle.sqlite.specs.State.{Executes, ExecutesInside, IsRolledBack, Shows, Shown, FailsToQuery}
 use Rattle.sqlite.proofs.Callers.{IsPlain}
 use Rattle.post_tables.specs.Rows.{Rows}
 use Rattle.post_tables.specs.Schema.{site_schema}
-use Rattle.post_tables.specs.Stored.{IsIdle, IsKept, IsSite, HoldsSite, trees_of, rows_of, rows_in, Makes, MakesInside, Reads}
+use Rattle.post_tables.specs.Stored.{IsIdle, IsKept, IsSite, IsOpen, HoldsSite, trees_of, rows_of, rows_in, Makes, MakesInside, Reads}
 use Rattle.post_tables.proofs.Memory.{refused, answered, unanswered}
 
 -- the rows in the trees, if the limit is as it was
@@ -46,15 +47,31 @@ module _ (f : Rows → Rows) (old new : Held MemStore) (sql : List ℕ) (params 
   refused_inside e (inl ran) = elim ran.1 [ inl same ↦ same.0.committed_is | inr back ↦ (back.undone refl).1 ]
   refused_inside e (inr ends) = ends.2.0.committed_is
 
-  pub makes_inside : (r : Result ℕ Error) → ExecutesInside 0 sql params (state over_memory old) (state over_memory new) r → MakesInside f old new r
-  makes_inside (Ok count) h = let done = does count h.0 in record
-      { holds = done.holds; rows = limited old new limit ∙ done.rows; inside = h.1.mode; committed = h.1.committed_is; limit = limit }
-  makes_inside (Err e) h = record { holds = tt; rows = tt; inside = tt; committed = refused_inside e h; limit = limit }
-
 pub makes : (f : Rows → Rows) (old new : Held MemStore) (sql : List ℕ) (params : Row) (is : IsSite old) → new.step_limit ≡ old.step_limit
     → ((count : ℕ) → Executes sql params (state over_memory old) (state over_memory new) (Ok count) → IsDone f old new)
     → (r : Result ℕ Error) → Executes sql params (state over_memory old) (state over_memory new) r → Makes f old new r
 makes f old new sql params is limit does r h = makes_from f old new sql params is.holds limit does is.idle r h
+
+module _ (f : Rows → Rows) (old new : Transaction MemStore) (sql : List ℕ) (params : Row) (is : IsOpen old)
+    (same_reference : new.conn.ghost_name ≡ old.conn.ghost_name) (limit : new.conn.now.step_limit ≡ old.conn.now.step_limit)
+    (does : (count : ℕ) → Executes sql params (state over_memory old.conn.now) (state over_memory new.conn.now) (Ok count)
+    → IsDone f old.conn.now new.conn.now) where
+  pub makes_inside : (r : Result ℕ Error) → ExecutesInside 0 sql params (state over_memory old.conn.now) (state over_memory new.conn.now) r
+      → MakesInside f old new r
+  makes_inside (Ok count) h = let done = does count h.0 in record {
+    same_reference = same_reference;
+    is_open = record { holds = done.holds; inside = h.1.mode };
+    rows = limited old.conn.now new.conn.now limit ∙ done.rows;
+    committed = h.1.committed_is;
+    limit = limit;
+  }
+  makes_inside (Err e) h = record {
+    same_reference = same_reference;
+    is_open = tt;
+    rows = tt;
+    committed = refused_inside f old.conn.now new.conn.now sql params is.holds limit does e h;
+    limit = limit;
+  }
 
 -- ---- queries
 

@@ -8,7 +8,8 @@ use Rattle.site_records.specs.declared.post.PostKind.TheVariants.{Post as OfPost
 use Rattle.site_records.specs.declared.post.PostStatus.{PostStatus}
 use Rattle.site_records.specs.declared.post.PostStatus.TheVariants.{Publish, Draft}
 use Rattle.table_rows.specs.Sorting.{in_order}
-use Rattle.post_tables.specs.Rows.{Text, by_bytes}
+use Rattle.hook_changes.specs.Texts.{Text}
+use Rattle.post_tables.specs.Rows.{by_bytes}
 
 -- by date, newest first, and then by ID, largest first (WordPress, WP_Query, orderby)
 abbrev pub newest : Post → Post → Ordering

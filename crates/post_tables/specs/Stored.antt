@@ -16,6 +16,7 @@ use Rattle.sqlite.specs.Schema.{Schema}
 use Rattle.sqlite.specs.Held.{Held, state}
 use Rattle.sqlite.specs.Steps.{over_memory}
 use Rattle.sqlite.specs.Effect.{Database}
+use Rattle.sqlite.specs.declared.transaction.Transaction.{Transaction}
 use Rattle.site_records.specs.declared.post.Post.{Post}
 use Rattle.site_records.specs.declared.post.PostKind.{PostKind}
 use Rattle.site_records.specs.declared.post.PostKind.TheVariants.{Post as OfPost, Page as OfPage}
@@ -23,7 +24,8 @@ use Rattle.site_records.specs.declared.post.PostStatus.{PostStatus}
 use Rattle.site_records.specs.declared.post.PostStatus.TheVariants.{Publish, Draft}
 use Rattle.site_records.specs.Dates.{is_post_date}
 use Rattle.post_tables.specs.Schema.{site_schema}
-use Rattle.post_tables.specs.Rows.{Text, by_bytes, Rows}
+use Rattle.hook_changes.specs.Texts.{Text}
+use Rattle.post_tables.specs.Rows.{by_bytes, Rows}
 
 -- the rows of the trees
 abbrev pub trees_of : Held MemStore → Trees
@@ -180,13 +182,18 @@ pub record Makes {A E : Type 0} (f : Rows → Rows) (old new : Held MemStore) (r
   pub ok : OnOk r (rows_of new ≡ f (rows_of old))
   pub err : OnErr r (rows_of new ≡ rows_of old)
 
--- within a transaction, which begins with what is committed
-pub record MakesInside {A E : Type 0} (f : Rows → Rows) (old new : Held MemStore) (r : Result A E) : Type 0 where
-  pub holds : OnOk r (HoldsSite (state over_memory new).now)
-  pub rows : OnOk r (rows_of new ≡ f (rows_of old))
-  pub inside : OnOk r (new.in_transaction ≡ true)
-  pub committed : (state over_memory new).committed ≡ (state over_memory old).committed
-  pub limit : new.step_limit ≡ old.step_limit
+-- a transaction that has begun, and shows the rows of a site
+pub record IsOpen (tx : Transaction MemStore) : Type 0 where
+  pub holds : HoldsSite (state over_memory tx.conn.now).now
+  pub inside : tx.conn.now.in_transaction ≡ true
+
+-- within a transaction, which begins with what is committed, and stays open unless the statement fails
+pub record MakesInside {A E : Type 0} (f : Rows → Rows) (old new : Transaction MemStore) (r : Result A E) : Type 0 where
+  pub same_reference : new.conn.ghost_name ≡ old.conn.ghost_name
+  pub is_open : OnOk r (IsOpen new)
+  pub rows : OnOk r (rows_of new.conn.now ≡ f (rows_of old.conn.now))
+  pub committed : (state over_memory new.conn.now).committed ≡ (state over_memory old.conn.now).committed
+  pub limit : new.conn.now.step_limit ≡ old.conn.now.step_limit
 
 -- a query leaves all as it was
 pub record Reads (old new : Held MemStore) : Type 0 where

@@ -15,9 +15,7 @@ ghost use Rattle.post_tables.specs.Rows.{
   with_active,
   with_records,
 };
-ghost use Rattle.post_tables.specs.Stored.{IsSite, HoldsSite, MakesInside, Reads, rows_of};
-ghost use Rattle.sqlite.specs.Held.{state};
-ghost use Rattle.sqlite.specs.Steps.{over_memory};
+ghost use Rattle.post_tables.specs.Stored.{IsSite, IsOpen, MakesInside, Reads, rows_of};
 
 use crate::fault::TablesFault;
 use crate::named::{put_active_in, put_option_in, put_template_in};
@@ -58,10 +56,8 @@ fn meet(met: &mut BTreeSet<u32>, id: u32) -> Result<bool, AllocError>
 
 // Adds one more post, whose ID is new.
 fn add_post(tx: &mut Transaction<'_, MemStore>, post: &Post) -> Result<(), Error>
-    requires holds { HoldsSite (state over_memory tx.old.conn.now).now }
-    requires inside { tx.old.conn.now.in_transaction ≡ true }
-    ensures same_reference { tx.new.conn.ghost_name ≡ tx.old.conn.ghost_name }
-    ensures made { MakesInside (with_new post.now) tx.old.conn.now tx.new.conn.now result }
+    requires { IsOpen tx.old }
+    ensures { MakesInside (with_new post.now) tx.old tx.new result }
 {
     let new = NewPost {
         id: post.id,
@@ -76,10 +72,8 @@ fn add_post(tx: &mut Transaction<'_, MemStore>, post: &Post) -> Result<(), Error
 }
 
 fn add_posts(tx: &mut Transaction<'_, MemStore>, posts: &[Post]) -> Result<(), TablesFault>
-    requires holds { HoldsSite (state over_memory tx.old.conn.now).now }
-    requires inside { tx.old.conn.now.in_transaction ≡ true }
-    ensures same_reference { tx.new.conn.ghost_name ≡ tx.old.conn.ghost_name }
-    ensures made { MakesInside (with_all posts.now) tx.old.conn.now tx.new.conn.now result }
+    requires { IsOpen tx.old }
+    ensures made { MakesInside (with_all posts.now) tx.old tx.new result }
     ensures fault { IfErr result IsOfStore }
 {
     for post in posts {
@@ -92,10 +86,8 @@ fn add_options(
     tx: &mut Transaction<'_, MemStore>,
     pairs: &[(Text, Text)],
 ) -> Result<(), TablesFault>
-    requires holds { HoldsSite (state over_memory tx.old.conn.now).now }
-    requires inside { tx.old.conn.now.in_transaction ≡ true }
-    ensures same_reference { tx.new.conn.ghost_name ≡ tx.old.conn.ghost_name }
-    ensures made { MakesInside (with_options pairs.now) tx.old.conn.now tx.new.conn.now result }
+    requires { IsOpen tx.old }
+    ensures made { MakesInside (with_options pairs.now) tx.old tx.new result }
     ensures fault { IfErr result IsOfStore }
 {
     for pair in pairs {
@@ -108,10 +100,8 @@ fn add_templates(
     tx: &mut Transaction<'_, MemStore>,
     pairs: &[(Text, Text)],
 ) -> Result<(), TablesFault>
-    requires holds { HoldsSite (state over_memory tx.old.conn.now).now }
-    requires inside { tx.old.conn.now.in_transaction ≡ true }
-    ensures same_reference { tx.new.conn.ghost_name ≡ tx.old.conn.ghost_name }
-    ensures made { MakesInside (with_templates pairs.now) tx.old.conn.now tx.new.conn.now result }
+    requires { IsOpen tx.old }
+    ensures made { MakesInside (with_templates pairs.now) tx.old tx.new result }
     ensures fault { IfErr result IsOfStore }
 {
     for pair in pairs {
@@ -121,10 +111,8 @@ fn add_templates(
 }
 
 fn add_active(tx: &mut Transaction<'_, MemStore>, names: &[Text]) -> Result<(), TablesFault>
-    requires holds { HoldsSite (state over_memory tx.old.conn.now).now }
-    requires inside { tx.old.conn.now.in_transaction ≡ true }
-    ensures same_reference { tx.new.conn.ghost_name ≡ tx.old.conn.ghost_name }
-    ensures made { MakesInside (with_active names.now) tx.old.conn.now tx.new.conn.now result }
+    requires { IsOpen tx.old }
+    ensures made { MakesInside (with_active names.now) tx.old tx.new result }
     ensures fault { IfErr result IsOfStore }
 {
     for name in names {
@@ -134,10 +122,8 @@ fn add_active(tx: &mut Transaction<'_, MemStore>, names: &[Text]) -> Result<(), 
 }
 
 fn add_records(tx: &mut Transaction<'_, MemStore>, records: &SiteRecords) -> Result<(), TablesFault>
-    requires holds { HoldsSite (state over_memory tx.old.conn.now).now }
-    requires inside { tx.old.conn.now.in_transaction ≡ true }
-    ensures same_reference { tx.new.conn.ghost_name ≡ tx.old.conn.ghost_name }
-    ensures made { MakesInside (with_records records.now) tx.old.conn.now tx.new.conn.now result }
+    requires { IsOpen tx.old }
+    ensures made { MakesInside (with_records records.now) tx.old tx.new result }
     ensures fault { IfErr result IsOfStore }
 {
     add_posts(tx, records.posts.as_slice())?;

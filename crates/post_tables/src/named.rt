@@ -1,5 +1,5 @@
 //! The statements on options, templates and active names.
-ghost use Rattle.std.specs.Prelude.{◌≡◌, true, map, All, IfOk, IfErr};
+ghost use Rattle.std.specs.Prelude.{◌≡◌, map, All, IfOk, IfErr};
 ghost use Rattle.std.specs.FinMap.{insert, remove, entries, keys};
 ghost use Rattle.post_tables.specs.Reading.{
   pair_from,
@@ -8,9 +8,7 @@ ghost use Rattle.post_tables.specs.Reading.{
   IsPairRow,
   IsNameRow,
 };
-ghost use Rattle.post_tables.specs.Stored.{IsSite, HoldsSite, Makes, MakesInside, Reads, rows_of};
-ghost use Rattle.sqlite.specs.Held.{state};
-ghost use Rattle.sqlite.specs.Steps.{over_memory};
+ghost use Rattle.post_tables.specs.Stored.{IsSite, IsOpen, Makes, MakesInside, Reads, rows_of};
 
 use sqlite::{Connection, Error, MemStore, Row, Transaction, params};
 
@@ -106,11 +104,9 @@ pub(crate) fn put_option_in(
     name: &str,
     value: &str,
 ) -> Result<usize, Error>
-    requires holds { HoldsSite (state over_memory tx.old.conn.now).now }
-    requires inside { tx.old.conn.now.in_transaction ≡ true }
-    ensures same_reference { tx.new.conn.ghost_name ≡ tx.old.conn.ghost_name }
-    ensures made { MakesInside (λ s. record s { options = insert s.options name.now value.now })
-        tx.old.conn.now tx.new.conn.now result }
+    requires { IsOpen tx.old }
+    ensures { MakesInside (λ s. record s { options = insert s.options name.now value.now })
+        tx.old tx.new result }
 {
     tx.execute(PUT_OPTION, params![name, value])
 }
@@ -120,21 +116,17 @@ pub(crate) fn put_template_in(
     name: &str,
     text: &str,
 ) -> Result<usize, Error>
-    requires holds { HoldsSite (state over_memory tx.old.conn.now).now }
-    requires inside { tx.old.conn.now.in_transaction ≡ true }
-    ensures same_reference { tx.new.conn.ghost_name ≡ tx.old.conn.ghost_name }
-    ensures made { MakesInside (λ s. record s { templates = insert s.templates name.now text.now })
-        tx.old.conn.now tx.new.conn.now result }
+    requires { IsOpen tx.old }
+    ensures { MakesInside (λ s. record s { templates = insert s.templates name.now text.now })
+        tx.old tx.new result }
 {
     tx.execute(PUT_TEMPLATE, params![name, text])
 }
 
 pub(crate) fn put_active_in(tx: &mut Transaction<'_, MemStore>, name: &str) -> Result<usize, Error>
-    requires holds { HoldsSite (state over_memory tx.old.conn.now).now }
-    requires inside { tx.old.conn.now.in_transaction ≡ true }
-    ensures same_reference { tx.new.conn.ghost_name ≡ tx.old.conn.ghost_name }
-    ensures made { MakesInside (λ s. record s { active = insert s.active name.now tt })
-        tx.old.conn.now tx.new.conn.now result }
+    requires { IsOpen tx.old }
+    ensures { MakesInside (λ s. record s { active = insert s.active name.now tt })
+        tx.old tx.new result }
 {
     tx.execute(PUT_ACTIVE, params![name])
 }

@@ -30,7 +30,7 @@ ghost use Rattle.post_tables.specs.Rows.{
 };
 ghost use Rattle.post_tables.specs.Stored.{
   IsSite,
-  HoldsSite,
+  IsOpen,
   Makes,
   MakesInside,
   Reads,
@@ -38,8 +38,6 @@ ghost use Rattle.post_tables.specs.Stored.{
   kind_text,
   status_text,
 };
-ghost use Rattle.sqlite.specs.Held.{state};
-ghost use Rattle.sqlite.specs.Steps.{over_memory};
 
 use crate::read::read_top;
 use site_records::{PostDate, PostKind, PostStatus};
@@ -144,11 +142,8 @@ pub(crate) fn insert_post_in(
     tx: &mut Transaction<'_, MemStore>,
     post: &NewPost<'_>,
 ) -> Result<usize, Error>
-    requires holds { HoldsSite (state over_memory tx.old.conn.now).now }
-    requires inside { tx.old.conn.now.in_transaction ≡ true }
-    ensures same_reference { tx.new.conn.ghost_name ≡ tx.old.conn.ghost_name }
-    ensures made { MakesInside (with_new (post_with_id post.now)) tx.old.conn.now tx.new.conn.now
-        result }
+    requires { IsOpen tx.old }
+    ensures { MakesInside (with_new (post_with_id post.now)) tx.old tx.new result }
 {
     tx.execute(
         INSERT_POST,

@@ -53,10 +53,10 @@ pub closings_more : (text : List ℕ) (names : List (List ℕ)) (found later : L
     → i < length names → name ≡ get_or names i name → length found ≡ i → later ≡ found ++ nothing_searched text ∷ []
     → ((k : ℕ) (n : List ℕ) (a : Lookahead) → k < i → IsAheadOf text (closing_tag (get_or names k n)) (get_or found k a))
     → (k : ℕ) (n : List ℕ) (a : Lookahead) → k < i + 1 → IsAheadOf text (closing_tag (get_or names k n)) (get_or later k a)
-closings_more text names found later name i within is count behind before k n a lt =
+closings_more text names found later name i within is count following before k n a lt =
     elim (cases_lt k i) [
-      | inl less ↦ rw (behind, get_or_append_left found (nothing_searched text ∷ []) a k (omega (arith, count, less))) (before k n a less)
+      | inl less ↦ rw (following, get_or_append_left found (nothing_searched text ∷ []) a k (omega (arith, count, less))) (before k n a less)
       | inr le ↦
           let same : k ≡ i = omega arith in
-          rw (behind, same, get_or_push found (nothing_searched text) a i count) (unsearched_tag text (closing_tag (get_or names i n)))
+          rw (following, same, get_or_push found (nothing_searched text) a i count) (unsearched_tag text (closing_tag (get_or names i n)))
     ]

@@ -78,11 +78,11 @@ module _ (text name : List ℕ) (k : ℕ) (named : list_all is_name_byte name �
       let ends : is_name_end text (k + 1 + length name) ≡ true = ap (is_name_end text) (omega arith) ∙ parts.1 in
       let bracket : slice_index text k ≡ 91 = ap (slice_index text) (omega arith) ∙ at.reads 0 (omega arith) in
       let len = opened_len at ends in
-      let behind = occurs_at-true text name (k + 1) (record {
+      let following = occurs_at-true text name (k + 1) (record {
         fits = omega (arith, at.fits);
         reads = λ j l. ap (slice_index text) (omega arith) ∙ at.reads (suc j) (omega arith);
       }) in
-      let taken : take (length name) (drop (k + 1) text) ≡ name = (bytes_eq-Decides _ name).0 (and_parts _ _ behind).1 in (
+      let taken : take (length name) (drop (k + 1) text) ≡ name = (bytes_eq-Decides _ name).0 (and_parts _ _ following).1 in (
         bracket,
         only_if-true _ _ (and_from _ _ (ap (nat_lt 0) len ∙ lt-ltb 0 (length name) some) (ap (λ n. is_name_end text (k + 1 + n)) len ∙ ends)) ∙
             ap (λ n. Some (take n (drop (k + 1) text))) len ∙ ap Some taken,

@@ -84,11 +84,11 @@ module _ (text : List ℕ) (utf8 : IsUtf8 text) where
     attributes_span : IsSpanOf text (span e r)
     attributes_span = record { ordered = le; first = named; last = before r 93 closing (omega arith) (omega arith) }
 
-    behind : IsCharBoundary text (r + 1)
-    behind = after r 93 closing (omega arith) (omega arith)
+    following : IsCharBoundary text (r + 1)
+    following = after r 93 closing (omega arith) (omega arith)
 
     closing_spans : (o : Option ℕ) → closing_from text name (r + 1) ≡ o → HasCoreSpans (with_closing name e r o)
-    closing_spans None eq = (attributes_span, nothing_at (r + 1) behind, behind)
+    closing_spans None eq = (attributes_span, nothing_at (r + 1) following, following)
     closing_spans (Some k) eq =
         let h = first_place-some (occurs_at text (closing_tag name)) (r + 1) (length text) k eq in
         let there = OccursAt-true text (closing_tag name) k h.here in
@@ -100,7 +100,7 @@ module _ (text : List ℕ) (utf8 : IsUtf8 text) where
         (omega (arith, length-append (codes "[/") name)) in
         let same : k + (length name + 2) + 1 ≡ k + length (closing_tag name) = omega (arith, long) in (
           attributes_span,
-          record { ordered = h.low_le; first = behind; last = before k 91 (rw opens refl) (omega arith) (omega arith) },
+          record { ordered = h.low_le; first = following; last = before k 91 (rw opens refl) (omega arith) (omega arith) },
           subst (IsCharBoundary text) same (after (k + (length name + 2)) 93 (rw last refl) (omega arith) (omega arith)),
         )
 
@@ -113,8 +113,8 @@ module _ (text : List ℕ) (utf8 : IsUtf8 text) where
         (λ slash.
         let parts = and_parts (nat_lt e r) (slice_index text (r - 1) == 47) slash in (
           record { ordered = omega (arith, ltb-true e r parts.0); first = named; last = before (r - 1) 47 parts.1 (omega arith) (omega arith) },
-          nothing_at (r + 1) behind,
-          behind,
+          nothing_at (r + 1) following,
+          following,
         ))
         (λ _. closing_spans (closing_from text name (r + 1)) refl)
 

@@ -21,15 +21,15 @@ abbrev pub without_name : App → App
 without_name a = on_top (λ s. record s { no_binary_name = true }) a
 
 -- the first three rules of the program are those of a site in memory, and with three more it is whole
-pub serving_is : (a : App) (r s t : Rule) → a ≡ without_name (new_app (codes "site")) → r ≡ number_rule (codes "calls") 100000
-    → s ≡ number_rule (codes "cache") 4096 → t ≡ flag_rule (codes "trace")
-    → with_rule (with_rule (with_rule a r) s) t ≡ serving_rules (without_name (new_app (codes "site")))
-serving_is a r s t p q u v = ap₂ with_rule (ap₂ with_rule (ap₂ with_rule p q) u) v
+pub serving_is : (app : App) (first second third : Rule) → app ≡ without_name (new_app (codes "site")) → first ≡ number_rule (codes "calls") 100000
+    → second ≡ number_rule (codes "cache") 4096 → third ≡ flag_rule (codes "trace")
+    → with_rule (with_rule (with_rule app first) second) third ≡ serving_rules (without_name (new_app (codes "site")))
+serving_is app first second third is_app is_first is_second is_third = ap₂ with_rule (ap₂ with_rule (ap₂ with_rule is_app is_first) is_second) is_third
 
-pub app_is : (a : App) (r s t : Rule) → a ≡ serving_rules (without_name (new_app (codes "site"))) → r ≡ path_rule (codes "database")
-    → s ≡ flag_rule (codes "export") → t ≡ flag_rule (codes "compact") → with_rule (with_rule (with_rule a r) s) t ≡ site_app
+pub app_is : (app : App) (first second third : Rule) → app ≡ serving_rules (without_name (new_app (codes "site"))) → first ≡ path_rule (codes "database")
+    → second ≡ flag_rule (codes "export") → third ≡ flag_rule (codes "compact") → with_rule (with_rule (with_rule app first) second) third ≡ site_app
 unfolding site_app
-app_is a r s t p q u v = ap₂ with_rule (ap₂ with_rule (ap₂ with_rule p q) u) v
+app_is app first second third is_app is_first is_second is_third = ap₂ with_rule (ap₂ with_rule (ap₂ with_rule is_app is_first) is_second) is_third
 
 -- the six options
 abbrev pub six_rules : List Rule

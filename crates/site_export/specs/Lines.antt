@@ -8,7 +8,8 @@ use Rattle.site_records.specs.Ids.{max_id}
 use Rattle.site_records.specs.declared.post.Post.{Post}
 use Rattle.site_records.specs.declared.post.PostKind.TheVariants.{Post as OfPost}
 use Rattle.site_records.specs.declared.post.PostStatus.TheVariants.{Draft}
-use Rattle.post_tables.specs.Rows.{Text, Rows, post_with}
+use Rattle.hook_changes.specs.Texts.{Text}
+use Rattle.post_tables.specs.Rows.{Rows, post_with}
 use Rattle.post_tables.specs.Stored.{kind_text, status_text}
 use Rattle.site_export.specs.declared.posts.ShownPost.{ShownPost}
 

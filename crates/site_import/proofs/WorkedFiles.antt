@@ -1,5 +1,5 @@
 -- Worked site files, computed.
-use Rattle.std.proofs.Common.{◌≡◌, ℕ, [], ◌∷◌, Ok, Err, codes, refl}
+use Rattle.std.proofs.Common.{◌≡◌, ◌++◌, ℕ, [], ◌∷◌, Ok, Err, codes, refl}
 use Rattle.std.specs.Fmt.{digits}
 use Rattle.std.specs.Str.{is_utf8, chars}
 use Rattle.serde_json.proofs.OnLiterals.{serde_json_on_literals}
@@ -17,7 +17,7 @@ use Rattle.site_import.specs.Templates.{templates_of}
 use Rattle.site_import.specs.Active.{active_of}
 use Rattle.site_import.specs.Front.{front_of}
 use Rattle.site_import.specs.Site.{records_in, site_file_of, site_file_in}
-use Rattle.site_import.specs.Worked.{no_records}
+use Rattle.site_import.specs.Worked.{no_records, file_of, post_of}
 
 -- what computes in the files below
 computes : ℕ
@@ -67,7 +67,8 @@ unfolding computes
 other_keys = refl
 
 pub page : site_file_in
-    (codes "{\"version\":1,\"posts\":[{\"id\":7,\"kind\":\"page\",\"status\":\"draft\",\"title\":\"T\",\"content\":\"C\",\"date\":\"2024-05-01 10:00:00\"}]}")
+    (file_of (codes "{\"id\":7,\"kind\":\"page\",\"status\":\"draft\","
+    ++ codes "\"title\":\"T\",\"content\":\"C\",\"date\":\"2024-05-01 10:00:00\"}"))
     ≡ Ok (record no_records {
       posts = record {
         id = 7;
@@ -86,25 +87,27 @@ unfolding computes
 null_posts = refl
 
 pub post_without_content : site_file_in
-    (codes "{\"version\":1,\"posts\":[{\"id\":1,\"kind\":\"post\",\"status\":\"publish\",\"title\":\"T\",\"date\":\"2024-05-01 10:00:00\"}]}")
+    (file_of (codes "{\"id\":1,\"kind\":\"post\",\"status\":\"publish\","
+    ++ codes "\"title\":\"T\",\"date\":\"2024-05-01 10:00:00\"}"))
     ≡ Err (BadImport (entry_of Posts 0))
 unfolding computes
 post_without_content = refl
 
 pub id_0 : site_file_in
-    (codes "{\"version\":1,\"posts\":[{\"id\":0,\"kind\":\"post\",\"status\":\"publish\",\"title\":\"T\",\"content\":\"C\",\"date\":\"2024-05-01 10:00:00\"}]}")
+    (file_of (post_of (codes "0") (codes "2024-05-01 10:00:00")))
     ≡ Err (BadImport (entry_of Posts 0))
 unfolding computes
 id_0 = refl
 
 pub second_date : site_file_in
-    (codes "{\"version\":1,\"posts\":[{\"id\":1,\"kind\":\"post\",\"status\":\"publish\",\"title\":\"T\",\"content\":\"C\",\"date\":\"2024-05-01 10:00:00\"},{\"id\":2,\"kind\":\"post\",\"status\":\"publish\",\"title\":\"T\",\"content\":\"C\",\"date\":\"2024-02-30 10:00:00\"}]}")
+    (file_of (post_of (codes "1") (codes "2024-05-01 10:00:00")
+    ++ (codes "," ++ post_of (codes "2") (codes "2024-02-30 10:00:00"))))
     ≡ Err (BadDate (entry_of Posts 1))
 unfolding computes
 second_date = refl
 
 pub first_post_first : site_file_in
-    (codes "{\"version\":1,\"posts\":[{\"id\":1,\"kind\":\"post\",\"status\":\"publish\",\"title\":\"T\",\"content\":\"C\",\"date\":\"2024-02-30 10:00:00\"},0]}")
+    (file_of (post_of (codes "1") (codes "2024-02-30 10:00:00") ++ codes ",0"))
     ≡ Err (BadDate (entry_of Posts 0))
 unfolding computes
 first_post_first = refl

@@ -1,12 +1,12 @@
 //! Worked site files that are theorems: each clause below is computed from the definitions.
-ghost use Rattle.std.specs.Prelude.{◌≡◌, codes, Ok, Err, [], ◌∷◌};
+ghost use Rattle.std.specs.Prelude.{◌≡◌, ◌++◌, codes, Ok, Err, [], ◌∷◌};
 ghost use Rattle.site_records.specs.declared.post.PostKind.{PostKind};
 ghost use Rattle.site_records.specs.declared.post.PostStatus.{PostStatus};
 ghost use Rattle.site_import.specs.declared.fault.Section.{Section};
 ghost use Rattle.site_import.specs.declared.fault.ImportFault.{ImportFault};
 ghost use Rattle.site_import.specs.Walks.{whole, entry_of};
 ghost use Rattle.site_import.specs.Site.{site_file_in};
-ghost use Rattle.site_import.specs.Worked.{no_records};
+ghost use Rattle.site_import.specs.Worked.{no_records, file_of, post_of};
 
 /// States what some site files hold, and what the first fault of others is. The call itself does
 /// nothing: it carries these facts.
@@ -38,7 +38,8 @@ pub fn worked_site_files()
 
     // Posts, with each of their keys.
     ensures page { site_file_in
-        (codes "{\"version\":1,\"posts\":[{\"id\":7,\"kind\":\"page\",\"status\":\"draft\",\"title\":\"T\",\"content\":\"C\",\"date\":\"2024-05-01 10:00:00\"}]}")
+        (file_of (codes "{\"id\":7,\"kind\":\"page\",\"status\":\"draft\","
+        ++ codes "\"title\":\"T\",\"content\":\"C\",\"date\":\"2024-05-01 10:00:00\"}"))
         ≡ Ok (record no_records {
           posts = record {
             id = 7;
@@ -52,16 +53,18 @@ pub fn worked_site_files()
     ensures null_posts { site_file_in (codes "{\"version\":1,\"posts\":null}")
         ≡ Err (ImportFault.BadImport (whole Section.Posts)) }
     ensures post_without_content { site_file_in
-        (codes "{\"version\":1,\"posts\":[{\"id\":1,\"kind\":\"post\",\"status\":\"publish\",\"title\":\"T\",\"date\":\"2024-05-01 10:00:00\"}]}")
+        (file_of (codes "{\"id\":1,\"kind\":\"post\",\"status\":\"publish\","
+        ++ codes "\"title\":\"T\",\"date\":\"2024-05-01 10:00:00\"}"))
         ≡ Err (ImportFault.BadImport (entry_of Section.Posts 0)) }
     ensures id_0 { site_file_in
-        (codes "{\"version\":1,\"posts\":[{\"id\":0,\"kind\":\"post\",\"status\":\"publish\",\"title\":\"T\",\"content\":\"C\",\"date\":\"2024-05-01 10:00:00\"}]}")
+        (file_of (post_of (codes "0") (codes "2024-05-01 10:00:00")))
         ≡ Err (ImportFault.BadImport (entry_of Section.Posts 0)) }
     ensures second_date { site_file_in
-        (codes "{\"version\":1,\"posts\":[{\"id\":1,\"kind\":\"post\",\"status\":\"publish\",\"title\":\"T\",\"content\":\"C\",\"date\":\"2024-05-01 10:00:00\"},{\"id\":2,\"kind\":\"post\",\"status\":\"publish\",\"title\":\"T\",\"content\":\"C\",\"date\":\"2024-02-30 10:00:00\"}]}")
+        (file_of (post_of (codes "1") (codes "2024-05-01 10:00:00")
+        ++ (codes "," ++ post_of (codes "2") (codes "2024-02-30 10:00:00"))))
         ≡ Err (ImportFault.BadDate (entry_of Section.Posts 1)) }
     ensures first_post_first { site_file_in
-        (codes "{\"version\":1,\"posts\":[{\"id\":1,\"kind\":\"post\",\"status\":\"publish\",\"title\":\"T\",\"content\":\"C\",\"date\":\"2024-02-30 10:00:00\"},0]}")
+        (file_of (post_of (codes "1") (codes "2024-02-30 10:00:00") ++ codes ",0"))
         ≡ Err (ImportFault.BadDate (entry_of Section.Posts 0)) }
 
     // Options and templates are read by name in the order of bytes.
@@ -98,7 +101,8 @@ pub fn worked_site_files()
         (codes "{\"version\":2,\"front\":{\"show\":\"posts\",\"page\":0}}")
         ≡ Ok (record no_records { options = (codes "show_on_front", codes "posts") ∷ [] }) }
     ensures front_after_options { site_file_in
-        (codes "{\"version\":2,\"front\":{\"show\":\"posts\"},\"options\":{\"show_on_front\":\"page\",\"x\":\"1\"}}")
+        (codes "{\"version\":2,\"front\":{\"show\":\"posts\"},"
+        ++ codes "\"options\":{\"show_on_front\":\"page\",\"x\":\"1\"}}")
         ≡ Ok (record no_records {
           options = (codes "show_on_front", codes "page")
               ∷ (codes "x", codes "1") ∷ (codes "show_on_front", codes "posts") ∷ [];

@@ -3,7 +3,8 @@ use Rattle.std.proofs.Common.{ℕ, ◌+◌, ◌≤◌, List, [], ◌∷◌, ◌+
 use Rattle.hook_changes.specs.declared.reply.Change.{Change}
 use Rattle.hook_changes.specs.declared.reply.Change.TheVariants.{Add, Remove, RemoveAll, AddTag, RemoveTag, RemoveAllTags}
 use Rattle.callback_store.specs.Shape.{Shape}
-use Rattle.hook_machine.specs.World.{Text, World, world_after_change, world_after_changes, core_changes, load_changes, fresh, loaded}
+use Rattle.hook_changes.specs.Texts.{Text}
+use Rattle.hook_machine.specs.World.{World, world_after_change, world_after_changes, core_changes, load_changes, fresh, loaded}
 use Rattle.hook_machine.specs.Meaning.{Engine}
 use Rattle.hook_machine.specs.Throughout.{IsWithinCalls, IsWithinDepth}
 use Rattle.post_tables.specs.Rows.{Rows}

@@ -3,7 +3,8 @@ use Rattle.std.proofs.Common.{◌≡◌, ℕ, true, false, List, [], ◌∷◌, 
 use Rattle.std.specs.Prelude.{is_some, is_none, position, if◌then◌else◌, nat_le, length}
 use Rattle.std.specs.List.{AllByRecursion}
 use Rattle.std.specs.FinMap.{entries, len-entries, len-empty}
-use Rattle.hook_machine.specs.World.{Text, fresh, loaded}
+use Rattle.hook_changes.specs.Texts.{Text}
+use Rattle.hook_machine.specs.World.{fresh, loaded}
 use Rattle.hook_machine.specs.Meaning.{Engine}
 use Rattle.site_records.specs.declared.found.Found.{Found}
 use Rattle.post_tables.specs.Rows.{Rows, no_rows}

@@ -4,7 +4,7 @@ use Rattle.std.specs.FinMap.{insert}
 use Rattle.std.specs.Prelude.{Bool, IfOk, OnErr, ◌⊎◌}
 use Rattle.std.proofs.lemmas.List.Elements.{All-nil, All-push, All-weaker}
 use Rattle.callback_store.specs.Shape.{Shape}
-use Rattle.hook_machine.specs.World.{Text}
+use Rattle.hook_changes.specs.Texts.{Text}
 use Rattle.serde_json.specs.Data.{Data}
 use Rattle.site_records.specs.declared.found.Found.{Found}
 use Rattle.site_records.specs.declared.post.Post.{Post}

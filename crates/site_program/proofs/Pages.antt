@@ -2,7 +2,8 @@
 use Rattle.std.proofs.Common.{◌≡◌, ◌≢◌, ◌≤◌, inl, inr, ℕ, Bool, true, List, ◌∙◌, Ok, Err, refl, sym, ap, length}
 use Rattle.std.proofs.lemmas.Bool.{cond_both, le-leb}
 use Rattle.std.specs.Prelude.{Result, IfOk, IfErr, false, ◌||◌, nat_le}
-use Rattle.hook_machine.specs.World.{Text, World, fresh, loaded}
+use Rattle.hook_changes.specs.Texts.{Text}
+use Rattle.hook_machine.specs.World.{World, fresh, loaded}
 use Rattle.hook_machine.specs.declared.fault.RunFault.{RunFault}
 use Rattle.hook_machine.specs.declared.fault.RunFault.TheVariants as fault
 use Rattle.hook_machine.specs.Trace.{Outcome, Ended, Fault, outcome_of}

@@ -4,7 +4,7 @@ use Rattle.std.specs.Prelude.{All, find, option_map, bytes_eq}
 use Rattle.std.proofs.lemmas.Bool.{cases_Bool}
 use Rattle.std.proofs.lemmas.List.Elements.{All-head, All-tail}
 use Rattle.std.proofs.lemmas.Slice.Eq.{bytes_eq-Decides}
-use Rattle.hook_machine.specs.World.{Text}
+use Rattle.hook_changes.specs.Texts.{Text}
 
 some_is : {A : Type 0} (x y : A) → Some x ≡ Some y → x ≡ y
 some_is x y is = let same = is in cc

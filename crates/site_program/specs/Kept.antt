@@ -1,7 +1,7 @@
 -- What a site keeps of its rows from one request to the next: definitions for private clauses.
 use Rattle.std.specs.Prelude.{◌≡◌, ◌≢◌, ℕ, ◌+◌, ◌≤◌, ◌⊎◌, Bool, ◌||◌, List, [], ◌∷◌, ◌++◌, length, codes, bytes_eq, Option, IfSome, All}
 use Rattle.std.specs.List.{sum_by}
-use Rattle.hook_machine.specs.World.{Text}
+use Rattle.hook_changes.specs.Texts.{Text}
 use Rattle.post_tables.specs.Rows.{Rows}
 use Rattle.site_records.specs.declared.found.Found.{Found}
 use Rattle.site_records.specs.declared.post.Post.{Post}

@@ -1,7 +1,8 @@
 -- The reply to a request of a path.
 use Rattle.std.specs.Prelude.{◌≡◌, ℕ, ◌+◌, List, [], length, map, codes, Option, option_and_then, unwrap_or}
 use Rattle.std.specs.FinMap.{entries, keys}
-use Rattle.hook_machine.specs.World.{Text, World, fresh, loaded}
+use Rattle.hook_changes.specs.Texts.{Text}
+use Rattle.hook_machine.specs.World.{World, fresh, loaded}
 use Rattle.hook_machine.specs.Trace.{Outcome, Ended, Fault, outcome_of, turns_of}
 use Rattle.hook_machine.specs.Meaning.{Engine}
 use Rattle.hook_machine.specs.declared.fault.RunFault.{RunFault}

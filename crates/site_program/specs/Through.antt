@@ -1,7 +1,7 @@
 -- What a site goes through, line by line.
 use Rattle.std.specs.Prelude.{ℕ, IsTrue, List, [], ◌∷◌}
 use Rattle.std.specs.List.{AllByRecursion}
-use Rattle.hook_machine.specs.World.{Text}
+use Rattle.hook_changes.specs.Texts.{Text}
 use Rattle.site_replies.specs.Reply.{ReplyData}
 use Rattle.site_program.specs.Requests.{active_of}
 use Rattle.site_program.specs.State.{State}

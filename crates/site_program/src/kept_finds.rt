@@ -23,7 +23,7 @@ pub struct KeptFinds {
 
 impl Model for KeptFinds {
     ghost use Rattle.std.specs.Prelude.{List};
-    ghost use Rattle.hook_machine.specs.World.{Text};
+    ghost use Rattle.hook_changes.specs.Texts.{Text};
     ghost use Rattle.site_records.specs.declared.found.Found.{Found};
     ghost use Rattle.site_program.specs.Kept.{IsKept};
 

@@ -5,7 +5,7 @@ ghost use Rattle.hook_machine.specs.Meaning.{Engine};
 ghost use Rattle.hook_machine.specs.Outcomes.{engine_over};
 ghost use Rattle.hook_machine.specs.Throughout.{IsWithinCalls, IsWithinDepth};
 ghost use Rattle.hook_machine.specs.Trace.{turns_of};
-ghost use Rattle.hook_machine.specs.World.{Text};
+ghost use Rattle.hook_changes.specs.Texts.{Text};
 ghost use Rattle.post_tables.specs.Rows.{Rows};
 ghost use Rattle.site_program.specs.History.{AreCarriedOut, Replied, Serves, lines_in};
 ghost use Rattle.site_program.specs.Requests.{HasRunNothing, Opened, Texts, first_world, request};

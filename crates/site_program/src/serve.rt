@@ -94,9 +94,9 @@ impl<'p, S: Stated> Site<'p, S> {
         self.serve_watched(reader, writer, &mut Unwatched)
     }
 
-    /// Serves as [`Site::serve`] does, and tells somebody of each invocation of its pages.
+    /// Serves as [`Site::serve`] does, and gives a log each invocation of its pages.
     ///
-    /// Who is told changes no reply: the clauses are the same.
+    /// The log changes no reply: the clauses are the same.
     pub fn serve_watched<R: Source, W: Journal, V: Watch>(
         &mut self,
         reader: &mut R,

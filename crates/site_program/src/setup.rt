@@ -2,8 +2,8 @@
 use callback_store::Plugins;
 use std::alloc::Global;
 
-/// What a site carries its commands out with: the plugins, the calls that each page has, and where
-/// memory comes from.
+/// What all commands of a site share: its plugins, the number of calls that a page may make, and
+/// the allocator.
 #[derive(Drop)]
 pub struct Setup<'p, S> {
     pub(crate) plugins: &'p Plugins<S>,

@@ -1,4 +1,4 @@
-//! Pages that are watched: they are printed turn by turn, and each of their invocations is told.
+//! Pages that are watched: they are printed turn by turn, and a log is given each invocation.
 ghost use Rattle.std.specs.Prelude.{◌≡◌, IfOk, IfErr, option_map};
 ghost use Rattle.callback_store.specs.Shape.{owner};
 ghost use Rattle.site_replies.specs.Reply.{reply_data};
@@ -51,8 +51,8 @@ impl<'p, S: Stated> Setup<'p, S> {
         self.plugins.owner(callback)
     }
 
-    /// Tells of the invocation that a page's last turn made. If memory runs out for what is told,
-    /// it is left out.
+    /// Gives the log the invocation that a page's last turn made. What memory runs out for is left
+    /// out.
     fn tell_invocation<'t, V: Watch>(
         &'t self,
         page: &'t OpenPage,

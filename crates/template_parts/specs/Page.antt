@@ -1,6 +1,7 @@
 -- A page as contracts see it: what was found, the site's settings, and what it has still to do.
 use Rattle.std.specs.Prelude.{◌≡◌, ◌≢◌, ℕ, ◌+◌, ◌<◌, length, Option, None, Result, Ok, Err, ⊤}
-use Rattle.hook_machine.specs.World.{Text, World}
+use Rattle.hook_changes.specs.Texts.{Text}
+use Rattle.hook_machine.specs.World.{World}
 use Rattle.hook_machine.specs.declared.run.Run.{Run}
 use Rattle.hook_machine.specs.declared.fault.RunFault.{RunFault}
 use Rattle.hook_machine.specs.declared.fault.RunFault.TheVariants.{OutOfMemory}

@@ -3,7 +3,8 @@ use Rattle.std.specs.Prelude.{◌≡◌, ◌≢◌, List, [], ◌∷◌, ◌++�
 use Rattle.site_records.specs.declared.post.Post.{Post}
 use Rattle.site_records.specs.declared.post.PostKind.{PostKind}
 use Rattle.site_records.specs.declared.post.PostKind.TheVariants as kind
-use Rattle.hook_machine.specs.World.{Text, World}
+use Rattle.hook_changes.specs.Texts.{Text}
+use Rattle.hook_machine.specs.World.{World}
 use Rattle.hook_machine.specs.declared.fault.RunFault.{RunFault}
 use Rattle.hook_machine.specs.declared.fault.RunFault.TheVariants as fault
 use Rattle.hook_machine.specs.Trace.{Trace, Done, Ended, Fault, outcome_of, and_then}

@@ -1,6 +1,7 @@
 //! The page of a request.
 ghost use Rattle.std.specs.Prelude.{◌≡◌, None, Err, IfOk, IfErr, IfSome, OnOk};
-ghost use Rattle.hook_machine.specs.World.{Text, World};
+ghost use Rattle.hook_changes.specs.Texts.{Text};
+ghost use Rattle.hook_machine.specs.World.{World};
 ghost use Rattle.hook_machine.specs.Trace.{Trace};
 ghost use Rattle.hook_machine.specs.Meaning.{Engine};
 ghost use Rattle.hook_machine.specs.Runs.{world_of, fault_of, engine_of, CanBegin, IsIdle};

@@ -1,4 +1,4 @@
-//! What can be told of an open page between its turns.
+//! What an open page shows between its turns.
 ghost use Rattle.std.specs.Prelude.{◌≡◌, IfOk, option_map};
 ghost use Rattle.hook_machine.specs.Invocations.{made_as};
 ghost use Rattle.template_parts.specs.Told.{made_of, calls_of, steps_left, post_id};

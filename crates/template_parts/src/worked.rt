@@ -6,7 +6,7 @@ ghost use Rattle.template_parts.specs.Choice.{template_choice};
 
 /// Works out which template some pages have. The call itself does nothing: it carries these facts.
 pub fn worked_choices()
-    // A front goes by `front-page`, but not one that lists posts while a page is to be shown there.
+    // A front uses `front-page`, but not one that lists posts while a page is to be shown there.
     ensures front { template_choice FoundKind.Front (codes "home" ∷ codes "front-page" ∷ [])
         ≡ codes "front-page" }
     ensures home { template_choice FoundKind.Home (codes "home" ∷ codes "front-page" ∷ [])

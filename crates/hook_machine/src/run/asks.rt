@@ -222,8 +222,8 @@ fn follow_turn<S: Stated>(
     }
 }
 
-/// Goes on with an invocation by its pending step. An invocation that waits for a result is not
-/// handed one here.
+/// Carries out the pending step of an invocation. One that waits for a result is not handed it
+/// here: `waiting_turn` does that.
 pub fn invocation_turn<S: Stated>(
     plugins: &Plugins<S>,
     state: &mut State,

@@ -91,7 +91,7 @@ fn has_none(atts: &Atts) -> bool
     atts.pair(0).is_none() && atts.positional().is_empty()
 }
 
-/// Returns whether a call has nothing of what only the call of a shortcode's handler has.
+/// Returns whether a call has none of the parts that only a shortcode's handler is given.
 fn is_bare(call: &Call) -> bool
     ensures { IsTrue result → call.now ≡ record call.now {
       tag = [];
@@ -103,7 +103,7 @@ fn is_bare(call: &Call) -> bool
     call.tag.as_str().is_empty() && call.content.as_str().is_empty() && has_none(&call.atts)
 }
 
-/// Clears what only the call of a shortcode's handler has. Most calls have none of it.
+/// Clears the parts of a call that only a shortcode's handler is given. Most calls have none of them.
 fn strip(alloc: Global, call: &mut Call)
     ensures { call.new ≡ record call.old { tag = []; atts = no_attributes; content = [] } }
 {
@@ -115,8 +115,8 @@ fn strip(alloc: Global, call: &mut Call)
     call.content = Text::empty(alloc);
 }
 
-/// Turns a call into that of a hook without arguments, and returns the empty vector of those that
-/// it had, to be filled again. The hook's name is copied only if it changes.
+/// Resets a call to that of a hook without arguments, and returns its old argument vector, emptied,
+/// for reuse. The hook's name is copied only if it changes.
 fn emptied(alloc: Global, call: &mut Call, hook: &str) -> Result<Vec<Text>, AllocError>
     ensures call { OnOk result (call.new ≡ hook_call hook.now []) }
     ensures room { IfOk result (λ room. room.items ≡ []) }
@@ -204,7 +204,7 @@ pub fn fill(
     }
 }
 
-/// Returns whether a call has nothing of what only the call of a hook's callback has, and no
+/// Returns whether a call has none of the parts that only a hook's callback is given, and no
 /// answers.
 fn is_hookless(call: &Call) -> bool
     ensures { IsTrue result → call.now ≡ record call.now { hook = []; args = []; answers = [] } }
@@ -213,8 +213,8 @@ fn is_hookless(call: &Call) -> bool
     args && call.hook.as_str().is_empty() && call.answers.as_slice().is_empty()
 }
 
-/// Clears what only the call of a hook's callback has, and the answers. Where shortcodes follow one
-/// another, there is none of it.
+/// Clears the parts of a call that only a hook's callback is given, and the answers. If shortcodes
+/// follow one another, there are none.
 fn strip_hook(alloc: Global, call: &mut Call)
     ensures { call.new ≡ record call.old { hook = []; args = []; answers = [] } }
 {
@@ -226,7 +226,7 @@ fn strip_hook(alloc: Global, call: &mut Call)
     call.answers = Listed::empty(alloc);
 }
 
-/// Puts the attributes that a text spells in the place of others. Most shortcodes have none.
+/// Replaces attributes with those that a text spells. Most shortcodes have none.
 fn set_attributes(alloc: Global, atts: &mut Atts, text: &str) -> Result<(), AllocError>
     ensures { OnOk result (atts.new ≡ attributes text.now) }
 {
@@ -255,8 +255,8 @@ pub fn fill_handler(
     Ok(())
 }
 
-/// Returns the reply of a callback; a number that no plugin has answers empty text and does nothing
-/// else.
+/// Returns the reply of a callback. That of a number which no plugin has is to answer empty text,
+/// and nothing else.
 #[inline]
 pub fn reply_of<S: Stated>(
     plugins: &Plugins<S>,

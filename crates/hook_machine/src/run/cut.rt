@@ -30,6 +30,7 @@ impl Model for Cut {
 }
 
 impl Cut {
+    /// Makes a cut of a text, of which no piece is taken yet. The pieces lie in the text.
     pub fn new(text: Text, pieces: SharedList<Piece>) -> Self
         requires { AllByRecursion (HasSpansOf text) pieces }
         ensures { result ≡ record { text = text; pieces = pieces } }
@@ -41,6 +42,7 @@ impl Cut {
         }
     }
 
+    /// Borrows the text that is cut.
     pub fn text(&self) -> &str
         ensures { result.now ≡ self.now.text }
     {

@@ -47,6 +47,7 @@ impl Model for HookPass {
 }
 
 impl HookPass {
+    /// Makes a pass of these parts, in memory of its own.
     pub fn new(alloc: Global, parts: PassParts) -> Result<Self, AllocError>
         ensures { IfOk result (λ pass. pass ≡ parts) }
     {
@@ -177,6 +178,8 @@ impl Model for Invoked {
 }
 
 impl Invoked {
+    /// Makes the invocation of a callback with a call. Until its reply is carried out, its next
+    /// step is core's.
     pub fn new(alloc: Global, callback: CallbackId, call: Call) -> Result<Self, AllocError>
         ensures { IfOk result (λ invoked. invoked
             ≡ record { callback = callback; call = call; pending = Core }) }
@@ -192,18 +195,21 @@ impl Invoked {
         Ok(Invoked { parts })
     }
 
+    /// Returns the callback that was invoked.
     pub fn callback(&self) -> CallbackId
         ensures { result ≡ self.now.callback }
     {
         self.parts.callback
     }
 
+    /// Borrows what the callback was called with.
     pub fn call(&self) -> &Call
         ensures { result.now ≡ self.now.call }
     {
         &self.parts.call
     }
 
+    /// Sets what the invocation is to do next.
     pub fn set_pending(&mut self, pending: Pending)
         ensures { self.new ≡ record self.old { pending = pending } }
     {

@@ -27,8 +27,8 @@ pub struct Invocation<'r> {
 }
 
 impl<'r> Invocation<'r> {
-    /// Returns what the callback replied, for which it is called again: to the same call it gives
-    /// the same reply. Core's callback 0 has no reply.
+    /// Calls the callback once more and returns its reply, which is the one it gave: the same call
+    /// has the same reply. Core's callback 0 has no reply.
     pub fn reply<S: Stated>(
         &self,
         plugins: &Plugins<S>,

@@ -4,8 +4,8 @@
 //! Each function here goes on with the innermost frame. It ends with `Move::Turned` right after an
 //! invocation at which the run stops, or with `Move::Handed` and a result for the frame below;
 //! `jobs` calls it, and hands that result on. After an `Err` the state may have part of a reply's
-//! changes: `Run` returns that fault from then on, and never goes on. By the clauses `weight` a
-//! result can be handed on only so many times, which is why `jobs` comes to an end.
+//! changes: `Run` returns that fault from then on, and never goes on. The clauses `weight` bound how
+//! often a result is handed on, so `jobs` comes to an end.
 ghost use Rattle.std.specs.Prelude.{◌≡◌, ◌<◌, ℕ, List, IfOk, IfErr, IsTrue, OnOk, take};
 ghost use Rattle.hook_machine.specs.declared.run.frames.Pace.TheVariants.{Through};
 ghost use Rattle.hook_machine.specs.World.{World};
@@ -48,7 +48,7 @@ fn call_and_apply<S: Stated>(
     Ok(Pending::Next(reply.next))
 }
 
-/// Returns what an invocation came to whose next step is this.
+/// Returns the outcome of an invocation, given its next step.
 fn went(invoked: Invoked, pending: Pending, pace: Pace) -> Went
     ensures left { (engine : Engine) (world : World)
         → pending_left engine world invoked.callback invoked.call pending

@@ -56,6 +56,7 @@ impl Loaded {
         })
     }
 
+    /// Borrows the changes that were loaded, each with whether its callback is active.
     pub fn changes(&self) -> &[(Change, bool)]
         ensures { result.now ≡ self.now }
     {

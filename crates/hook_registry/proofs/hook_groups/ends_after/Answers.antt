@@ -12,19 +12,22 @@ one_after : (n : ℕ) → suc n ≡ n + 1
 one_after n = omega arith
 
 -- as the lemma, with the index after the place as code adds it
-after : (p : ℤ) (gs : List Group) (at : ℕ) (d e : Group) → AreGroups gs → at < length gs → int_lt p (get_or gs at d).priority ≡ false
-    → (at + 1 < length gs → int_lt p (get_or gs (at + 1) e).priority ≡ true) → IsEnd p gs (1 + at)
-after p gs at d e h l b n =
-    subst (λ i. IsEnd p gs i) (one_more at)
-    (end-after p gs at d e h l b (subst (λ i. i < length gs → int_lt p (get_or gs i e).priority ≡ true) (sym (one_after at)) n))
+after : (priority : ℤ) (groups : List Group) (at : ℕ) (first second : Group) → AreGroups groups → at < length groups
+    → int_lt priority (get_or groups at first).priority ≡ false
+    → (at + 1 < length groups → int_lt priority (get_or groups (at + 1) second).priority ≡ true) → IsEnd priority groups (1 + at)
+after priority groups at first second are_groups within not_above next_above =
+    subst (λ i. IsEnd priority groups i) (one_more at)
+    (end-after priority groups at first second are_groups within not_above
+    (subst (λ i. i < length groups → int_lt priority (get_or groups i second).priority ≡ true) (sym (one_after at)) next_above))
 
 not_past : (at n : ℕ) → at + 1 ≡ n → at + 1 < n → ⊥
 not_past at n e l = omega (arith, e, l)
 
 -- a test of the group that is read at an index
-read : (p : ℤ) (gs : List Group) (at : ℕ) (g : Group) (is_above is : Bool) → is_above ≡ int_lt p g.priority → is_above ≡ is → g ≡ get_or gs at g
-    → int_lt p (get_or gs at g).priority ≡ is
-read p gs at g b is e f r = ap (λ (x : Group). int_lt p x.priority) (sym r) ∙ sym e ∙ f
+read : (priority : ℤ) (groups : List Group) (at : ℕ) (group : Group) (is_above is : Bool) → is_above ≡ int_lt priority group.priority → is_above ≡ is
+    → group ≡ get_or groups at group
+    → int_lt priority (get_or groups at group).priority ≡ is
+read priority groups at group tested is tested_is is_result group_is = ap (λ (x : Group). int_lt priority x.priority) (sym group_is) ∙ sym tested_is ∙ is_result
 
 pub returns-then-at-groups : goal.returns-then-at-groups
 returns-then-at-groups c =

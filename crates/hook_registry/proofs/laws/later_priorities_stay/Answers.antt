@@ -1,4 +1,4 @@
-use Rattle.hook_registry.proofs.Behind.{group-changed, after-changed}
+use Rattle.hook_registry.proofs.LaterPriorities.{group-changed, after-changed}
 use Rattle.hook_registry.proofs.laws.later_priorities_stay.Goals as goal
 
 pub returns-clause-groups : goal.returns-clause-groups

@@ -35,7 +35,7 @@ returns-in_err-commit-clause-site c =
     let made = c.in_ok-add_records.ensures.made in
     let limit : end.step_limit ≡ c.args.conn.now.step_limit = c.commit.ensures.survives.limit ∙ made.limit
     ∙ ap (λ h. h.step_limit) c.transaction-tx.ensures.begun in
-    let back = uncommitted_site c.args.conn.now c.add_records.new.tx.conn.now end c.in_err-commit.field-0.0 c.requires limit made.inside
+    let back = uncommitted_site c.args.conn.now c.add_records.new.tx.conn.now end c.in_err-commit.field-0.0 c.requires limit made.is_open.inside
     (made.committed ∙ ap (λ h. (state over_memory h).committed) c.transaction-tx.ensures.begun ∙ c.requires.idle.settled)
     (c.in_err-commit.ensures.err (memory_is_clean end)) in
     let same : end ≡ c.conn-2-1.given.0 = search rules in
@@ -47,7 +47,7 @@ returns-in_err-commit-clause-err c =
     let made = c.in_ok-add_records.ensures.made in
     let limit : end.step_limit ≡ c.args.conn.now.step_limit = c.commit.ensures.survives.limit ∙ made.limit
     ∙ ap (λ h. h.step_limit) c.transaction-tx.ensures.begun in
-    let back = uncommitted_site c.args.conn.now c.add_records.new.tx.conn.now end c.in_err-commit.field-0.0 c.requires limit made.inside
+    let back = uncommitted_site c.args.conn.now c.add_records.new.tx.conn.now end c.in_err-commit.field-0.0 c.requires limit made.is_open.inside
     (made.committed ∙ ap (λ h. (state over_memory h).committed) c.transaction-tx.ensures.begun ∙ c.requires.idle.settled)
     (c.in_err-commit.ensures.err (memory_is_clean end)) in
     let same : end ≡ c.conn-2-1.given.0 = search rules in
@@ -56,7 +56,7 @@ returns-in_err-commit-clause-err c =
 pub returns-clause-site : goal.returns-clause-site
 returns-clause-site c =
     let end = c.commit.new.self.0 in
-    let both = committed_site c.add_records.new.tx.conn.now end c.in_ok-add_records.ensures.made.holds c.commit.ensures.survives.limit
+    let both = committed_site c.add_records.new.tx.conn.now end c.in_ok-add_records.ensures.made.is_open.holds c.commit.ensures.survives.limit
     (c.in_ok-commit.ensures.ok (memory_is_clean end)).1 in
     let same : end ≡ c.conn-2-1.given.0 = search rules in
     subst IsSite same both.0
@@ -65,7 +65,8 @@ pub returns-clause-ok : goal.returns-clause-ok
 returns-clause-ok c =
     let end = c.commit.new.self.0 in
     let made = c.in_ok-add_records.ensures.made in
-    let both = committed_site c.add_records.new.tx.conn.now end made.holds c.commit.ensures.survives.limit (c.in_ok-commit.ensures.ok (memory_is_clean end)).1
+    let both = committed_site c.add_records.new.tx.conn.now end made.is_open.holds c.commit.ensures.survives.limit
+    (c.in_ok-commit.ensures.ok (memory_is_clean end)).1
     in
     let same : end ≡ c.conn-2-1.given.0 = search rules in
     subst (λ h. rows_of h ≡ with_records c.args.records.now (rows_of c.args.conn.now)) same

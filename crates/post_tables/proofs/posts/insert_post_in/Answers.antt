@@ -9,10 +9,10 @@ use Rattle.post_tables.proofs.Inserting.{insert_text}
 use Rattle.post_tables.proofs.PostSteps.{puts_post, given}
 use Rattle.post_tables.proofs.posts.insert_post_in.Goals as goal
 
-pub returns-clause-made : goal.returns-clause-made
-returns-clause-made c =
-    let begin = c.args.tx.now.conn.now in
-    let end = c.execute.new.self.conn.now in
+pub returns : goal.returns
+returns c =
+    let begin = c.args.tx.now in
+    let end = c.execute.new.self in
     let post : Post = post_with_id c.args.post.now in
     let good : IsReadable post = record {
       id = omega arith;
@@ -22,8 +22,8 @@ returns-clause-made c =
           c.as_str.ensures.text at c.as_str.utf8;
       dated = rw c.as_str.ensures.text at c.as_str.ensures.date;
     } in
-    makes_inside (with_new post) begin end insert_text (given post) c.requires.holds c.execute.ensures.survives.limit
-    (λ count. puts_post begin end c.requires.holds count post good) c.execute.result
+    makes_inside (with_new post) begin end insert_text (given post) c.requires c.execute.ensures.same_reference c.execute.ensures.survives.limit
+    (λ count. puts_post begin.conn.now end.conn.now c.requires.holds count post good) c.execute.result
     (rw (
       c.params-to_sql.ensures,
       c.params-to_sql-2.ensures,
@@ -37,4 +37,4 @@ returns-clause-made c =
       c.as_text.ensures.same,
       c.as_text-2.ensures.same,
     ) at
-    (c.execute.ensures.runs (memory_is_clean end) c.requires.inside))
+    (c.execute.ensures.runs (memory_is_clean end.conn.now) c.requires.inside))

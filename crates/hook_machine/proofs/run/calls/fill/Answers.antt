@@ -1,7 +1,7 @@
 use Rattle.std.proofs.Common.{◌≡◌, ◌∷◌, [], List, length, ap, refl, arith, ◌∙◌}
 use Rattle.std.specs.Prelude.{slice_set}
 use Rattle.hook_changes.specs.declared.reply.Call.{Call}
-use Rattle.hook_machine.specs.World.{Text}
+use Rattle.hook_changes.specs.Texts.{Text}
 use Rattle.hook_machine.specs.Meaning.{hook_call}
 use Rattle.hook_machine.proofs.run.calls.fill.Goals as goal
 

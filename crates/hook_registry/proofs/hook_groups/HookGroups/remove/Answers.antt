@@ -17,7 +17,8 @@ remove-requires c = let k = within c.args.priority c.deref.result.now c.in-Ok.at
 
 pub invariant_of-self : goal.invariant_of-self
 invariant_of-self c =
-    let same = c.remove.ensures.items ∙ remove-set c.self.inside.groups.items c.in-Ok.at (group_of c.index_mut.result.now.priority c.remove-was_there.new.self) in
+    let same = c.remove.ensures.items ∙ remove-set c.self.inside.groups.items c.in-Ok.at
+    (group_of c.index_mut.result.now.priority c.remove-was_there.new.self) in
     rw same (plan-remove c.self.inside.groups.items c.in-Ok.at c.self.invariant)
 
 pub invariant_of-self-else-is_empty : goal.invariant_of-self-else-is_empty

@@ -22,10 +22,10 @@ module _ (test : ℤ → Bool) where
   fails_at q r f e = subst (λ z. test z ≡ false) (sym ((Decides-int_eq r.priority q).0 e)) f
 
   -- before r, or after it
-  passing-placed : (new r : Registration) (rs behind : List Registration) → test new.priority ≡ false → passing behind ≡ passing rs
-      → passing (cond (int_lt new.priority r.priority) (new ∷ r ∷ rs) (r ∷ behind)) ≡ passing (r ∷ rs)
-  passing-placed new r rs behind f e =
-      elim (int_lt new.priority r.priority) as (λ b. passing (cond b (new ∷ r ∷ rs) (r ∷ behind)) ≡ passing (r ∷ rs))
+  passing-placed : (new r : Registration) (rs following : List Registration) → test new.priority ≡ false → passing following ≡ passing rs
+      → passing (cond (int_lt new.priority r.priority) (new ∷ r ∷ rs) (r ∷ following)) ≡ passing (r ∷ rs)
+  passing-placed new r rs following f e =
+      elim (int_lt new.priority r.priority) as (λ b. passing (cond b (new ∷ r ∷ rs) (r ∷ following)) ≡ passing (r ∷ rs))
       [ true ↦ rw f refl | false ↦ ap (λ rest. cond (test r.priority) (r ∷ rest) rest) e ]
 
   passing-with_added : (rs : List Registration) (new : Registration) → test new.priority ≡ false → passing (with_added rs new) ≡ passing rs
