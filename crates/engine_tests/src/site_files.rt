@@ -7,7 +7,9 @@ use std::alloc::Global;
 const NOTHING: &[u8] = br#"{"version":1}"#;
 
 const ONE_OF_EACH: &[u8] =
-    br#"{"active":["bold"],"templates":{"index":[ {"tag" : "the_title"}, "\u0078" ]},"options":{"a":"1"},"posts":[{"id":2147483647,"kind":"page","status":"draft","title":"T","content":"[b]","date":"9999-12-31 23:59:59","more":0}],"front":0,"version":1}"#;
+    br#"{"active":["bold"],"templates":{"index":[ {"tag" : "the_title"}, "\u0078" ]},
+"options":{"a":"1"},"posts":[{"id":2147483647,"kind":"page","status":"draft","title":"T",
+"content":"[b]","date":"9999-12-31 23:59:59","more":0}],"front":0,"version":1}"#;
 
 /// Returns whether a site file is read, and has `count` entries in each section.
 fn has(alloc: Global, bytes: &[u8], count: usize) -> bool {
@@ -98,7 +100,9 @@ static FAULTS: [(&[u8], ImportFault); 12] = [
         ImportFault::BadImport(POSTS),
     ),
     (
-        br#"{"version":1,"posts":[{"id":2,"kind":"post","status":"publish","title":"T","content":"C","date":"2024-05-01 10:00:00"},{"id":3,"kind":"post","status":"publish","title":"T","content":"C","date":"2024-02-30 10:00:00"}]}"#,
+        br#"{"version":1,"posts":[
+{"id":2,"kind":"post","status":"publish","title":"T","content":"C","date":"2024-05-01 10:00:00"},
+{"id":3,"kind":"post","status":"publish","title":"T","content":"C","date":"2024-02-30 10:00:00"}]}"#,
         ImportFault::BadDate(SECOND_POST),
     ),
     (
