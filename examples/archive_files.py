@@ -1,0 +1,195 @@
+"""The files of an archive: written only if they changed, and removed once nothing writes them any more.
+
+It is a module, and runs nothing by itself. An archive's folder has `public`, which a web server serves, and beside it
+`written.txt`, the list of what was written there.
+"""
+
+import os
+import re
+import shutil
+import tarfile
+import zipfile
+from pathlib import Path, PurePosixPath
+from typing import IO
+
+from wordpress_addresses import UPLOADS, path_or_none
+
+PUBLIC, WRITTEN = "public", "written.txt"
+# What an uploads folder may have that no web server should hand out, or run.
+UNSERVED = re.compile(r"\.(?:php\d?|phtml|phar|cgi|pl|py|sh|asp|jsp|sql|log|bak|htaccess|ini|env)\Z|(?:^|/)\.", re.I)
+# What WordPress adds to the name of a picture that it has made smaller, turned or edited.
+SIZE = re.compile(r"(?:-\d+x\d+|-scaled|-rotated|-e\d{10,})*(\.[^./]*)\Z")
+COPY_BYTES = 1 << 20
+
+
+class Files:
+    """The folder `public` of an archive, and which of its files this run has written or found as they should be."""
+
+    def __init__(self, folder: Path) -> None:
+        self.folder, self.root = folder, folder / PUBLIC
+        self.current: set[str] = set()
+        # Paths that couldn't be written, and why.
+        self.refused: dict[str, str] = {}
+        self.written = self.unchanged = self.removed = 0
+        self.root.mkdir(parents=True, exist_ok=True)
+        self.before = self.read_list()
+
+    def read_list(self) -> set[str]:
+        try:
+            listed = (self.folder / WRITTEN).read_text(encoding="utf-8").splitlines()
+        except FileNotFoundError:
+            return set()
+        return {it for it in listed if it == ".htaccess" or path_or_none("/" + it) == "/" + it}
+
+    def name_of(self, path: str, index: str, is_folder: bool) -> str:
+        """The file for a path: a folder's index, unless the path itself has an ending and nothing is below it."""
+        name = path.strip("/")
+        has_ending = not is_folder and not path.endswith("/") and re.search(r"\.[A-Za-z0-9]{1,5}\Z", name)
+        return name if has_ending else f"{name}/{index}".lstrip("/")
+
+    def write(self, path: str, text: str | bytes, index: str = "index.html", is_folder: bool = False) -> bool:
+        """Writes the file of a path, and returns whether it could be: nothing is written twice in one run."""
+        if path_or_none(path) is None:
+            self.refused[path] = "no file can have this name"
+            return False
+        name = self.name_of(path, index, is_folder)
+        if name in self.current:
+            self.refused[path] = "another page has this address"
+            return False
+        data = text if isinstance(text, bytes) else text.encode()
+        file = self.root / name
+        try:
+            if (
+                not file.is_symlink()
+                and file.is_file()
+                and file.stat().st_size == len(data)
+                and file.read_bytes() == data
+            ):
+                self.unchanged += 1
+            else:
+                self.put(file, data)
+                self.written += 1
+        except (NotADirectoryError, IsADirectoryError, FileExistsError):
+            self.refused[path] = "its file would be a folder of another page, or the other way around"
+            return False
+        self.current.add(name)
+        return True
+
+    def add(self, name: str, text: str) -> None:
+        """Writes a file that is no page, such as one for a web server."""
+        self.put(self.root / name, text.encode())
+        self.current.add(name)
+
+    @staticmethod
+    def put(file: Path, data: bytes) -> None:
+        """Puts a file in place at once, so that a server never sees half of it."""
+        file.parent.mkdir(parents=True, exist_ok=True)
+        if file.is_dir():
+            raise IsADirectoryError(file)
+        new = file.with_name(f".new-{os.getpid()}")
+        new.write_bytes(data)
+        os.replace(new, file)
+
+    def keep(self, name: str) -> None:
+        """Notes a file that is there and belongs to the archive."""
+        self.current.add(name)
+
+    def end(self) -> None:
+        """Removes what an earlier run has written and this one hasn't, and writes the list."""
+        for name in sorted(self.before - self.current):
+            file = self.root / name
+            if file.is_file() and not file.is_symlink():
+                file.unlink()
+                self.removed += 1
+            for above in PurePosixPath(name).parents:
+                try:
+                    (self.root / above).rmdir()
+                except OSError:
+                    break
+        listed = "".join(f"{it}\n" for it in sorted(self.current))
+        (self.folder / WRITTEN).write_text(listed, encoding="utf-8")
+
+
+class Uploads:
+    """Where the files below wp-content/uploads come from: a folder or an archive of it."""
+
+    def __init__(self, source: Path) -> None:
+        self.source = source
+        self.zip: zipfile.ZipFile | None = None
+        self.tar: tarfile.TarFile | None = None
+        # The names that the source has, by the path below the uploads folder.
+        self.names: dict[str, str] = {}
+        if source.is_dir():
+            self.names = {
+                it.relative_to(source).as_posix(): str(it) for it in sorted(source.rglob("*")) if it.is_file()
+            }
+        elif zipfile.is_zipfile(source):
+            self.zip = zipfile.ZipFile(source)
+            self.names = {it.filename: it.filename for it in self.zip.infolist() if not it.is_dir()}
+        else:
+            self.tar = tarfile.open(source)
+            self.names = {it.name.removeprefix("./"): it.name for it in self.tar.getmembers() if it.isfile()}
+        self.names = {below_uploads(name): it for name, it in self.names.items()}
+        # The names of a file's sizes, by the name without a size.
+        self.stems: dict[str, list[str]] = {}
+        for name in self.names:
+            self.stems.setdefault(SIZE.sub(r"\1", name), []).append(name)
+
+    def open(self, name: str) -> IO[bytes]:
+        """A file of the source, to be read."""
+        if self.zip is not None:
+            return self.zip.open(self.names[name])
+        if self.tar is None:
+            return open(self.names[name], "rb")
+        found = self.tar.extractfile(self.names[name])
+        if found is None:
+            raise FileNotFoundError(name)
+        return found
+
+    def copy(self, name: str, files: Files, path: str) -> bool:
+        """Copies a file of the source to a path of the archive, if it isn't there already."""
+        if name not in self.names or UNSERVED.search(name) or path_or_none(path) is None:
+            return False
+        to = files.root / path.strip("/")
+        with self.open(name) as source:
+            if to.is_file() and same_bytes(to, source):
+                files.unchanged += 1
+                files.keep(path.strip("/"))
+                return True
+        to.parent.mkdir(parents=True, exist_ok=True)
+        new = to.with_name(f".new-{os.getpid()}")
+        with self.open(name) as source, new.open("wb") as file:
+            shutil.copyfileobj(source, file, COPY_BYTES)
+        os.replace(new, to)
+        files.written += 1
+        files.keep(path.strip("/"))
+        return True
+
+    def sizes_of(self, name: str) -> list[str]:
+        """A file's name and those of its smaller sizes, as WordPress names them."""
+        return self.stems.get(SIZE.sub(r"\1", name), [])
+
+    def close(self) -> None:
+        for it in (self.zip, self.tar):
+            if it is not None:
+                it.close()
+
+
+def below_uploads(name: str) -> str:
+    """A file's path below the uploads folder, whichever folder above it the source begins with."""
+    name = name.lstrip("/")
+    for before in (UPLOADS, "uploads/"):
+        at = ("/" + name).rfind("/" + before)
+        if at >= 0:
+            return name[at + len(before) :]
+    return name
+
+
+def same_bytes(file: Path, source: IO[bytes]) -> bool:
+    with file.open("rb") as other:
+        while True:
+            one, two = source.read(COPY_BYTES), other.read(COPY_BYTES)
+            if one != two:
+                return False
+            if not one:
+                return True

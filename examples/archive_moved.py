@@ -1,0 +1,287 @@
+"""Where addresses of the old site that aren't pages of the archive lead to, in the forms of several web servers.
+
+It is a module, and runs nothing by itself. Plain permalinks such as `/?p=7`, attachments' pages, other forms of feeds
+and names that posts once had are moved for good (301).
+"""
+
+from collections.abc import Iterator
+from pathlib import Path
+from urllib.parse import unquote, urlsplit
+
+from archive_files import PUBLIC, Files
+from archive_plan import Listing, Plan
+from wordpress_addresses import as_link, path_or_none
+from wordpress_items import Item
+
+# Forms of a feed's address that WordPress knows beside the usual one.
+FEED_FORMS = ("rss", "rss2", "rdf", "atom")
+# Query parameters of plain permalinks, by what their values are: a post's number, or a list.
+NUMBERS = ("p", "page_id", "attachment_id")
+LISTS = ("cat", "tag", "author", "m", "feed")
+# The longest keys and values that are written into maps.
+LINE = 2_000
+
+
+class Moved:
+    """The moved addresses of an archive: by path, and by a parameter of the query and its value."""
+
+    def __init__(self, plan: Plan, lists: list[Listing]) -> None:
+        self.plan = plan
+        self.paths: dict[str, str] = {}
+        self.numbers: dict[str, str] = {}
+        self.lists: dict[tuple[str, str], str] = {}
+        self.taken = plan.taken | {it.path for it in lists}
+        for number, path in plan.paths.items():
+            self.numbers[str(number)] = as_link(path)
+            self.take_old_names(plan.item(number), path)
+        for item in filter(plan.is_open, plan.site.of_kind("attachment")):
+            self.take_attachment(item)
+        self.take_front()
+        self.take_lists(lists)
+        self.take_feeds(lists)
+
+    def move(self, path: str, to: str) -> None:
+        if path not in self.taken and path_or_none(path) == path and len(path) + len(to) < LINE:
+            self.paths.setdefault(path, to)
+
+    def take_old_names(self, item: Item | None, path: str) -> None:
+        """The names that a post had before its author changed them."""
+        slug = unquote(item.slug) if item else ""
+        head, _, last = path.rstrip("/").rpartition("/")
+        for name in item.fields.get("_wp_old_slug", []) if item else ():
+            if slug and last == slug and name.strip():
+                self.move(f"{head}/{unquote(name.strip())}" + ("/" if path.endswith("/") else ""), as_link(path))
+
+    def take_front(self) -> None:
+        """The page that the front shows has an address of its own too, by its name."""
+        item = self.plan.item(self.plan.front) if self.plan.front else None
+        if item and item.slug and not item.parent:
+            self.move(
+                self.plan.places.ended(self.plan.places.home + unquote(item.slug)), as_link(self.plan.places.home)
+            )
+
+    def take_attachment(self, item: Item) -> None:
+        """An attachment's page leads to its file."""
+        parts = urlsplit(item.file)
+        if not parts.path or urlsplit(self.plan.site.address).netloc.removeprefix("www.") != parts.netloc.removeprefix(
+            "www."
+        ):
+            return
+        file = as_link(unquote(parts.path))
+        self.numbers.setdefault(str(item.number), file)
+        path = self.plan.places.own(item)
+        if path:
+            self.move(path, file)
+
+    def take_lists(self, lists: list[Listing]) -> None:
+        """Plain permalinks of terms, authors and months lead to their lists."""
+        plan, site = self.plan, self.plan.site
+        paths = {it.path for it in lists}
+        for term in site.terms.values():
+            path = plan.places.term(term)
+            if path in paths and term.domain == "category" and term.number:
+                self.lists["cat", str(term.number)] = as_link(path)
+            elif path in paths and term.domain == "post_tag":
+                self.lists["tag", unquote(term.slug)] = as_link(path)
+        for login, number in site.author_numbers.items():
+            if number and plan.places.author(login) in paths:
+                self.lists["author", str(number)] = as_link(plan.places.author(login))
+        for it in lists:
+            if it.kind == "month":
+                year, month = it.path.rstrip("/").split("/")[-2:]
+                self.lists["m", year + month] = as_link(it.path)
+
+    def take_feeds(self, lists: list[Listing]) -> None:
+        """Other forms of the feeds' addresses lead to these."""
+        plan = self.plan
+        home = plan.places.feed(plan.places.home)
+        comments = plan.places.feed(f"{plan.places.home}comments/")
+        for feed in (home, comments, *(plan.places.feed(it.path) for it in lists if it.has_feed)):
+            for form in FEED_FORMS:
+                self.move(f"{feed.rstrip('/')}/{form}" + ("/" if feed.endswith("/") else ""), as_link(feed))
+        for form in ("rss", "rss2", "rdf", "atom", "feed"):
+            self.lists["feed", form] = as_link(home)
+        self.lists["feed", "comments-rss2"] = as_link(comments)
+        self.move(f"{plan.places.home}wp-sitemap.xml", f"{plan.places.home}sitemap.xml")
+        self.move(f"{plan.places.home}index.php", plan.places.home)
+
+    def count(self) -> int:
+        return len(self.paths) + len(self.numbers) + len(self.lists)
+
+    def queries(self) -> Iterator[tuple[str, str, str]]:
+        """Each parameter and value that leads somewhere."""
+        for value, to in self.numbers.items():
+            yield from ((name, value, to) for name in NUMBERS)
+        yield from ((name, value, to) for (name, value), to in self.lists.items())
+
+    def target(self, path: str, query: dict[str, str]) -> str:
+        """Where an address leads, or an empty text if it isn't moved."""
+        if path in (self.plan.places.home, f"{self.plan.places.home}index.php"):
+            for name in (*NUMBERS, *LISTS):
+                found = (
+                    self.numbers.get(query.get(name, ""))
+                    if name in NUMBERS
+                    else self.lists.get((name, query.get(name, "")))
+                )
+                if found:
+                    return found
+        return self.paths.get(path, "")
+
+
+NGINX = """# Serves the archive. Include it within `http {{ .. }}`, and set the port, the name and the certificates.
+
+map_hash_max_size 1048576;
+map_hash_bucket_size 4096;
+types_hash_max_size 4096;
+
+map "$arg_p$arg_page_id$arg_attachment_id" $archive_number {{
+    default "";
+{numbers}}}
+{lists}
+map $uri $archive_path {{
+    default "";
+{paths}}}
+
+server {{
+    listen 8080;
+    server_name _;
+    root {root};
+    index index.html index.xml;
+    charset utf-8;
+    absolute_redirect off;
+    error_page 404 /404.html;
+
+    if ($archive_path != "") {{ return 301 $archive_path; }}
+
+    location = {home} {{
+{asked}        try_files $uri/index.html =404;
+    }}
+    location / {{ try_files $uri $uri/{slash} =404; }}
+    location ~ ^(?<post>/.+)/feed/?$ {{ try_files $uri/index.xml $uri/ @post; }}
+    location @post {{ return 301 $post{ending}; }}
+    location ~ /\\. {{ return 404; }}
+    location = /404.html {{ internal; }}
+}}
+"""
+
+
+def quoted(text: str) -> str:
+    """A text for nginx's configuration and Caddy's: in quotes, its own escaped."""
+    return '"' + text.replace("\\", "\\\\").replace('"', '\\"') + '"'
+
+
+def for_nginx(moved: Moved, root: Path) -> str:
+    """The configuration of nginx that serves the archive."""
+
+    def lines(pairs: Iterator[tuple[str, str]]) -> str:
+        return "".join(f"    {quoted(nginx_key(key))} {quoted(to.replace('$', '%24'))};\n" for key, to in pairs)
+
+    lists = "".join(
+        f'map $arg_{name} $archive_{name} {{\n    default "";\n'
+        f"{lines((value, to) for (it, value), to in moved.lists.items() if it == name)}}}\n"
+        for name in LISTS
+    )
+    asked = "".join(f'        if ($archive_{it} != "") {{ return 301 $archive_{it}; }}\n' for it in ("number", *LISTS))
+    return NGINX.format(
+        numbers=lines(iter(moved.numbers.items())),
+        lists=lists,
+        paths=lines(iter(moved.paths.items())),
+        root=quoted(str(root)),
+        home=moved.plan.places.home,
+        asked=asked,
+        slash="" if moved.plan.places.has_slash else "index.html",
+        ending="/" if moved.plan.places.has_slash else "",
+    )
+
+
+def nginx_key(key: str) -> str:
+    """A key of a map: its special words are escaped, so that each is a text."""
+    return "\\" + key if key in ("default", "hostnames", "include", "volatile") or key.startswith(("~", "\\")) else key
+
+
+def for_apache(moved: Moved) -> str:
+    """The rules of Apache, in the folder that it serves."""
+
+    def escaped(text: str) -> str:
+        return "".join(it if it.isalnum() or it in "-_/" else "\\" + it for it in text)
+
+    def target(to: str) -> str:
+        return to.replace("%", "\\%").replace("$", "\\$")
+
+    made = [
+        "# Sends old addresses on. Apache needs mod_rewrite, mod_dir and `AllowOverride All`.\n",
+        "DirectoryIndex index.html index.xml\nErrorDocument 404 /404.html\nOptions -Indexes\nAddDefaultCharset utf-8\n"
+        '<Files ".ht*">\nRequire all denied\n</Files>\nRewriteEngine On\n',
+    ]
+    home = moved.plan.places.home.strip("/")
+    front = f"^(?:{escaped(home)}/?)?(?:index\\.(?:php|html))?$" if home else "^(?:index\\.(?:php|html))?$"
+    made.append(
+        f"RewriteCond %{{QUERY_STRING}} ^$\nRewriteRule {front} - [S={len(moved.numbers) + len(moved.lists)}]\n"
+    )
+    for value, to in moved.numbers.items():
+        names = "|".join(NUMBERS)
+        made.append(
+            f"RewriteCond %{{QUERY_STRING}} (?:^|&)(?:{names})={value}(?:&|$)\n"
+            f'RewriteRule {front} "{target(to)}" [R=301,L,NE,QSD]\n'
+        )
+    for (name, value), to in moved.lists.items():
+        made.append(
+            f"RewriteCond %{{QUERY_STRING}} (?:^|&){name}={escaped(value)}(?:&|$)\n"
+            f'RewriteRule {front} "{target(to)}" [R=301,L,NE,QSD]\n'
+        )
+    # What is there needs no look at the rest.
+    made.append("RewriteCond %{REQUEST_FILENAME} -f [OR]\nRewriteCond %{REQUEST_FILENAME} -d\nRewriteRule ^ - [L]\n")
+    made.append(f'RewriteRule "^(.+)/feed/?$" "/$1{"/" if moved.plan.places.has_slash else ""}" [R=301,L,NE]\n')
+    for path, to in moved.paths.items():
+        if not path.endswith("/index.php"):
+            made.append(f'RewriteRule "^{escaped(path.strip("/"))}/?$" "{target(to)}" [R=301,L,NE,QSD]\n')
+    return "".join(made)
+
+
+def for_caddy(moved: Moved, root: Path) -> str:
+    """The configuration of Caddy that serves the archive."""
+
+    def lines(pairs: Iterator[tuple[str, str]]) -> str:
+        return "".join(f"\t\t{quoted(key)} {quoted(to)}\n" for key, to in pairs)
+
+    made = [
+        "# Serves the archive. Put the site's name in place of the port.\n:8080 {\n",
+        f"\troot * {quoted(str(root))}\n",
+    ]
+    for name in (*NUMBERS, *LISTS):
+        pairs = ((value, to) for it, value, to in moved.queries() if it == name)
+        made.append(f'\tmap {{query.{name}}} {{moved_{name}}} {{\n{lines(pairs)}\t\tdefault ""\n\t}}\n')
+        made.append(
+            f"\t@{name} {{\n\t\tpath {moved.plan.places.home} {moved.plan.places.home}index.php\n"
+            f'\t\texpression `{{moved_{name}}} != ""`\n\t}}\n\tredir @{name} {{moved_{name}}} 301\n'
+        )
+    made.append(
+        f'\tmap {{path}} {{moved_path}} {{\n{lines(iter(moved.paths.items()))}\t\tdefault ""\n\t}}\n'
+        '\t@path expression `{moved_path} != ""`\n\tredir @path {moved_path} 301\n'
+    )
+    made.append(
+        "\t@post_feed {\n\t\tpath_regexp post ^(/.+)/feed/?$\n\t\tnot file {path}/index.xml {path}index.xml\n\t}\n"
+        "\tredir @post_feed {re.post.1}/ 301\n"
+    )
+    made.append(
+        "\tfile_server {\n\t\tindex index.html index.xml\n\t\thide .*\n\t}\n\thandle_errors {\n"
+        "\t\trewrite * /404.html\n\t\tfile_server\n\t}\n}\n"
+    )
+    return "".join(made)
+
+
+def for_netlify(moved: Moved) -> str:
+    home = moved.plan.places.home
+    made = [f"{home} {name}={as_link(value)} {to} 301!\n" for name, value, to in moved.queries()]
+    made += [f"{as_link(path)} {to} 301!\n" for path, to in moved.paths.items()]
+    # A file that is there comes first.
+    return "".join(made) + "/*/feed/ /:splat/ 301\n"
+
+
+def write_moved(moved: Moved, files: Files) -> None:
+    """Writes the moved addresses for nginx and Caddy beside the pages, and for Apache and Netlify among them."""
+    root = (files.folder / PUBLIC).resolve()
+    for name, text in (("nginx.conf", for_nginx(moved, root)), ("Caddyfile", for_caddy(moved, root))):
+        (files.folder / name).write_text(text, encoding="utf-8")
+    files.add(".htaccess", for_apache(moved))
+    files.add("_redirects", for_netlify(moved))

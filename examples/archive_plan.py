@@ -1,0 +1,228 @@
+"""Which pages an archive has, and where: posts, pages and lists at the addresses that the old site had for them.
+
+It is a module, and runs nothing by itself.
+"""
+
+import re
+from collections.abc import Iterator
+from dataclasses import dataclass, field
+from datetime import datetime
+from html import escape, unescape
+from typing import NamedTuple
+from urllib.parse import parse_qsl, urlsplit
+
+from archive_store import Post, Store
+from archive_words import date_format, formatted, month_and_year, words_of
+from wordpress_addresses import Bases, Places, as_link
+from wordpress_items import Item, WholeSite
+from wordpress_texts import paragraphs, quotes_of, texturize, with_characters
+
+
+class Listing(NamedTuple):
+    """A list of posts: its path, what it is of, its heading and whether it has a feed."""
+
+    path: str
+    # `home`, `category`, `post_tag`, `author`, `year`, `month` or `day`.
+    kind: str
+    heading: str
+    posts: list[int]
+    has_feed: bool = False
+
+
+@dataclass
+class Settings:
+    """What the arguments say of an archive."""
+
+    bases: Bases = field(default_factory=Bases)
+    # How dates are written, or an empty text for the way of the site or its language.
+    date_format: str = ""
+    # The scheme and host of the archive, or an empty text for those of the old site.
+    address: str = ""
+
+
+class Plan:
+    """The addresses of one archive."""
+
+    def __init__(self, site: WholeSite, store: Store, settings: Settings) -> None:
+        self.site, self.store = site, store
+        self.places = Places(site, settings.bases)
+        self.words, self.quotes = words_of(site.language), quotes_of(site.language)
+        self.form = settings.date_format or store.options.get("date_format") or date_format(site.language)
+        self.name = escape(store.options.get("blogname") or site.title, quote=False)
+        self.base = self.base_of(settings.address or site.address)
+        front = store.front()
+        self.front = front.number if front else 0
+        self.order = sorted((it.number for it in store.published("post")), key=lambda it: (store.posts[it].date, it))
+        self.place = {number: at for at, number in enumerate(self.order)}
+        # Where each published post and page is, and which path was wanted by two of them.
+        self.paths: dict[int, str] = {}
+        self.clashes: list[str] = []
+        self.taken: set[str] = set()
+        # The dates of posts as they are shown; each is in many lists.
+        self.dates: dict[int, str] = {}
+        self.posts_page = self.posts_page_of()
+        for post in [*store.published("page"), *store.published("post")]:
+            self.give_path(post)
+
+    @staticmethod
+    def base_of(address: str) -> str:
+        """The scheme and host of the site, which links that leave the page need."""
+        parts = urlsplit(address)
+        return f"{parts.scheme or 'https'}://{parts.netloc}"
+
+    def posts_page_of(self) -> int:
+        """The page at whose path the posts are listed, or 0."""
+        post = self.store.posts.get(self.store.page_option("page_for_posts"))
+        is_one = post and post.kind == "page" and post.is_published() and self.front and post.number != self.front
+        return post.number if is_one else 0
+
+    def new_path(self, post: Post) -> str:
+        """A path for a post or page that has none in the export."""
+        if post.kind == "post":
+            path = self.places.new_post(post.number, post.title, post.date)
+        else:
+            path = self.places.new_page(post.number, post.title)
+        is_taken = path in self.taken
+        return f"{path.rstrip('/')}-{post.number}{'/' if path.endswith('/') else ''}" if is_taken else path
+
+    def give_path(self, post: Post) -> None:
+        """Gives a post or page the path that the old site had for it. No two of them have one."""
+        item = self.item(post.number)
+        path = self.places.own(item) if item else ""
+        if post.number == self.front:
+            path = self.places.home
+        elif not path or path == self.places.home:
+            path = self.new_path(post)
+        if path in self.taken:
+            self.clashes.append(path)
+            return
+        self.taken.add(path)
+        self.paths[post.number] = path
+
+    def item(self, number: int) -> Item | None:
+        """What the export has of a post. A post that was put since may have the ID of something that wasn't carried
+        over, such as a private post: nothing of that is its own."""
+        item = self.site.items.get(number)
+        post = self.store.posts.get(number)
+        return item if item and post and item.kind == post.kind and item.is_carried() else None
+
+    def is_open(self, attachment: Item) -> bool:
+        """Whether an attachment belongs to no post, or to one that has a page."""
+        above = self.site.items.get(attachment.parent)
+        return above is None or above.kind not in ("post", "page") or above.number in self.paths
+
+    def terms(self, number: int) -> list[tuple[str, str, str]]:
+        """The domain, the path and the name of each category and tag of a post."""
+        item, found = self.item(number), []
+        for it in item.terms if item else ():
+            term = self.site.terms.get((it.domain, it.slug), it)
+            path = self.places.term(term)
+            if path and it.domain in ("category", "post_tag"):
+                found.append((it.domain, path, term.name))
+        return found
+
+    def author(self, number: int) -> tuple[str, str] | None:
+        """The path and the name of a post's author."""
+        item = self.item(number)
+        if item is None or not item.author:
+            return None
+        return self.places.author(item.author), self.site.authors.get(item.author, item.author)
+
+    def home_list(self) -> Listing | None:
+        """The list of all posts: at the front, or at the page that is for it."""
+        posts = self.order[::-1]
+        if not self.front:
+            return Listing(self.places.home, "home", "", posts)
+        if not self.posts_page or self.posts_page not in self.paths:
+            return None
+        return Listing(self.paths[self.posts_page], "home", self.store.posts[self.posts_page].title, posts)
+
+    def listings(self) -> Iterator[Listing]:
+        """All lists but that of all posts, each with its posts, the newest first."""
+        lists: dict[str, Listing] = {}
+        for number in self.order[::-1]:
+            for path, kind, heading in self.lists_of(number):
+                has_feed = kind in ("category", "post_tag", "author")
+                made = lists.setdefault(path, Listing(path, kind, heading, [], has_feed))
+                if made.posts[-1:] != [number]:
+                    made.posts.append(number)
+        taken = set(self.paths.values())
+        yield from (it for path, it in lists.items() if path not in taken)
+
+    def lists_of(self, number: int) -> Iterator[tuple[str, str, str]]:
+        """The path, the kind and the heading of each list that a post is in."""
+        item, date = self.item(number), datetime.fromisoformat(self.store.posts[number].date)
+        above: dict[str, tuple[str, str]] = {}
+        for it in item.terms if item else ():
+            term = self.site.terms.get((it.domain, it.slug), it)
+            seen = set()
+            while term and term.slug not in seen and it.domain in ("category", "post_tag"):
+                seen.add(term.slug)
+                above[self.places.term(term)] = it.domain, term.name
+                term = self.site.terms.get((term.domain, term.parent)) if term.parent else None
+        for path, (domain, name) in above.items():
+            yield path, domain, f"{self.words['category' if domain == 'category' else 'tag']}: {self.typeset(name)}"
+        if author := self.author(number):
+            yield author[0], "author", f"{self.words['author']}: {escape(author[1], quote=False)}"
+        year, month, day = f"{date.year:04}", f"{date.month:02}", f"{date.day:02}"
+        language = self.site.language
+        yield self.places.date(year), "year", f"{self.words['year']}: {year}"
+        yield self.places.date(year, month), "month", f"{self.words['month']}: {month_and_year(date, language)}"
+        yield self.places.date(year, month, day), "day", f"{self.words['day']}: {formatted(date, self.form, language)}"
+
+    def typeset(self, text: str) -> str:
+        """A plain text as HTML, with typographic characters; nothing in it is a shortcode."""
+        return with_characters(texturize(escape(text, quote=False), self.quotes)).replace("[", "&#91;")
+
+    def excerpt(self, number: int) -> str:
+        item = self.item(number)
+        text = item.excerpt.strip() if item else ""
+        return with_characters(paragraphs(texturize(text, self.quotes))) if text else ""
+
+    def day(self, date: str) -> str:
+        """A date as HTML in the site's format, or as it is if it is none."""
+        try:
+            return escape(formatted(datetime.fromisoformat(date), self.form, self.site.language), quote=False)
+        except ValueError:
+            return escape(date[:10])
+
+    def date(self, number: int) -> str:
+        """A post's date as HTML, with who wrote it."""
+        if number not in self.dates:
+            self.dates[number] = self.made_date(number)
+        return self.dates[number]
+
+    def made_date(self, number: int) -> str:
+        date = self.store.posts[number].date
+        made = f'<time datetime="{date.replace(" ", "T")}">{self.day(date)}</time>'
+        if author := self.author(number):
+            link = f'<a rel="author" href="{escape(as_link(author[0]))}">{escape(author[1], quote=False)}</a>'
+            made += f" {self.words['by']} {link}"
+        return made
+
+    def target(self, address: str, base: str) -> str:
+        """Where a link of a printed page leads: a plain permalink to the old address. `base` is the path of the list
+        whose parts the page links to."""
+        bare, hash_mark, fragment = address.partition("#")
+        path, _, query = bare.partition("?")
+        end = hash_mark + fragment
+        if path != "/":
+            return address
+        if not query:
+            return as_link(self.places.home) + end
+        return (self.queried(query, base) or bare) + end
+
+    def queried(self, query: str, base: str) -> str:
+        given = dict(parse_qsl(query, keep_blank_values=True))
+        number = next((given[it] for it in ("p", "page_id") if it in given), "")
+        if re.fullmatch(r"\d{1,10}", number) and int(number) in self.paths:
+            return as_link(self.paths[int(number)])
+        part = int(given["paged"]) if re.fullmatch(r"[1-9]\d{0,8}", given.get("paged", "")) else 1
+        if re.fullmatch(r"\d{6}", given.get("m", "")):
+            return as_link(self.places.part(self.places.date(given["m"][:4], given["m"][4:]), part))
+        return as_link(self.places.part(base, part)) if set(given) == {"paged"} else ""
+
+    def plain_title(self, number: int) -> str:
+        """A title as plain text."""
+        title = self.store.posts[number].title
+        return unescape(re.sub(r"<[^<>]*>", "", title)).strip() or str(number)
