@@ -4,15 +4,18 @@ It is a module, and runs nothing by itself. An archive's folder has `public`, wh
 `written.txt`, the list of what was written there.
 """
 
+import contextlib
 import os
 import re
 import shutil
 import tarfile
 import zipfile
+from collections.abc import Iterable
 from pathlib import Path, PurePosixPath
 from typing import IO
 
 from wordpress_addresses import UPLOADS, path_or_none
+from wordpress_export import Refused
 
 PUBLIC, WRITTEN = "public", "written.txt"
 # What an uploads folder may have that no web server should hand out, or run.
@@ -20,17 +23,39 @@ UNSERVED = re.compile(r"\.(?:php\d?|phtml|phar|cgi|pl|py|sh|asp|jsp|sql|log|bak|
 # What WordPress adds to the name of a picture that it has made smaller, turned or edited.
 SIZE = re.compile(r"(?:-\d+x\d+|-scaled|-rotated|-e\d{10,})*(\.[^./]*)\Z")
 COPY_BYTES = 1 << 20
+# How many paths a report names.
+NAMED = 5
+# How an archive that is damaged or encrypted, or of an unknown form, is refused by Python's modules.
+BROKEN: tuple[type[Exception], ...] = (zipfile.BadZipFile, tarfile.TarError, EOFError, RuntimeError)
+# (not every Python has these; without them no archive of theirs is read)
+with contextlib.suppress(ImportError):
+    import lzma
+    import zlib
+
+    BROKEN += (lzma.LZMAError, zlib.error)
 
 
-class Files:
+class Copies:
+    """A folder into which files are copied: how many were written there, and how many were as they should be."""
+
+    def __init__(self, root: Path) -> None:
+        self.root = root
+        self.written = self.unchanged = 0
+
+    def keep(self, name: str) -> None:
+        """Notes a file that is there and belongs to the folder."""
+
+
+class Files(Copies):
     """The folder `public` of an archive, and which of its files this run has written or found as they should be."""
 
     def __init__(self, folder: Path) -> None:
-        self.folder, self.root = folder, folder / PUBLIC
+        super().__init__(folder / PUBLIC)
+        self.folder = folder
         self.current: set[str] = set()
         # Paths that couldn't be written, and why.
         self.refused: dict[str, str] = {}
-        self.written = self.unchanged = self.removed = 0
+        self.removed = 0
         self.root.mkdir(parents=True, exist_ok=True)
         self.before = self.read_list()
 
@@ -127,7 +152,10 @@ class Uploads:
             self.zip = zipfile.ZipFile(source)
             self.names = {it.filename: it.filename for it in self.zip.infolist() if not it.is_dir()}
         else:
-            self.tar = tarfile.open(source)
+            try:
+                self.tar = tarfile.open(source)
+            except BROKEN:
+                raise Refused(f"{source}: this is no folder, and no zip or tar archive") from None
             self.names = {it.name.removeprefix("./"): it.name for it in self.tar.getmembers() if it.isfile()}
         self.names = {below_uploads(name): it for name, it in self.names.items()}
         # The names of a file's sizes, by the name without a size.
@@ -146,7 +174,7 @@ class Uploads:
             raise FileNotFoundError(name)
         return found
 
-    def copy(self, name: str, files: Files, path: str) -> bool:
+    def copy(self, name: str, files: Copies, path: str) -> bool:
         """Copies a file of the source to a path of the archive, if it isn't there already."""
         if name not in self.names or UNSERVED.search(name) or path_or_none(path) is None:
             return False
@@ -158,9 +186,12 @@ class Uploads:
                 return True
         to.parent.mkdir(parents=True, exist_ok=True)
         new = to.with_name(f".new-{os.getpid()}")
-        with self.open(name) as source, new.open("wb") as file:
-            shutil.copyfileobj(source, file, COPY_BYTES)
-        os.replace(new, to)
+        try:
+            with self.open(name) as source, new.open("wb") as file:
+                shutil.copyfileobj(source, file, COPY_BYTES)
+            os.replace(new, to)
+        finally:
+            new.unlink(missing_ok=True)
         files.written += 1
         files.keep(path.strip("/"))
         return True
@@ -173,6 +204,31 @@ class Uploads:
         for it in (self.zip, self.tar):
             if it is not None:
                 it.close()
+
+
+def copy_uploads(source: Path, files: Copies, paths: Iterable[str], whole: Iterable[str] = ()) -> list[str]:
+    """Copies the uploads at some paths from a folder or an archive, and those at others with all their sizes. Returns
+    the paths of those that aren't there."""
+    with_sizes = set(whole)
+    uploads, missing = Uploads(source), []
+    try:
+        for path in sorted({*paths, *with_sizes}):
+            before, _, name = path.partition(UPLOADS)
+            names = [name, *(it for it in uploads.sizes_of(name) if path in with_sizes and it != name)]
+            copied = [uploads.copy(it, files, f"{before}{UPLOADS}{it}") for it in names]
+            if not copied[0]:
+                missing.append(path)
+    except BROKEN as fault:
+        raise Refused(f"{source}: {path}: this can't be read: {fault}") from fault
+    finally:
+        uploads.close()
+    return missing
+
+
+def named(paths: list[str]) -> str:
+    """Some paths in words: the first ones, and how many more there are."""
+    more = f" and {len(paths) - NAMED:,} more" if len(paths) > NAMED else ""
+    return ", ".join(paths[:NAMED]) + more
 
 
 def below_uploads(name: str) -> str:

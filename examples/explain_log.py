@@ -4,9 +4,14 @@ A page makes passes, a pass runs callbacks, and a callback may ask for further p
 invocation, in order; this puts them back into that shape.
 """
 
+from __future__ import annotations
+
 import html
 import json
-from typing import NamedTuple
+from typing import TYPE_CHECKING, NamedTuple
+
+if TYPE_CHECKING:
+    from explain_notes import Notes
 
 # The filters that a page itself runs. Every other pass of a page is an action; of a pass that was asked for, and of the
 # filter on a shortcode's text, the kind is known.
@@ -190,10 +195,11 @@ class Node(NamedTuple):
 
 
 class Teller:
-    """Tells passes as a tree of lines. With `whole`, texts are shown as the log has them."""
+    """Tells passes as a tree of lines. With `whole`, texts are shown as the log has them, and `notes` adds what else
+    follows from it."""
 
-    def __init__(self, whole=False):
-        self.whole = whole
+    def __init__(self, whole: bool = False, notes: Notes | None = None) -> None:
+        self.whole, self.notes = whole, notes
 
     def text(self, value):
         """A text of the log, or another answer of the engine's, for a reader."""
@@ -234,7 +240,7 @@ class Teller:
         further = ", ".join(args[1:])
         return f"{args[0]} ({further})" if is_filter and further else ", ".join(args)
 
-    def run(self, run, is_filter=True):
+    def run(self, run: Run, is_filter: bool = True, is_first: bool = True) -> Node:
         """The line of a callback's run, with what it printed, changed and asked below it."""
         line, answer = run.first(), run.answer()
         who = f"{line['plugin']}/{line['callback']}"
@@ -245,7 +251,9 @@ class Teller:
             head += " → its shortcodes replaced"
         elif answer is not None and (is_filter or "tag" in line):
             head += f" → {self.text(answer)}"
-        return Node(head, [below for at in range(len(run.lines)) for below in self.done(run, at)])
+        below = [below for at in range(len(run.lines)) for below in self.done(run, at)]
+        noted = self.notes.of_core(run, is_first) if self.notes and line["callback"] == 0 else []
+        return Node(head, [*below, *(Node(it, []) for it in noted)])
 
     def done(self, run, at):
         """What an invocation of a run printed, changed and asked."""
@@ -257,6 +265,8 @@ class Teller:
             return below + nested
         later = run.lines[at + 1] if at + 1 < len(run.lines) else None
         answered = f" → {self.text(later['answers'][-1])}" if later else ""
+        if self.notes and "do_shortcode" in line["ask"]:
+            nested += [Node(it, []) for it in self.notes.of_text(line["ask"]["do_shortcode"]["text"], run.nested[at])]
         return [*below, Node(f"asked {self.call(line['ask'])}{answered}", nested)]
 
     def part(self, part):
@@ -272,7 +282,9 @@ class Teller:
             head += f": {self.text(first['args'][0])}"
             if last.answer() is not None and part.is_over:
                 head += f" → {self.text(last.answer())}"
-        return Node(head, [self.run(run, is_filter) for run in part.runs])
+        if self.notes and self.notes.is_unchanged(part):
+            head += ", unchanged"
+        return Node(head, [self.run(run, is_filter, run is part.runs[0]) for run in part.runs])
 
     def page(self, page, parts):
         """The line of a page, with its passes below it."""
@@ -303,7 +315,7 @@ def parts_over(parts, hook):
     return found
 
 
-def tree_of(page, hook=None, post=None, whole=False):
+def tree_of(page, hook=None, post=None, whole=False, notes: Notes | None = None):
     """The tree of a page: of all its passes, or of those over a hook or about a post, if there are any."""
     parts = passes_of(page)
     if post is not None:
@@ -312,7 +324,7 @@ def tree_of(page, hook=None, post=None, whole=False):
         parts = parts_over(parts, hook)
     if not parts and (hook is not None or post is not None):
         return None
-    return Teller(whole).page(page, parts)
+    return Teller(whole, notes).page(page, parts)
 
 
 def printed(node, depth=0):

@@ -17,6 +17,7 @@ import subprocess
 import sys
 import tempfile
 import time
+import zipfile
 from collections.abc import Callable, Iterator
 from difflib import SequenceMatcher
 from pathlib import Path
@@ -386,6 +387,50 @@ def check_uploads(program: str) -> None:
                 must(" 0 files written" in archive.publish(), f"{kind}: a second run copies again")
 
 
+def check_fetch() -> None:
+    """--fetch copies what posts and pages need from a folder, a zip or a tar archive, and says what isn't there."""
+    export = recorded("fournil").export
+    with tempfile.TemporaryDirectory() as room:
+        listed, source = Path(room, "files.txt"), Path(room, "wp-content", "uploads")
+        plain = imported(export, "--as-shown", "--files", str(listed))
+        needed = [unquote(it) for it in listed.read_text(encoding="utf-8").splitlines()]
+        lacking, there = needed[0], needed[1:]
+        for path in (*there, "/wp-content/uploads/2017/06/other.jpg", "/wp-content/uploads/.env"):
+            file = Path(room, path.lstrip("/"))
+            file.parent.mkdir(parents=True, exist_ok=True)
+            file.write_text(path, encoding="utf-8")
+        packed = [Path(shutil.make_archive(f"{room}/packed", kind, room, "wp-content")) for kind in ("zip", "gztar")]
+        for given in (source, *packed):
+            folder = Path(room, f"fetched{given.suffix}")
+            commands, report = imported(export, "--as-shown", "--fetch", str(given), str(folder))
+            came = {f"/{it.relative_to(folder).as_posix()}": it.read_text() for it in folder.rglob("*") if it.is_file()}
+            must(came == {it: it for it in there}, f"{given}: {sorted(came)} are there")
+            must(commands == plain[0], f"{given}: the commands are others")
+            must(f": {len(there)} copied, 0 there already\n" in report, f"{given}: {report[-600:]}")
+            must(f"1 needed file not found in {given}: {lacking}\n" in report, f"{given}: {report[-600:]}")
+            _, report = imported(export, "--as-shown", "--all", "--fetch", str(given), str(folder))
+            must(f": 0 copied, {len(there)} there already\n" in report, f"{given}, again: {report[-600:]}")
+            must(f"{given} doesn't have {lacking}, or " in report, f"{given}: --all doesn't name what lacks")
+
+
+def check_fetch_faults() -> None:
+    """What can't be read as uploads ends --fetch with a reason, and no commands."""
+    export = recorded("fournil").export
+    with tempfile.TemporaryDirectory() as room:
+        other, damaged = Path(room, "other.zip"), Path(room, "damaged.zip")
+        other.write_bytes(b"no archive")
+        with zipfile.ZipFile(damaged, "w") as file:
+            file.writestr("uploads/2015/01/pain-3.jpg", b"a picture")
+        damaged.write_bytes(damaged.read_bytes().replace(b"a picture", b"A PICTURE"))
+        given = [["--as-shown", "--fetch", it, f"{room}/dir"] for it in (other, damaged, f"{room}/nothing")]
+        for words in (*given, ["--as-shown", "--fetch", room], ["--fetch", room, room]):
+            ran = subprocess.run([EXAMPLES / "from_wordpress", *words, export], capture_output=True, check=False)
+            must(ran.returncode == 2 and not ran.stdout, f"{words}: status {ran.returncode}, {ran.stderr[-300:]}")
+            must(b"\nfrom_wordpress: " in b"\n" + ran.stderr, f"{words}: {ran.stderr[-300:]}")
+            left = [it for it in Path(room, "dir").rglob("*") if it.is_file()]
+            must(not left, f"{words}: {left} are there")
+
+
 def check_faults(program: str) -> None:
     """A site that isn't there, is served, or isn't one ends with a reason."""
     with Archive(program, recorded("fournil")) as archive:
@@ -562,6 +607,8 @@ def checks(program: str, wordpress: Path | None) -> Iterator[tuple]:
     yield "options of --as-shown", check_arguments
     yield "templates without marks", check_other_templates, program
     yield "uploads from a folder and from archives", check_uploads, program
+    yield "uploads fetched beside an import", check_fetch
+    yield "uploads that can't be fetched", check_fetch_faults
     yield "sites that can't be read", check_faults, program
     for site in map(recorded, SITES):
         name = site.export.stem

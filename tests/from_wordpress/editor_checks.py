@@ -6,7 +6,9 @@ It is a module, and runs nothing by itself.
 import json
 import subprocess
 import tempfile
+import threading
 from collections.abc import Iterator
+from http.server import BaseHTTPRequestHandler, ThreadingHTTPServer
 from pathlib import Path
 
 from archive_checks import EXAMPLES, SECONDS, must
@@ -58,6 +60,9 @@ class Kept:
 
     def post(self, *words: str | Path, status: int = 0) -> str:
         return self.run("post", self.database, *words, status=status)
+
+    def post_at(self, site: str, *words: str | Path, status: int = 0) -> str:
+        return self.run("post", site, *words, status=status)
 
     def file(self, text: str) -> Path:
         path = Path(self.room.name, "post.txt")
@@ -114,6 +119,76 @@ def check_faults(program: str) -> None:
             server.terminate()
 
 
+class Node(ThreadingHTTPServer):
+    """What stands for a node of a cluster: it takes edits as docs/CLUSTER.md says, each key once, over a program of its
+    own. The first time that a key comes it makes the edit, and says that the outcome isn't known."""
+
+    def __init__(self, program: str) -> None:
+        super().__init__(("127.0.0.1", 0), NodeRequest)
+        self.words, self.lines, self.replies = [program], [], {}
+        self.is_down = False
+        threading.Thread(target=self.serve_forever, daemon=True).start()
+
+    def edited(self, line: bytes) -> bytes:
+        self.lines.append(line)
+        ran = subprocess.run(self.words, input=b"\n".join(self.lines), capture_output=True, timeout=SECONDS, check=True)
+        return ran.stdout.splitlines()[-1] + b"\n"
+
+
+class NodeRequest(BaseHTTPRequestHandler):
+    def log_message(self, *_: object) -> None:
+        """Nothing is logged."""
+
+    def do_POST(self) -> None:
+        key, node = self.headers["Idempotency-Key"], self.server
+        line = self.rfile.read(int(self.headers["Content-Length"]))
+        if self.path != "/command" or self.headers["Authorization"] != "Bearer secret":
+            return self.tell(401, b"the token is missing or wrong\n")
+        if node.is_down:
+            return self.tell(503, b"etcd-unreachable\n")
+        if key not in node.replies:
+            node.replies[key] = node.edited(line)
+            return self.tell(504, b"unknown 1\n")
+        return self.tell(200, node.replies[key])
+
+    def tell(self, status: int, body: bytes) -> None:
+        self.send_response(status)
+        self.send_header("Content-Length", str(len(body)))
+        self.end_headers()
+        self.wfile.write(body)
+
+
+def check_served(program: str) -> None:
+    """Edits go to a node, once each, or are printed; posts are read from a site's lines."""
+    with Kept(program) as kept, Node(program) as node:
+        address = f"http://127.0.0.1:{node.server_port}/"
+        token, lines = Path(kept.room.name, "token"), Path(kept.room.name, "site.jsonl")
+        token.write_text("secret\n", encoding="ascii")
+        words = ["--token-file", token, address]
+        new = kept.file("title: Rye\ndate: 2024-05-01 00:00:00\n\nx\n")
+        must(kept.run("post", *words, "new", new) == "1\n", "a new post has no ID")
+        must(kept.run("post", *words, "set", "1", kept.file("title: Corn\n\ny")) == "", "an edit says something")
+        must("refused 3" in kept.run("post", *words, "set", "2", new, status=1), "a refusal isn't told")
+        must(len(node.lines) == 3, f"the node has made {len(node.lines)} edits, wanted 3")
+        must("--token-file" in kept.post_at(address, "set", "1", new, status=1), "without a token it asks the node")
+        must("--export" in kept.post_at(address, "list", status=1), "a node has no posts")
+        token.write_text("other", encoding="ascii")
+        must("401: the token" in kept.run("post", *words, "set", "1", new, status=1), "a wrong token isn't told")
+        token.write_text("secret", encoding="ascii")
+        node.is_down = True
+        said = kept.run("post", *words, "set", "1", new, status=1)
+        must("isn't known" in said and "503: etcd-unreachable" in said, f"a node that can't edit: {said!r}")
+        node.shutdown()
+        line = kept.post_at("-", "set", "1", kept.file('title: "A\\nb"\n\ny'))
+        must(json.loads(line) == {"cmd": "edit", "id": 1, "title": "A\nb", "content": "y"}, f"the line is {line!r}")
+        exported = subprocess.run([program, "--database", kept.database, "--export"], capture_output=True, check=True)
+        lines.write_bytes(exported.stdout)
+        must(kept.post_at(str(lines), "list") == kept.post("list"), "the lines of a site have other posts")
+        must(kept.post_at(str(lines), "get", "1") == kept.post("get", "1"), "the lines of a site have another post")
+        must("nothing edits" in kept.post_at(str(lines), "set", "1", new, status=1), "lines are edited")
+        must(lines.read_bytes() == exported.stdout, "lines have changed")
+
+
 def check_history(program: str) -> None:
     """Each version of a post is shown, also of one that is gone."""
     with Kept(program) as kept:
@@ -148,5 +223,6 @@ def checks(program: str) -> Iterator[tuple]:
     """What each check shows, and the check with its arguments."""
     yield "posts as files", check_posts, program
     yield "posts that can't be set", check_faults, program
+    yield "posts of a site that is served", check_served, program
     yield "versions of a post", check_history, program
     yield "edits taken back", check_undo, program
