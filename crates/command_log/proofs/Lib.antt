@@ -14,3 +14,5 @@ pub mod Restart
 pub mod Clearing
 pub mod Refusals
 pub mod Causes
+pub mod Ending
+pub mod Statements

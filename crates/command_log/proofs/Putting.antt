@@ -1,5 +1,5 @@
 -- A line that is put within a transaction.
-use Rattle.std.proofs.Common.{◌≡◌, inl, inr, ℕ, List, [], ◌∷◌, Ok, Err, Result, OnOk}
+use Rattle.std.proofs.Common.{◌≡◌, inl, inr, ℕ, List, [], ◌∷◌, Ok, Err, Result, IfOk}
 use Rattle.sqlite.specs.Order.{Row}
 use Rattle.sqlite_value.specs.declared.value.Value.TheVariants.{Text}
 use Rattle.sqlite.specs.Store.{Ghosts}
@@ -31,7 +31,7 @@ keeps_commit sql params old new (Err e) (inl ran) = elim ran.1 [ inl same ↦ sa
 keeps_commit sql params old new (Err e) (inr ends) = same_commit old new ends.2
 
 module _ {S : Type 0} (g : Ghosts S) (old new : Held S) (line : List ℕ) (holds : IsOpen g old → HoldsLog (state g old).now) where
-  pub puts_line : (r : Result ℕ Error) → ExecutesInside 0 insert_text (Text line ∷ []) (state g old) (state g new) r → OnOk r (Puts g old new (line ∷ []))
+  pub puts_line : (r : Result ℕ Error) → ExecutesInside 0 insert_text (Text line ∷ []) (state g old) (state g new) r → IfOk r (λ _. Puts g old new (line ∷ []))
   puts_line (Err e) h = tt
   puts_line (Ok count) h =
       let adds = adds_line (state g old) (state g new) (holds h.1.was_open) line count h.0 in

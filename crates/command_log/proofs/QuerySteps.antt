@@ -1,5 +1,5 @@
 -- The queries of lines, however they end.
-use Rattle.std.proofs.Common.{◌≡◌, ◌⊎◌, inl, inr, ℕ, ℤ, pos, List, [], ◌∷◌, map, drop, true, Option, None, Some, Ok, Err, Result, IfOk, OnOk, IfErr, Vec, refl}
+use Rattle.std.proofs.Common.{◌≡◌, ◌⊎◌, inl, inr, ℕ, ℤ, pos, List, [], ◌∷◌, map, drop, true, Option, None, Some, Ok, Err, Result, IfOk, IfErr, Vec, refl}
 use Rattle.std.proofs.Common.{sym, ap, subst, ◌∙◌}
 use Rattle.std.specs.declared.alloc.Global.{Global}
 use Rattle.sqlite.specs.Order.{Row}
@@ -9,8 +9,9 @@ use Rattle.sqlite.specs.declared.error.Error.{Error}
 use Rattle.sqlite.specs.Store.{Ghosts}
 use Rattle.sqlite.specs.Held.{Held, state}
 use Rattle.sqlite.specs.Effect.{Database}
-use Rattle.sqlite.specs.State.{State, IsUnchanged, KeepsCommit, FailsToQuery, Shown, IsTooLate}
+use Rattle.sqlite.specs.State.{State, KeepsCommit, FailsToQuery, Shown, IsTooLate}
 use Rattle.command_log.specs.Lines.{HoldsLog, IsOpen, IsLog, GivesRows, lines_left, lines_after, IsLineRow, row_of_query, rows_after, text_in, place_after}
+use Rattle.command_log.specs.Inside.{ReadsRows}
 use Rattle.command_log.proofs.Putting.{same_commit}
 use Rattle.command_log.proofs.Queries.{answered, unanswered, answered_open, unchanged}
 use Rattle.sqlite.specs.Term.{lit, col}
@@ -38,35 +39,28 @@ keeps_commit sql params old new inside (Err e) ok (inl failed) = unanswered old 
 keeps_commit sql params old new inside (Err e) ok (inr late) = same_commit old new late.5
 
 module _ {S : Type 0} (g : Ghosts S) (old new : Held S) (inside : old.in_transaction ≡ true) (holds : IsOpen g old → HoldsLog (state g old).now) where
-  pub gives_first : (limit : ℤ) (r : Result (Vec Row Global) Error) → IfOk r (λ rows. Shown first_text (Int limit ∷ []) (state g old) (state g new) rows.items)
-      → IfOk r (λ rows. GivesRows g old None limit rows.items)
-  gives_first limit (Ok rows) ok =
+  -- what each query shows is the rows after its place
+  pub reads_first_rows : (limit : ℤ) (r : Result (Vec Row Global) Error)
+      → IfOk r (λ rows. Shown first_text (Int limit ∷ []) (state g old) (state g new) rows.items)
+      → IfOk r (λ rows. ReadsRows g old new None limit rows.items)
+  reads_first_rows limit (Ok rows) ok =
       let up = answered_open (state g old) (state g new) inside first_text (Int limit ∷ []) rows.items ok in
-      (up, reads_first (state g old) (state g new) limit rows.items (holds up) ok)
-  gives_first limit (Err e) ok = tt
+      record {
+        same = unchanged log_schema first_text (Int limit ∷ []) first_plain (state g old) (state g new) (holds up).schema_is rows.items ok;
+        are = (up, reads_first (state g old) (state g new) limit rows.items (holds up) ok);
+      }
+  reads_first_rows limit (Err e) ok = tt
 
-  pub gives_later : (n limit : ℤ) (r : Result (Vec Row Global) Error)
+  pub reads_later_rows : (n limit : ℤ) (r : Result (Vec Row Global) Error)
       → IfOk r (λ rows. Shown later_text (Int n ∷ Int limit ∷ []) (state g old) (state g new) rows.items)
-      → IfOk r (λ rows. GivesRows g old (Some n) limit rows.items)
-  gives_later n limit (Ok rows) ok =
+      → IfOk r (λ rows. ReadsRows g old new (Some n) limit rows.items)
+  reads_later_rows n limit (Ok rows) ok =
       let up = answered_open (state g old) (state g new) inside later_text (Int n ∷ Int limit ∷ []) rows.items ok in
-      (up, reads_later (state g old) (state g new) n limit rows.items (holds up) ok)
-  gives_later n limit (Err e) ok = tt
-
-  pub same_first : (limit : ℤ) (r : Result (Vec Row Global) Error) → IfOk r (λ rows. Shown first_text (Int limit ∷ []) (state g old) (state g new) rows.items)
-      → OnOk r (IsUnchanged (state g old) (state g new))
-  same_first limit (Ok rows) ok =
-      let up = answered_open (state g old) (state g new) inside first_text (Int limit ∷ []) rows.items ok in
-      unchanged log_schema first_text (Int limit ∷ []) first_plain (state g old) (state g new) (holds up).schema_is rows.items ok
-  same_first limit (Err e) ok = tt
-
-  pub same_later : (n limit : ℤ) (r : Result (Vec Row Global) Error)
-      → IfOk r (λ rows. Shown later_text (Int n ∷ Int limit ∷ []) (state g old) (state g new) rows.items)
-      → OnOk r (IsUnchanged (state g old) (state g new))
-  same_later n limit (Ok rows) ok =
-      let up = answered_open (state g old) (state g new) inside later_text (Int n ∷ Int limit ∷ []) rows.items ok in
-      unchanged log_schema later_text (Int n ∷ Int limit ∷ []) later_plain (state g old) (state g new) (holds up).schema_is rows.items ok
-  same_later n limit (Err e) ok = tt
+      record {
+        same = unchanged log_schema later_text (Int n ∷ Int limit ∷ []) later_plain (state g old) (state g new) (holds up).schema_is rows.items ok;
+        are = (up, reads_later (state g old) (state g new) n limit rows.items (holds up) ok);
+      }
+  reads_later_rows n limit (Err e) ok = tt
 
 module _ {S : Type 0} (g : Ghosts S) (old new : Held S) (inside : old.in_transaction ≡ true) (up : IsOpen g old) (holds : HoldsLog (state g old).now) where
   pub first_failed : (limit : ℤ) (r : Result (Vec Row Global) Error)

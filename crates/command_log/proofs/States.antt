@@ -1,5 +1,5 @@
 -- What a log is left as, however its calls end.
-use Rattle.std.proofs.Common.{◌≡◌, ◌≤◌, inl, inr, ℕ, List, [], ◌∷◌, ◌++◌, true, false, Ok, Err, Result, OnOk, OnErr, IfErr, map, length, ◌<◌, refl, sym, ap}
+use Rattle.std.proofs.Common.{◌≡◌, ◌≤◌, inl, inr, ℕ, List, [], ◌∷◌, ◌++◌, true, false, Ok, Err, Result, OnOk, IfErr, map, length, ◌<◌, refl, sym, ap}
 use Rattle.std.proofs.Common.{subst, ◌∙◌, true≢false, length-append, arith}
 use Rattle.std.proofs.Common.{zero, suc, pos, ◌+ℤ◌, take, Contains}
 use Rattle.std.proofs.Common.{get_or}
@@ -28,13 +28,14 @@ use Rattle.sqlite.specs.Steps.{FailsToCommit}
 use Rattle.sqlite.specs.Held.{Held, state}
 use Rattle.sqlite.specs.declared.error.Error.{Error}
 use Rattle.command_log.specs.Table.{log_schema}
-use Rattle.command_log.specs.Lines.{HoldsLog, KeepsLines, IsOpen, IsLog, Makes, Fills, Puts, PutsAny, IsAppended, lines_of, lines_in}
+use Rattle.command_log.specs.Lines.{HoldsLog, KeepsLines, IsOpen, IsLog, Puts, PutsAny, lines_of, lines_in}
 
 module _ {S : Type 0} (g : Ghosts S) where
   -- the law that a store which is not clean shows as shut
   abbrev pub ShutsIfDirty : Type 0
   ShutsIfDirty = (s : S) → (g.view s).is_clean ≡ false → (g.view s).is_open ≡ false
 
+  -- so the disk of an open connection has returned what was written
   pub clean_of : ShutsIfDirty → (h : Held S) → IsOpen g h → HasCleanDisk (state g h)
   clean_of law h up = elim (cases_Bool (g.view h.store).is_clean) [
     | inl clean ↦ no_doubt (g.view h.store).is_clean clean
@@ -43,21 +44,25 @@ module _ {S : Type 0} (g : Ghosts S) where
 
   -- ---- what is left where nothing is committed
 
+  -- what is committed and shown is what it was
   pub record IsKept (old new : Held S) : Type 0 where
     pub was_open : IsOpen g new → IsOpen g old
     pub now : IsOpen g new → (state g new).now ≡ (state g old).now
     pub committed : IsOpen g new → (state g new).committed ≡ (state g old).committed
     pub autocommit : new.in_transaction ≡ false
 
+  -- it is the log that it was
   pub kept_log : (old new : Held S) → IsLog g old → IsKept old new → IsLog g new
   kept_log old new log kept = record {
     idle = record { autocommit = kept.autocommit; settled = λ up. kept.committed up ∙ log.idle.settled (kept.was_open up) ∙ sym (kept.now up) };
     holds = λ up. subst HoldsLog (sym (kept.now up)) (log.holds (kept.was_open up));
   }
 
+  -- with the lines that it had
   pub kept_lines : (old new : Held S) → IsKept old new → IsOpen g new → lines_of g new ≡ lines_of g old
   kept_lines old new kept up = ap (λ (d : Database). lines_in d.trees) (kept.committed up)
 
+  -- the connection once a transaction has begun
   abbrev pub begun : Held S → Held S
   begun old = record old { in_transaction = true }
 
@@ -82,42 +87,9 @@ module _ {S : Type 0} (g : Ghosts S) where
   not_committed last end e inside (inl broke) = broke.3
   not_committed last end e inside (inr late) = absurd (let no_more = late.1 in cc)
 
-  -- ---- a commit
-
-  pub record IsCommitted (old end : Held S) (more : List (List ℕ)) : Type 0 where
-    pub log : IsLog g end
-    pub lines : IsOpen g end → lines_of g end ≡ lines_of g old ++ more
-
-  pub committed : ShutsIfDirty → (old last end : Held S) (more : List (List ℕ)) → IsLog g old → doubt (g.view last.store).is_clean ≤ doubt
-      (g.view end.store).is_clean
-      → (HasCleanDisk (state g last) → Puts g (begun old) last more) → end.in_transaction ≡ false
-      → (HasCleanDisk (state g end) → Shows (state g last) (state g end) (state g last).now (state g last).now false) → IsCommitted old end more
-  committed law old last end more log falls puts ended shows =
-      let put = λ (up : IsOpen g end). let early : HasCleanDisk (state g last) = omega (arith, falls, clean_of law end up) in puts early in
-      let it = λ (up : IsOpen g end). shows (clean_of law end up) in
-      record {
-        log = record {
-          idle = record { autocommit = ended; settled = λ up. (it up).committed_is ∙ sym (it up).now_is };
-          holds = λ up. subst HoldsLog (sym (it up).now_is) (put up).holds;
-        };
-        lines = λ up. ap (λ (d : Database). lines_in d.trees) (it up).committed_is ∙ (put up).lines
-            ∙ ap (λ (d : Database). lines_in d.trees ++ more) (sym (log.idle.settled (put up).was_open));
-      }
-
-  -- what a commit may leave
-  pub appended : (old last : Held S) (more : List (List ℕ)) → IsLog g old → Puts g (begun old) last more → (db : Trees) → db ≡ (state g last).now.trees
-      → IsAppended g old more db
-  appended old last more log put db is = (
-    put.was_open,
-    record {
-      sound = subst (λ t. IsDatabase (record { schema = log_schema; trees = t })) (sym is)
-          (subst (λ s. IsDatabase (record { schema = s; trees = (state g last).now.trees })) put.holds.schema_is put.sound);
-      are = ap lines_in is ∙ put.lines ∙ ap (λ (d : Database). lines_in d.trees ++ more) (sym (log.idle.settled put.was_open));
-    },
-  )
-
   -- ---- one more line
 
+  -- a line after others
   pub puts_more : (old mid new : Held S) (more : List (List ℕ)) (line : List ℕ) → PutsAny g old mid more → Puts g mid new (line ∷ [])
       → Puts g old new (more ++ line ∷ [])
   puts_more old mid new more line (inl none) one =
@@ -132,55 +104,19 @@ module _ {S : Type 0} (g : Ghosts S) where
     number = omega (arith, ints, one.number, put.number, length-append more (line ∷ []));
   }
 
-  pub puts_hold : ShutsIfDirty → (old now : Held S) (more : List (List ℕ)) → (IsOpen g old → HoldsLog (state g old).now)
-      → (HasCleanDisk (state g now) → PutsAny g old now more)
-      → IsOpen g now → HoldsLog (state g now).now
-  puts_hold law old now more holds puts up = elim (puts (clean_of law now up)) [
-    | inl none ↦ subst (λ h. IsOpen g h → HoldsLog (state g h).now) (sym none.1) holds up
-    | inr put ↦ put.holds
-  ]
-
+  -- a log that was open is open
   pub puts_open : (old now : Held S) (more : List (List ℕ)) → IsOpen g old → PutsAny g old now more → IsOpen g now
   puts_open old now more up (inl none) = subst (IsOpen g) (sym none.1) up
   puts_open old now more up (inr put) = put.is_open
 
+  -- a list that is not empty has been appended
   pub puts_some : {X : Type 0} (f : X → List ℕ) (xs : List X) (old new : Held S) → 0 < length xs → PutsAny g old new (map f xs) → Puts g old new (map f xs)
   puts_some f [] old new some puts = absurd (omega (arith, some))
   puts_some f (x ∷ xs) old new some (inl none) = absurd (let e = none.0 in cc)
   puts_some f (x ∷ xs) old new some (inr put) = put
 
-  -- ---- how a transaction ends
-
-  pub record IsEnded (old end : Held S) (more : List (List ℕ)) (r : Result (Unit {0}) Error) : Type 0 where
-    pub log : IsLog g end
-    pub ok : IsOpen g end → OnOk r (lines_of g end ≡ lines_of g old ++ more)
-    pub err : IsOpen g end → OnErr r (lines_of g end ≡ lines_of g old)
-    pub shut : IsOpen g end → IsOpen g old
-
-  module _ (law : ShutsIfDirty) (old last end : Held S) (more : List (List ℕ)) (log : IsLog g old) (falls : doubt (g.view last.store).is_clean ≤ doubt
-      (g.view end.store).is_clean)
-      (kept : HasCleanDisk (state g last) → KeepsCommit (state g (begun old)) (state g last)) (puts : HasCleanDisk (state g last)
-      → Puts g (begun old) last more)
-      (ended : end.in_transaction ≡ false) where
-    pub ends : (r : Result (Unit {0}) Error)
-        → (HasCleanDisk (state g end) → OnOk r (IsTrue (state g last).in_transaction × Shows (state g last) (state g end) (state g last).now
-        (state g last).now false
-        × KeepsCounts (state g last) (state g end) × ((state g end).marks ≡ [])))
-        → (HasCleanDisk (state g end) → IfErr r (FailsToCommit (state g last) (state g end))) → IsEnded old end more r
-    ends (Ok u) ok err =
-        let it = committed law old last end more log falls puts ended (λ clean. (ok clean).1) in
-        let shut = λ (up : IsOpen g end). let clean : HasCleanDisk (state g last) = omega (arith, falls, clean_of law end up) in (puts clean).was_open in
-        record { log = it.log; ok = it.lines; err = λ up. tt; shut = shut }
-    ends (Err e) ok err =
-        let early = λ (clean : HasCleanDisk (state g end)). let it : HasCleanDisk (state g last) = omega (arith, falls, clean) in it in
-        let it = rolled_back law old last end log falls kept ended (λ clean. not_committed last end e (puts (early clean)).inside (err clean)) in
-        record { log = kept_log old end log it; ok = λ up. tt; err = kept_lines old end it; shut = it.was_open }
-
-pub on_err : {A E P : Type 0} (r : Result A E) → P → OnErr r P
-on_err (Ok a) p = tt
-on_err (Err e) p = p
-
 module _ {S : Type 0} (g : Ghosts S) (old mid : Held S) (lines : List (List ℕ)) (i : ℕ) (low : i < length lines) where
+  -- the next number after the first lines
   number_of : PutsAny g old mid (take i lines) → next_rowid (rows_of g mid) ≡ next_rowid (rows_of g old) +ℤ pos i
   number_of (inl none) =
       let len : i ≡ 0 = omega (arith, low, length-take i lines, ap length none.0) in
@@ -213,19 +149,23 @@ module _ {S : Type 0} (g : Ghosts S) (old mid : Held S) (lines : List (List ℕ)
   more_stops line there puts fault.Interrupted h = h
   more_stops line there puts fault.Store h = h
 
+-- no lines are no rows
 pub no_rows : (rows : List Row) → map line_in rows ≡ [] → rows ≡ []
 no_rows [] none = refl
 no_rows (r ∷ rows) none = cc
 
+-- the image of an element is an element of the image
 pub contains_at : {X Y : Type 0} (xs : List X) (f : X → Y) (i : ℕ) (x : X) → i < length xs → x ≡ get_or xs i x → Contains (map f xs) (f x)
 contains_at xs f i x low is =
     subst (Contains (map f xs)) (get_or-map f xs i x (f x) low ∙ ap f (sym is))
     (Contains-get_or (map f xs) i (f x) (subst (λ n. i < n) (sym (length-map xs f)) low))
 
-pub err_and : {A E : Type 0} (r : Result A E) (P Q : E → Type 0) → ((e : E) → P e → Q e) → IsErrAnd r P → IfErr r Q
-err_and (Ok a) P Q each h = tt
-err_and (Err e) P Q each h = each e h
+-- what holds of an error that is passed on
+pub on_error : {A E : Type 0} (P : E → Type 0) (e : E) → P e → (r : Result A E) → IsErrAnd r (λ x. x ≡ e) → IfErr r P
+on_error P e h (Ok a) never = absurd never
+on_error P e h (Err x) same = subst P (sym same) h
 
+-- two calls that commit nothing
 pub commits_then : (a b c : State) → KeepsCommit a b → KeepsCommit b c → KeepsCommit a c
 commits_then a b c one two = record { was_open = λ up. one.was_open (two.was_open up); committed = λ up. two.committed up ∙ one.committed (two.was_open up) }
 
@@ -242,6 +182,7 @@ module _ {S : Type 0} (g : Ghosts S) where
         holds = λ up. subst HoldsLog (sym (it up).now_is) (holds (early up));
       }
 
+  -- its lines
   pub settled_lines : ShutsIfDirty g → (last end : Held S) (lines : List (List ℕ)) → doubt (g.view last.store).is_clean ≤ doubt (g.view end.store).is_clean
       → (HasCleanDisk (state g last) → lines_in (state g last).now.trees ≡ lines)
       → (HasCleanDisk (state g end) → Shows (state g last) (state g end) (state g last).now (state g last).now false) → IsOpen g end → lines_of g end ≡ lines
@@ -250,6 +191,7 @@ module _ {S : Type 0} (g : Ghosts S) where
       let early : HasCleanDisk (state g last) = omega (arith, falls, clean) in
       ap (λ (d : Database). lines_in d.trees) (shows clean).committed_is ∙ are early
 
+  -- the trees of a database that holds a log
   pub kept_by : (d : Database) (lines : List (List ℕ)) → HoldsLog d → IsDatabase d → lines_in d.trees ≡ lines → (db : Trees) → db ≡ d.trees
       → KeepsLines lines db
   kept_by d lines holds sound are db is = record {
@@ -258,6 +200,7 @@ module _ {S : Type 0} (g : Ghosts S) where
     are = ap lines_in is ∙ are;
   }
 
+  -- a commit that succeeds leaves a log
   pub log_if_ok : {X : Type 0} → ShutsIfDirty g → (last end : Held S) → doubt (g.view last.store).is_clean ≤ doubt (g.view end.store).is_clean
       → (HasCleanDisk (state g last) → HoldsLog (state g last).now)
       → end.in_transaction ≡ false → (r : Result X Error)
@@ -266,6 +209,7 @@ module _ {S : Type 0} (g : Ghosts S) where
   log_if_ok law last end falls holds ended (Ok x) shows = settles law last end falls holds ended (λ clean. (shows clean).1)
   log_if_ok law last end falls holds ended (Err e) shows = tt
 
+  -- with the lines that the transaction showed
   pub lines_if_ok : {X : Type 0} → ShutsIfDirty g → (last end : Held S) (lines : List (List ℕ)) → doubt (g.view last.store).is_clean ≤ doubt
       (g.view end.store).is_clean
       → (HasCleanDisk (state g last) → lines_in (state g last).now.trees ≡ lines) → (r : Result X Error)
@@ -275,46 +219,16 @@ module _ {S : Type 0} (g : Ghosts S) where
   lines_if_ok law last end lines falls are (Ok x) shows up = settled_lines law last end lines falls are (λ clean. (shows clean).1) up
   lines_if_ok law last end lines falls are (Err e) shows up = tt
 
-module _ {S : Type 0} (g : Ghosts S) where
-  pub fills : (old mid last : Held S) (lines : List (List ℕ)) → Makes g old mid → PutsAny g mid last lines → Fills g old last lines
-  fills old mid last lines made (inl none) = subst (λ h. Fills g old h lines) (sym none.1)
-      (record { was_open = made.was_open; inside = made.inside; holds = made.holds; sound = made.sound; lines_are = made.lines ∙ sym none.0 })
-  fills old mid last lines made (inr put) =
-      record { was_open = made.was_open; inside = put.inside; holds = put.holds; sound = put.sound; lines_are = put.lines ∙ ap (λ l. l ++ lines) made.lines }
-
-  pub record IsEndedAs (old end : Held S) (lines : List (List ℕ)) (r : Result (Unit {0}) Error) : Type 0 where
-    pub log : IsLog g end
-    pub ok : IsOpen g end → OnOk r (lines_of g end ≡ lines)
-    pub err : IsOpen g end → OnErr r (lines_of g end ≡ lines_of g old)
-
-  module _ (law : ShutsIfDirty g) (old last end : Held S) (lines : List (List ℕ)) (log : IsLog g old) (falls : doubt (g.view last.store).is_clean ≤ doubt
-      (g.view end.store).is_clean)
-      (kept : HasCleanDisk (state g last) → KeepsCommit (state g (begun g old)) (state g last)) (filled : HasCleanDisk (state g last)
-      → Fills g (begun g old) last lines)
-      (ended : end.in_transaction ≡ false) where
-    pub ends_as : (r : Result (Unit {0}) Error)
-        → (HasCleanDisk (state g end) → OnOk r (IsTrue (state g last).in_transaction × Shows (state g last) (state g end) (state g last).now
-        (state g last).now false
-        × KeepsCounts (state g last) (state g end) × ((state g end).marks ≡ [])))
-        → (HasCleanDisk (state g end) → IfErr r (FailsToCommit (state g last) (state g end))) → IsEndedAs old end lines r
-    ends_as (Ok u) ok err = record {
-      log = settles g law last end falls (λ clean. (filled clean).holds) ended (λ clean. (ok clean).1);
-      ok = settled_lines g law last end lines falls (λ clean. (filled clean).lines_are) (λ clean. (ok clean).1);
-      err = λ up. tt;
-    }
-    ends_as (Err e) ok err =
-        let early = λ (clean : HasCleanDisk (state g end)). let it : HasCleanDisk (state g last) = omega (arith, falls, clean) in it in
-        let it = rolled_back g law old last end log falls kept ended (λ clean. not_committed g last end e (filled (early clean)).inside (err clean)) in
-        record { log = kept_log g old end log it; ok = λ up. tt; err = kept_lines g old end it }
-
 -- ---- how a read ends: the transaction has changed nothing, and is committed
 
 module _ {S : Type 0} (g : Ghosts S) (law : ShutsIfDirty g) (old last end : Held S) (log : IsLog g old) (falls : doubt (g.view last.store).is_clean ≤ doubt
     (g.view end.store).is_clean)
     (same : HasCleanDisk (state g last) → IsUnchanged (state g (begun g old)) (state g last)) where
+  -- no doubt at the end is none before
   early : HasCleanDisk (state g end) → HasCleanDisk (state g last)
   early clean = omega (arith, falls, clean)
 
+  -- however the commit ends, nothing has changed
   pub read_ends : end.in_transaction ≡ false → (r : Result (Unit {0}) Error)
       → (HasCleanDisk (state g end) → OnOk r (IsTrue (state g last).in_transaction × Shows (state g last) (state g end) (state g last).now
       (state g last).now false

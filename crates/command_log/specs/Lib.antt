@@ -1,4 +1,5 @@
 pub mod Table
 pub mod Faults
 pub mod Lines
+pub mod Inside
 pub mod Found

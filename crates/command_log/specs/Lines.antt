@@ -142,14 +142,6 @@ module _ {S : Type 0} (g : Ghosts S) where
   abbrev pub IsMade : Held S → Trees → Type 0
   IsMade old db = ((state g old).now.schema ≡ no_schema) × KeepsLines [] db
 
-  -- a transaction has left these lines alone
-  pub record Fills (old new : Held S) (lines : List (List ℕ)) : Type 0 where
-    pub was_open : IsOpen old
-    pub inside : new.in_transaction ≡ true
-    pub holds : HoldsLog (state g new).now
-    pub sound : IsDatabase (state g new).now
-    pub lines_are : lines_in (state g new).now.trees ≡ lines
-
   -- the trees that a commit of other lines leaves
   abbrev pub IsReplaced : Held S → List (List ℕ) → Trees → Type 0
   IsReplaced old lines db = IsOpen old × KeepsLines lines db

@@ -1,51 +1,18 @@
 //! The statements on lines.
-ghost use Rattle.std.specs.Prelude.{
-  ℕ,
-  pos,
-  drop,
-  ◌≡◌,
-  ◌<◌,
-  ◌∷◌,
-  ◌++◌,
-  [],
-  true,
-  length,
-  map,
-  Some,
-  None,
-  All,
-  IsUtf8,
-  ◌⊎◌,
-  IfErr,
-  IfOk,
-  OnOk,
-  OnErr,
-};
+ghost use Rattle.std.specs.Prelude.{ℕ, pos, drop, ◌≡◌, ◌<◌, ◌∷◌, ◌++◌, [], length, map, Some, None};
+ghost use Rattle.std.specs.Prelude.{All, IsUtf8, ◌⊎◌, IfErr, IfOk, OnOk, OnErr};
 ghost use Rattle.std.specs.String.{string_bytes};
 ghost use Rattle.sqlite_value.specs.declared.value.Value.TheVariants.{Int};
 ghost use Rattle.sqlite_value.specs.Order.{column};
 ghost use Rattle.sqlite.specs.Query.{as_count, limited};
 ghost use Rattle.sqlite.specs.Held.{state};
-ghost use Rattle.sqlite.specs.State.{HasCleanDisk, IsUnchanged, KeepsCommit, Survives};
+ghost use Rattle.sqlite.specs.State.{HasCleanDisk, Survives};
 ghost use Rattle.command_log.specs.Faults.{fault_of, IsCaused, Nothing, Unreadable, Unstorable};
 ghost use Rattle.command_log.specs.Faults.{AreText};
-ghost use Rattle.command_log.specs.Lines.{
-  IsLineRow,
-  text_in,
-  place_after,
-  HoldsLog,
-  IsOpen,
-  IsLog,
-  Puts,
-  PutsAny,
-  Makes,
-  IsAppended,
-  IsReplaced,
-  GivesRows,
-  rows_of,
-  lines_of,
-  lines_left,
-};
+ghost use Rattle.command_log.specs.Inside.{IsInside, InLog, ReadsRows};
+ghost use Rattle.command_log.specs.Lines.{IsLineRow, IsOpen, IsLog, Puts, PutsAny, Makes};
+ghost use Rattle.command_log.specs.Lines.{IsAppended, IsReplaced, GivesRows, text_in, place_after};
+ghost use Rattle.command_log.specs.Lines.{rows_of, lines_of, lines_left};
 
 use sqlite::{Connection, Error, ErrorCode, Row, Transaction, params};
 use sqlite_trees::store::Alter;
@@ -70,43 +37,20 @@ pub(crate) struct ReadLines {
 
 /// Appends one line.
 fn put_line<S: Alter>(tx: &mut Transaction<'_, S>, line: &str) -> Result<usize, Error>
-    requires inside { HasCleanDisk (state S.Store tx.old.conn.now)
-        → tx.old.conn.now.in_transaction ≡ true }
-    requires holds { IsOpen S.Store tx.old.conn.now
-        → HoldsLog (state S.Store tx.old.conn.now).now }
-    ensures same_reference { tx.new.conn.ghost_name ≡ tx.old.conn.ghost_name }
-    ensures survives { Survives (state S.Store tx.old.conn.now) (state S.Store tx.new.conn.now)
-        (λ _. ⊥) }
-    ensures commit { HasCleanDisk (state S.Store tx.new.conn.now)
-        → KeepsCommit (state S.Store tx.old.conn.now) (state S.Store tx.new.conn.now) }
-    ensures put { HasCleanDisk (state S.Store tx.new.conn.now)
-        → OnOk result (Puts S.Store tx.old.conn.now tx.new.conn.now (line.now ∷ [])) }
-    ensures cause { HasCleanDisk (state S.Store tx.new.conn.now) → IsOpen S.Store tx.old.conn.now
-        → IfErr result (λ e. IsCaused (state S.Store tx.old.conn.now)
-        (state S.Store tx.new.conn.now)
-        (Unstorable (rows_of S.Store tx.old.conn.now) (line.now ∷ [])) (fault_of e)) }
+    requires { IsInside S.Store tx.old }
+    ensures { InLog S.Store tx.old tx.new result
+        (λ _. Puts S.Store tx.old.conn.now tx.new.conn.now (line.now ∷ []))
+        (Unstorable (rows_of S.Store tx.old.conn.now) (line.now ∷ [])) }
 {
     tx.execute(INSERT, params![line])
 }
 
 /// Appends the lines, in order, up to the first that fails.
 fn put_lines<S: Alter>(tx: &mut Transaction<'_, S>, lines: &[String]) -> Result<(), Error>
-    requires inside { HasCleanDisk (state S.Store tx.old.conn.now)
-        → tx.old.conn.now.in_transaction ≡ true }
-    requires holds { IsOpen S.Store tx.old.conn.now
-        → HoldsLog (state S.Store tx.old.conn.now).now }
-    ensures same_reference { tx.new.conn.ghost_name ≡ tx.old.conn.ghost_name }
-    ensures survives { Survives (state S.Store tx.old.conn.now) (state S.Store tx.new.conn.now)
-        (λ _. ⊥) }
-    ensures commit { HasCleanDisk (state S.Store tx.new.conn.now)
-        → KeepsCommit (state S.Store tx.old.conn.now) (state S.Store tx.new.conn.now) }
-    ensures put { HasCleanDisk (state S.Store tx.new.conn.now)
-        → OnOk result (PutsAny S.Store tx.old.conn.now tx.new.conn.now
-        (map string_bytes lines.now)) }
-    ensures cause { HasCleanDisk (state S.Store tx.new.conn.now) → IsOpen S.Store tx.old.conn.now
-        → IfErr result (λ e. IsCaused (state S.Store tx.old.conn.now)
-        (state S.Store tx.new.conn.now)
-        (Unstorable (rows_of S.Store tx.old.conn.now) (map string_bytes lines.now)) (fault_of e)) }
+    requires { IsInside S.Store tx.old }
+    ensures { InLog S.Store tx.old tx.new result
+        (λ _. PutsAny S.Store tx.old.conn.now tx.new.conn.now (map string_bytes lines.now))
+        (Unstorable (rows_of S.Store tx.old.conn.now) (map string_bytes lines.now)) }
 {
     for line in lines {
         put_line(tx, line.as_str())?;
@@ -138,21 +82,9 @@ pub(crate) fn put_all<S: Alter>(conn: &mut Connection<S>, more: &[String]) -> Re
 
 /// Deletes all lines.
 fn clear<S: Alter>(tx: &mut Transaction<'_, S>) -> Result<usize, Error>
-    requires inside { HasCleanDisk (state S.Store tx.old.conn.now)
-        → tx.old.conn.now.in_transaction ≡ true }
-    requires holds { IsOpen S.Store tx.old.conn.now
-        → HoldsLog (state S.Store tx.old.conn.now).now }
-    ensures same_reference { tx.new.conn.ghost_name ≡ tx.old.conn.ghost_name }
-    ensures survives { Survives (state S.Store tx.old.conn.now) (state S.Store tx.new.conn.now)
-        (λ _. ⊥) }
-    ensures commit { HasCleanDisk (state S.Store tx.new.conn.now)
-        → KeepsCommit (state S.Store tx.old.conn.now) (state S.Store tx.new.conn.now) }
-    ensures made { HasCleanDisk (state S.Store tx.new.conn.now)
-        → OnOk result (Makes S.Store tx.old.conn.now tx.new.conn.now) }
-    ensures cause { HasCleanDisk (state S.Store tx.new.conn.now) → IsOpen S.Store tx.old.conn.now
-        → IfErr result (λ e. IsCaused (state S.Store tx.old.conn.now)
-        (state S.Store tx.new.conn.now)
-        Nothing (fault_of e)) }
+    requires { IsInside S.Store tx.old }
+    ensures { InLog S.Store tx.old tx.new result
+        (λ _. Makes S.Store tx.old.conn.now tx.new.conn.now) Nothing }
 {
     tx.execute(CLEAR, &[])
 }
@@ -180,24 +112,9 @@ pub(crate) fn replace_all<S: Alter>(conn: &mut Connection<S>, lines: &[String]) 
 
 /// Reads the rows of the first lines, within a transaction.
 fn first_rows<S: Alter>(tx: &mut Transaction<'_, S>, limit: i64) -> Result<Vec<Row>, Error>
-    requires inside { HasCleanDisk (state S.Store tx.old.conn.now)
-        → tx.old.conn.now.in_transaction ≡ true }
-    requires holds { IsOpen S.Store tx.old.conn.now
-        → HoldsLog (state S.Store tx.old.conn.now).now }
-    ensures same_reference { tx.new.conn.ghost_name ≡ tx.old.conn.ghost_name }
-    ensures survives { Survives (state S.Store tx.old.conn.now) (state S.Store tx.new.conn.now)
-        (λ _. ⊥) }
-    ensures commit { HasCleanDisk (state S.Store tx.new.conn.now)
-        → KeepsCommit (state S.Store tx.old.conn.now) (state S.Store tx.new.conn.now) }
-    ensures same { HasCleanDisk (state S.Store tx.new.conn.now)
-        → OnOk result (IsUnchanged (state S.Store tx.old.conn.now)
-        (state S.Store tx.new.conn.now)) }
-    ensures rows { HasCleanDisk (state S.Store tx.new.conn.now)
-        → IfOk result (λ rows. GivesRows S.Store tx.old.conn.now None limit rows.items) }
-    ensures cause { HasCleanDisk (state S.Store tx.new.conn.now) → IsOpen S.Store tx.old.conn.now
-        → IfErr result (λ e. IsCaused (state S.Store tx.old.conn.now)
-        (state S.Store tx.new.conn.now)
-        Nothing (fault_of e)) }
+    requires { IsInside S.Store tx.old }
+    ensures { InLog S.Store tx.old tx.new result
+        (λ rows. ReadsRows S.Store tx.old.conn.now tx.new.conn.now None limit rows.items) Nothing }
 {
     tx.query_all(FIRST, params![limit])
 }
@@ -208,24 +125,9 @@ fn later_rows<S: Alter>(
     number: i64,
     limit: i64,
 ) -> Result<Vec<Row>, Error>
-    requires inside { HasCleanDisk (state S.Store tx.old.conn.now)
-        → tx.old.conn.now.in_transaction ≡ true }
-    requires holds { IsOpen S.Store tx.old.conn.now
-        → HoldsLog (state S.Store tx.old.conn.now).now }
-    ensures same_reference { tx.new.conn.ghost_name ≡ tx.old.conn.ghost_name }
-    ensures survives { Survives (state S.Store tx.old.conn.now) (state S.Store tx.new.conn.now)
-        (λ _. ⊥) }
-    ensures commit { HasCleanDisk (state S.Store tx.new.conn.now)
-        → KeepsCommit (state S.Store tx.old.conn.now) (state S.Store tx.new.conn.now) }
-    ensures same { HasCleanDisk (state S.Store tx.new.conn.now)
-        → OnOk result (IsUnchanged (state S.Store tx.old.conn.now)
-        (state S.Store tx.new.conn.now)) }
-    ensures rows { HasCleanDisk (state S.Store tx.new.conn.now)
-        → IfOk result (λ rows. GivesRows S.Store tx.old.conn.now (Some number) limit rows.items) }
-    ensures cause { HasCleanDisk (state S.Store tx.new.conn.now) → IsOpen S.Store tx.old.conn.now
-        → IfErr result (λ e. IsCaused (state S.Store tx.old.conn.now)
-        (state S.Store tx.new.conn.now)
-        Nothing (fault_of e)) }
+    requires { IsInside S.Store tx.old }
+    ensures { InLog S.Store tx.old tx.new result (λ rows.
+        ReadsRows S.Store tx.old.conn.now tx.new.conn.now (Some number) limit rows.items) Nothing }
 {
     tx.query_all(LATER, params![number, limit])
 }
@@ -236,24 +138,9 @@ fn rows_after<S: Alter>(
     place: Option<i64>,
     limit: i64,
 ) -> Result<Vec<Row>, Error>
-    requires inside { HasCleanDisk (state S.Store tx.old.conn.now)
-        → tx.old.conn.now.in_transaction ≡ true }
-    requires holds { IsOpen S.Store tx.old.conn.now
-        → HoldsLog (state S.Store tx.old.conn.now).now }
-    ensures same_reference { tx.new.conn.ghost_name ≡ tx.old.conn.ghost_name }
-    ensures survives { Survives (state S.Store tx.old.conn.now) (state S.Store tx.new.conn.now)
-        (λ _. ⊥) }
-    ensures commit { HasCleanDisk (state S.Store tx.new.conn.now)
-        → KeepsCommit (state S.Store tx.old.conn.now) (state S.Store tx.new.conn.now) }
-    ensures same { HasCleanDisk (state S.Store tx.new.conn.now)
-        → OnOk result (IsUnchanged (state S.Store tx.old.conn.now)
-        (state S.Store tx.new.conn.now)) }
-    ensures rows { HasCleanDisk (state S.Store tx.new.conn.now)
-        → IfOk result (λ rows. GivesRows S.Store tx.old.conn.now place limit rows.items) }
-    ensures cause { HasCleanDisk (state S.Store tx.new.conn.now) → IsOpen S.Store tx.old.conn.now
-        → IfErr result (λ e. IsCaused (state S.Store tx.old.conn.now)
-        (state S.Store tx.new.conn.now)
-        Nothing (fault_of e)) }
+    requires { IsInside S.Store tx.old }
+    ensures { InLog S.Store tx.old tx.new result
+        (λ rows. ReadsRows S.Store tx.old.conn.now tx.new.conn.now place limit rows.items) Nothing }
 {
     match place {
         None => first_rows(tx, limit),

@@ -1,10 +1,10 @@
-use Rattle.std.proofs.Common.{arith, refl, ap, sym, subst, ◌∙◌, w64}
+use Rattle.std.proofs.Common.{arith, refl, ap, subst, ◌∙◌, w64}
 use Rattle.std.proofs.lemmas.Int.{to_z-of_z}
 use Rattle.std.proofs.lemmas.Result.{IfOk-weaker, IfErr-weaker}
 use Rattle.sqlite.specs.Held.{state}
 use Rattle.command_log.specs.Lines.{GivesRows, lines_left}
-use Rattle.command_log.specs.Faults.{IsCaused, Nothing, Unreadable, fault_of}
-use Rattle.command_log.proofs.States.{err_and}
+use Rattle.command_log.specs.Faults.{Nothing, Unreadable, fault_of}
+use Rattle.command_log.proofs.States.{on_error}
 use Rattle.command_log.proofs.QuerySteps.{lines_read, lines_unread, rows_are_lines, read_failed}
 use Rattle.command_log.proofs.Causes.{caused_longer}
 use Rattle.command_log.proofs.lines.read_after.Goals as goal
@@ -30,13 +30,10 @@ pub returns-in_err-rows-clause-cause : goal.returns-in_err-rows-clause-cause
 returns-in_err-rows-clause-cause g c clean up =
     let old = c.args.conn.now in
     let end = c.read_rows.new.conn in
-    let own = Unreadable (lines_left g.S.Store old c.args.place) in
-    err_and c.from_residual.result _ _
-    (λ e is. subst (λ x. IsCaused (state g.S.Store old) (state g.S.Store end) own (fault_of x)) (sym is)
-    (caused_longer (state g.S.Store old) (state g.S.Store old) (state g.S.Store end) (state g.S.Store end) Nothing own (λ f h. absurd h) (omega arith)
-    (omega arith) refl
-    (fault_of c.in_err-rows.field-0.0) (c.in_err-rows.ensures.cause clean up)))
-    c.from_residual.ensures.1
+    let e = c.in_err-rows.field-0.0 in
+    on_error _ e (caused_longer (state g.S.Store old) (state g.S.Store old) (state g.S.Store end) (state g.S.Store end) Nothing
+    (Unreadable (lines_left g.S.Store old c.args.place)) (λ f h. absurd h) (omega arith) (omega arith) refl (fault_of e) (c.in_err-rows.ensures.cause clean up))
+    c.from_residual.result c.from_residual.ensures.1
 
 pub returns-clause-cause : goal.returns-clause-cause
 returns-clause-cause g c clean up =

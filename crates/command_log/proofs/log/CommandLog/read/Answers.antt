@@ -1,9 +1,9 @@
-use Rattle.std.proofs.Common.{sym, subst}
+use Rattle.std.proofs.Common.{subst}
 use Rattle.sqlite.specs.Held.{state}
 use Rattle.sqlite.specs.State.{HasCleanDisk}
 use Rattle.command_log.specs.Lines.{IsOpen, lines_of}
 use Rattle.command_log.specs.Faults.{IsCaused, Unreadable, fault_of}
-use Rattle.command_log.proofs.States.{err_and}
+use Rattle.command_log.proofs.States.{on_error}
 use Rattle.command_log.proofs.log.CommandLog.read.Goals as goal
 
 pub returns-in_err-lines-clause-cause : goal.returns-in_err-lines-clause-cause
@@ -12,6 +12,4 @@ returns-in_err-lines-clause-cause g c clean up =
     let why = subst (λ h. HasCleanDisk (state g.S.Store end) → IsOpen g.S.Store h → IsCaused (state g.S.Store h) (state g.S.Store end)
     (Unreadable (lines_of g.S.Store h)) (fault_of c.in_err-lines.field-0.0))
     c.self.view_is c.in_err-lines.ensures.cause in
-    err_and c.from_residual.result _ _
-    (λ f is. subst (IsCaused (state g.S.Store c.args.self.now) (state g.S.Store end) (Unreadable (lines_of g.S.Store c.args.self.now))) (sym is) (why clean up))
-    c.from_residual.ensures.1
+    on_error _ (fault_of c.in_err-lines.field-0.0) (why clean up) c.from_residual.result c.from_residual.ensures.1
