@@ -16,7 +16,8 @@ use Rattle.site_replies.specs.declared.reply.Refusal.TheVariants.{TooLarge}
 use Rattle.site_replies.specs.Reply.{ReplyData, refused}
 use Rattle.template_parts.specs.Pages as template
 use Rattle.site_program.specs.Requests.{Texts, settings_for, page_pass, Opened, opened_page, requested, request, found_by, options_of, templates_of, active_of}
-use Rattle.site_program.specs.History.{Replied, lines_in, AreCarriedOut, Serves, site_after, replies_to}
+use Rattle.site_program.specs.History.{Serves, site_after, replies_to}
+use Rattle.site_serving.specs.Served.{Replied, lines_in, AreCarriedOut}
 use Rattle.site_program.specs.State.{State, empty_site}
 use Rattle.site_program.specs.Step.{got, begun, opened_in, max_path, over_rows, carried_out, step}
 use Rattle.hook_machine.specs.Agreement.{are_among, AgreeOn}

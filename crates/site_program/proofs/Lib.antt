@@ -1,10 +1,3 @@
-pub mod LineLists
-pub mod Histories
-pub mod Journals
-pub mod LastLines
-pub mod Settling
-pub mod Streams
-pub mod Endings
 pub mod Pages
 pub mod Carrying
 pub mod Places
@@ -13,6 +6,7 @@ pub mod Refusals
 pub mod UnderNames
 pub mod Limits
 pub mod Rebuilding
+mod LogAndSite
 pub mod OtherOptions
 mod Keeping
 pub mod Bounds

@@ -1,5 +1,5 @@
 -- The edits that were done, done once more, give the same replies and leave the same rows.
-use Rattle.std.proofs.Common.{◌≡◌, inl, inr, ℕ, ◌≤◌, ◌∙◌, List, [], ◌∷◌, ◌++◌, Option, Some, true, false, refl, sym, subst, ap, length}
+use Rattle.std.proofs.Common.{◌≡◌, inl, inr, ℕ, ◌≤◌, ◌∙◌, List, [], ◌∷◌, Option, Some, true, false, refl, sym, subst, ap, length}
 use Rattle.std.specs.Prelude.{◌&&◌}
 use Rattle.std.proofs.lemmas.Bool.{cond_both, both_ways, and_parts}
 use Rattle.std.proofs.lemmas.List.{length-map}
@@ -8,13 +8,13 @@ use Rattle.std.proofs.lemmas.List.Sums.{length-filter, count_by-le-length}
 use Rattle.hook_machine.specs.Meaning.{Engine}
 use Rattle.site_commands.specs.Asked as asked
 use Rattle.site_commands.specs.Worked.{line_command}
-use Rattle.site_replies.specs.Reply.{ReplyData, bytes_of}
+use Rattle.site_replies.specs.Reply.{ReplyData}
 use Rattle.site_edits.specs.Late.{is_done}
 use Rattle.site_edits.proofs.Limits.{limited}
 use Rattle.site_program.specs.State.{State, empty_under}
-use Rattle.site_program.specs.Step.{step, got, place_turned, is_edit, IsReply, IsCarriedOut}
-use Rattle.site_program.specs.Serving.{IsReplies}
-use Rattle.site_program.specs.History.{Replied, is_kept, lines_in, written_for, kept_history, history, AreCarriedOut, Serves, site_after, replies_to}
+use Rattle.site_program.specs.Step.{step, got, place_turned, is_edit, IsReply}
+use Rattle.site_program.specs.History.{is_kept, kept_history, history, Serves, site_after, replies_to}
+use Rattle.site_serving.specs.Served.{AreCarriedOut, IsCarriedOut, Replied, lines_in}
 use Rattle.site_program.proofs.Carrying.{left_rows, left_limit}
 use Rattle.site_program.proofs.Limits.{Follows, step-same, step-limit}
 use Rattle.site_program.proofs.Refusals.{step-keeps}
@@ -57,13 +57,13 @@ module _ (engine : Engine) (calls : ℕ) (limit : Option ℕ) where
       (λ falls. history-rebuilds mid new again later served (follows ∙ ap (limited limit) (sym (reply-unkept old mid r first falls))))
 
 -- lines keep the limit on steps
-reply-limit : (engine : Engine) (calls : ℕ) (old new : State) (line : List ℕ) (reply : ReplyData) → IsReply (step engine calls) old line reply new
+pub reply-limit : (engine : Engine) (calls : ℕ) (old new : State) (line : List ℕ) (reply : ReplyData) → IsReply (step engine calls) old line reply new
     → new.rows.step_limit ≡ old.rows.step_limit
 reply-limit engine calls old new line reply (inl done) = step-limit engine calls old new line reply done
 reply-limit engine calls old new line reply (inr (inl (memory, left))) = left_limit (place_turned line) old new left
 reply-limit engine calls old new line reply (inr (inr late)) = ap (λ site. site.rows.step_limit) late.1
 
-Serves-limit : (engine : Engine) (calls : ℕ) (old new : State) (replied : List Replied) → Serves (step engine calls) old replied new
+pub Serves-limit : (engine : Engine) (calls : ℕ) (old new : State) (replied : List Replied) → Serves (step engine calls) old replied new
     → new.rows.step_limit ≡ old.rows.step_limit
 Serves-limit engine calls old new [] served = ap (λ site. site.rows.step_limit) served
 Serves-limit engine calls old new (r ∷ later) (mid, first, served) =
@@ -133,34 +133,3 @@ module _ (engine : Engine) (calls : ℕ) (limit : Option ℕ) where
 
 pub length-history : (replied : List Replied) → length (history replied) ≤ length replied
 length-history replied = simp (length-map, length-filter) (count_by-le-length is_kept replied)
-
-module _ (steps : State → List ℕ → State × ReplyData) where
-  pub Serves-split : (old new : State) (before after : List Replied) → Serves steps old (before ++ after) new
-      → (mid : State) × Serves steps old before mid × Serves steps mid after new
-  Serves-split old new [] after served = (old, refl, served)
-  Serves-split old new (r ∷ before) after (mid, first, served) =
-      let rest = Serves-split mid new before after served in
-      (rest.0, (mid, first, rest.1), rest.2)
-
-  pub Serves-push : (old mid new : State) (replied : List Replied) (line : List ℕ) (reply : ReplyData) → Serves steps old replied mid
-      → IsReply steps mid line reply new → Serves steps old (replied ++ record { line = line; reply = reply } ∷ []) new
-  Serves-push old mid new [] line reply served is = (new, subst (λ site. IsReply steps site line reply new) served is, refl)
-  Serves-push old mid new (r ∷ later) line reply (next, first, served) is = (next, first, Serves-push next mid new later line reply served is)
-
-  -- ---- replies as bytes
-
-  pub Serves-bytes : (old new : State) (replied : List Replied) → Serves steps old replied new
-      → IsReplies steps old (lines_in replied) (written_for replied) new
-  Serves-bytes old new [] served = (refl, served)
-  Serves-bytes old new (r ∷ later) (mid, first, served) = (r.reply, mid, written_for later, first, refl, Serves-bytes mid new later served)
-
-  pub Serves-from_bytes : (old new : State) (lines : List (List ℕ)) (out : List ℕ) → IsReplies steps old lines out new
-      → (replied : List Replied) × Serves steps old replied new × (lines_in replied ≡ lines) × (written_for replied ≡ out)
-  Serves-from_bytes old new [] out replied = ([], replied.1, refl, sym replied.0)
-  Serves-from_bytes old new (line ∷ lines) out (reply, mid, later, first, is, served) =
-      let rest = Serves-from_bytes mid new lines later served in (
-        record { line = line; reply = reply } ∷ rest.0,
-        (mid, first, rest.1),
-        ap (λ ls. line ∷ ls) rest.2,
-        ap (λ bytes. bytes_of reply ++ bytes) rest.3 ∙ sym is,
-      )

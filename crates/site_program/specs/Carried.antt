@@ -6,7 +6,7 @@ use Rattle.site_replies.specs.Reply.{ReplyData, reply_data}
 use Rattle.post_tables.specs.declared.fault.StoreFault.{StoreFault}
 use Rattle.post_tables.specs.declared.fault.StoreFault.TheVariants.{Store}
 use Rattle.site_program.specs.State.{State}
-use Rattle.site_program.specs.declared.line_reply.LineReply.{LineReply}
+use Rattle.site_serving.specs.declared.line_reply.LineReply.{LineReply}
 use Rattle.site_program.specs.Step.{IsLeftBy, place_given, may_be_late_at}
 
 -- the database refused in place of a reply that its refusal may replace, and nothing has changed

@@ -1,105 +1,17 @@
--- What serving notes in a journal, and what it lets out of it.
-use Rattle.std.specs.Prelude.{◌≡◌, ◌⊎◌, Bool, true, false, ℕ, List, [], ◌∷◌, ◌++◌, Option, Some, Result, OnOk, OnErr, IfSome, All, flat_map}
-use Rattle.std.specs.Io.KnownBytes.{Appends, append_known}
-use Rattle.ends.specs.Known.{AppendsFront}
-use Rattle.ends.specs.Journal.{Grows, IsFront}
-use Rattle.ends.specs.Journal as ends
+-- What serving an input over a site notes in a journal: as serving any lines does, with what a line means to a site.
+use Rattle.std.specs.Prelude.{ℕ, List, Option}
 use Rattle.ends.specs.declared.journal.Journal.{Ghosts}
-use Rattle.site_replies.specs.Reply.{ReplyData, bytes_of}
-use Rattle.site_program.specs.History.{Replied, Serves, lines_in, written_for, history}
-use Rattle.site_program.specs.Lines.{lines_of, IsLine, with_newline}
+use Rattle.site_replies.specs.Reply.{ReplyData}
+use Rattle.site_serving.specs.Journaled as serving
+use Rattle.site_program.specs.History.{is_kept}
 use Rattle.site_program.specs.State.{State}
 use Rattle.site_program.specs.Step.{IsReply}
 
--- what is noted of a line
-abbrev pub noted_of : Bool → List ℕ → List (List ℕ)
-noted_of true line = line ∷ []
-noted_of false line = []
+module _ {J : Type 0} (g : Ghosts J) (steps : State → List ℕ → State × ReplyData) where
+  -- an input was served whole: the replies to its lines were taken, and the edits that were done are noted
+  abbrev pub IsNoted : State → Option (List ℕ) → J → J → State → Type 0
+  IsNoted = serving.IsNoted g is_kept (IsReply steps)
 
-module _ {J : Type 0} (g : Ghosts J) where
-  -- nothing waits in an open journal: all replies that were taken are written, and all lines that were noted are committed
-  abbrev pub IsSettled : J → Type 0
-  IsSettled = ends.IsSettled g.written g.contents g.is_open g.may_hold g.noted
-
-  abbrev pub IsQuiet : J → J → Type 0
-  IsQuiet = ends.IsQuiet g.written g.contents g.is_open g.may_hold
-
-  abbrev pub LetsOut : Option (List (List ℕ)) → J → J → Type 0
-  LetsOut = ends.LetsOut g.written g.contents g.is_open g.may_hold
-
-  -- The log holds what was noted before and then the edits that were done at some first lines, and no others; and what
-  -- was written is a front of the replies to these very lines.
-  pub record IsAhead (old new : J) (replied : List Replied) (held : List (List ℕ)) : Type 0 where
-    pub front : List Replied
-    pub back : List Replied
-    pub whole : front ++ back ≡ replied
-    pub edits : Grows (g.noted old) (Some held) (history front)
-    pub written : AppendsFront (g.written old) (g.written new) (written_for front)
-
-  module _ (steps : State → List ℕ → State × ReplyData) where
-    -- an input was served whole: the replies to its lines were taken, and the edits that were done are noted
-    pub record IsNoted (site : State) (given : Option (List ℕ)) (old new : J) (after : State) : Type 0 where
-      pub replied : List Replied
-      pub served : Serves steps site replied after
-      pub whole : IfSome given (λ input. lines_of input ≡ lines_in replied)
-      pub taken : Appends (g.contents old) (g.contents new) (written_for replied)
-      pub noted : Grows (g.noted old) (g.noted new) (history replied)
-
-    -- The first lines of the input were served; and whatever the log is found to hold, it is not older than what was
-    -- written.
-    pub record KeepsAhead (site : State) (given : Option (List ℕ)) (old new : J) (after : State) : Type 0 where
-      pub replied : List Replied
-      pub served : Serves steps site replied after
-      pub first : IfSome given (λ input. (further : List (List ℕ)) × (lines_of input ≡ lines_in replied ++ further))
-      pub ahead : (held : List (List ℕ)) → g.may_hold new held → IsAhead old new replied held
-
-  -- ---- definitions for private clauses
-
-  -- the lines were noted and a reply taken after them, or a call failed on the way
-  pub record Enters {E : Type 0} (more : List (List ℕ)) (old new : J) (result : Result (Unit {0}) E) : Type 0 where
-    pub meant : Option (List (List ℕ))
-    pub grows : Grows (g.noted old) meant more
-    pub noted : OnOk result (Grows meant (g.noted new) [])
-    pub stays : g.is_open old → OnOk result (g.is_open new)
-    pub out : LetsOut meant old new
-
-  -- The log holds what it held and nothing was written; or it holds what was noted before and then the edits that were done
-  -- at some first lines, and what was written is a front of what was taken before and of the replies to these lines.
-  abbrev pub GoesAhead : J → J → List Replied → List (List ℕ) → Type 0
-  GoesAhead old new replied held =
-      (g.may_hold old held × (g.written new ≡ g.written old))
-      ⊎ ((front : List Replied) × (back : List Replied) × (front ++ back ≡ replied) × Grows (g.noted old) (Some held) (history front)
-      × (IsFront (g.written old) (g.contents old) → IsFront (g.written new) (append_known (g.contents old) (written_for front))))
-
-  -- what was let out of an open journal while some lines were served
-  pub record Outgoing (old new : J) (replied : List Replied) : Type 0 where
-    pub writes : (more : List ℕ) × Appends (g.written old) (g.written new) more
-    pub ahead : g.is_open old → (held : List (List ℕ)) → g.may_hold new held → GoesAhead old new replied held
-
-  module _ (steps : State → List ℕ → State × ReplyData) where
-    -- a line was carried out, and its reply entered
-    pub record Handles {E : Type 0} (site : State) (line : List ℕ) (old new : J) (result : Result (Unit {0}) E) (after : State) : Type 0 where
-      pub reply : ReplyData
-      pub replied : IsReply steps site line reply after
-      pub taken : OnOk result (Appends (g.contents old) (g.contents new) (bytes_of reply))
-      pub part : OnErr result (AppendsFront (g.contents old) (g.contents new) (bytes_of reply))
-      pub enters : Enters (history (record { line = line; reply = reply } ∷ [])) old new result
-
-    -- of a stretch of input the lines that end in it were served, and `rest` is what follows them
-    pub record Records (site : State) (stretch : List ℕ) (old new : J) (after : State) (rest : List ℕ) : Type 0 where
-      pub replied : List Replied
-      pub served : Serves steps site replied after
-      pub whole : stretch ≡ flat_map with_newline (lines_in replied) ++ rest
-      pub each : All IsLine (lines_in replied)
-      pub taken : Appends (g.contents old) (g.contents new) (written_for replied)
-      pub noted : Grows (g.noted old) (g.noted new) (history replied)
-      pub front : IsFront (g.written old) (g.contents old) → IsFront (g.written new) (g.contents new)
-      pub stays : g.is_open old → g.is_open new
-      pub out : Outgoing old new replied
-
-    -- serving stopped: of any input that begins with the stretch the first lines were served
-    pub record Stopped (site : State) (stretch : List ℕ) (old new : J) (after : State) : Type 0 where
-      pub replied : List Replied
-      pub served : Serves steps site replied after
-      pub first : (later : List ℕ) → (further : List (List ℕ)) × (lines_of (stretch ++ later) ≡ lines_in replied ++ further)
-      pub out : Outgoing old new replied
+  -- the first lines of the input were served, and whatever the log is found to hold, it is not older than what was written
+  abbrev pub KeepsAhead : State → Option (List ℕ) → J → J → State → Type 0
+  KeepsAhead = serving.KeepsAhead g is_kept (IsReply steps)

@@ -1,5 +1,5 @@
 -- What the site does at a line.
-use Rattle.std.specs.Prelude.{◌≡◌, ◌≢◌, ◌⊎◌, ℕ, ◌+◌, ◌-◌, ◌&&◌, Bool, true, false, nat_le, List, length, Option, None, Some, is_none, is_some, position}
+use Rattle.std.specs.Prelude.{◌≡◌, ◌⊎◌, ℕ, ◌+◌, ◌-◌, ◌&&◌, Bool, true, false, nat_le, List, length, Option, None, Some, is_none, is_some, position}
 use Rattle.std.specs.Prelude.{if◌then◌else◌}
 use Rattle.hook_machine.specs.Meaning.{Engine}
 use Rattle.hook_changes.specs.declared.reply.Call.{Call}
@@ -110,10 +110,6 @@ module _ (steps : State → List ℕ → State × ReplyData) where
       ((new, reply) ≡ steps old line)
       ⊎ (((reply ≡ refused OutOfMemory) × IsLeftBy (place_turned line) old new)
       ⊎ ((reply ≡ refused Store) × (new ≡ old) × (may_be_late_at (line_command line) old.rows.step_limit (steps old line).1 ≡ true)))
-
--- memory and the database did not refuse the line that got this reply
-abbrev pub IsCarriedOut : ReplyData → Type 0
-IsCarriedOut reply = (reply ≢ refused OutOfMemory) × (reply ≢ refused Store)
 
 -- the steps of a site with this setup
 abbrev pub steps_of : {S : Type 0} → (ℕ → Call → Reply) → (S → ℕ) → Setup S → State → List ℕ → State × ReplyData

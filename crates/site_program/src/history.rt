@@ -1,4 +1,5 @@
-//! Laws of histories: a site as the edits that were done. A law is a function without a body.
+//! Laws of histories: a site as the edits that were done, under one engine and one number of calls.
+//! A law is a function without a body.
 ghost use Rattle.std.specs.Prelude.{◌≡◌, ◌≤◌, [], ◌∷◌, ◌++◌, List, ℕ, Option, Some, length};
 ghost use Rattle.hook_machine.specs.Meaning.{Engine};
 ghost use Rattle.site_commands.specs.Asked.{get};
@@ -7,17 +8,8 @@ ghost use Rattle.site_replies.specs.Reply.{ReplyData};
 ghost use Rattle.site_program.specs.State.{State, empty_under};
 ghost use Rattle.site_program.specs.Step.{IsReply, step};
 ghost use Rattle.site_program.specs.Serving.{IsReplies};
-ghost use Rattle.site_program.specs.History.{
-  AreCarriedOut,
-  Replied,
-  Serves,
-  history,
-  kept_history,
-  lines_in,
-  replies_to,
-  site_after,
-  written_for,
-};
+ghost use Rattle.site_program.specs.History.{Serves, history, kept_history, replies_to, site_after};
+ghost use Rattle.site_serving.specs.Served.{AreCarriedOut, Replied, lines_in, written_for};
 
 /// A law: a site is its history, the edits that were done. Whatever lines an empty site serves, and
 /// whichever of them memory or the database refuses, its history makes it anew: carried out alone,

@@ -7,10 +7,11 @@
 #![tactic(auto)]
 
 mod changes;
+mod edits;
 mod history;
 mod kept_finds;
 mod laws;
-mod line_reply;
+mod log_law;
 mod page;
 mod serve;
 mod settings;
@@ -30,7 +31,9 @@ pub use laws::{
     inactive_plugins_have_no_say, inactive_plugins_have_no_say_ever,
     inactive_plugins_have_no_say_in_replies, open_pages_stay, site_pages_keep_to_their_bounds,
 };
+pub use log_law::the_log_is_the_site;
 pub use page_log::{PageEnd, PageLog, PageName, Told, Unwatched, Watch};
 pub use site::Site;
 pub use site_edits::StoreFault;
 pub use site_replies::{Refusal, ServeFault, SiteReply};
+pub use site_serving::{Commands, LineReply};

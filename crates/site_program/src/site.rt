@@ -3,7 +3,7 @@ ghost use Rattle.std.specs.Prelude.{◌≡◌, ◌≤◌, IfOk};
 ghost use Rattle.site_commands.specs.Asked.{asked_by};
 ghost use Rattle.site_replies.specs.Reply.{reply_data};
 
-use crate::line_reply::{LineReply, is_done, is_edit};
+use crate::edits::{is_done, is_edit};
 use crate::setup::Setup;
 use crate::state::SiteState;
 use crate::stored::SiteStore;
@@ -14,6 +14,7 @@ use post_tables::Tables;
 use site_commands::{Command, read_command, read_line};
 use site_edits::StoreFault;
 use site_replies::{Refusal, SiteReply};
+use site_serving::LineReply;
 use std::alloc::Global;
 use template_parts::OpenPages;
 
@@ -21,10 +22,15 @@ use template_parts::OpenPages;
 ///
 /// It borrows the plugins. Contracts see its stored rows, its open pages, and its setup, which no
 /// command changes.
-#[derive(Drop)]
 pub struct Site<'p, S> {
     pub(crate) setup: Setup<'p, S>,
     pub(crate) state: SiteState,
+}
+
+impl<'p, S> Drop for Site<'p, S> {
+    fn drop(self) {
+        let Site { setup: _, state: _ } = self;
+    }
 }
 
 impl<'p, S: Stated> Site<'p, S> {
@@ -86,10 +92,10 @@ impl<'p, S: Stated> Site<'p, S> {
         self.state.stored.limit_steps(limit);
     }
 
-    /// Returns the lines that rebuild the site's rows, each without its newline: a site that has
-    /// just begun and carries them out stores the same posts, options, templates and active
-    /// plugins, and has given the same largest ID. The site stays as it is. It fails as
-    /// `OutOfMemory` if memory runs out, and as `Store` only under a limit on steps.
+    /// Returns the short lines of the site's rows, each without its newline. That a new site which
+    /// carries them out stores the same posts, options, templates and active plugins, and has given
+    /// the same largest ID, is tested. The site stays as it is. It fails as `OutOfMemory` if memory
+    /// runs out, and as `Store` only under a limit on steps.
     pub fn history(&mut self) -> Result<Vec<String>, StoreFault>
         ensures lines { IfOk result
             (λ lines. IsHistory (rows_of self.old) (map string_bytes lines.items)) }

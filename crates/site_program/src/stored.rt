@@ -67,7 +67,7 @@ impl SiteStore {
         self.tables.limit_steps(limit);
     }
 
-    /// Returns the lines that rebuild the rows. What is kept of the rows stays, since none changes.
+    /// Returns the short lines of the rows. What is kept of the rows stays, since none changes.
     pub(crate) fn history(&mut self, alloc: Global) -> Result<Vec<String>, StoreFault>
         ensures lines { IfOk result (λ lines. IsHistory self.old (map string_bytes lines.items)) }
         ensures short { FitsLines self.old

@@ -51,8 +51,8 @@ impl<'p, S: Stated> Setup<'p, S> {
         self.plugins.owner(callback)
     }
 
-    /// Gives the log the invocation that a page's last turn made. What memory runs out for is left
-    /// out.
+    /// Gives the log the invocation of the innermost frame of a page. If memory runs out, nothing is
+    /// told.
     fn tell_invocation<'t, V: Watch>(
         &'t self,
         page: &'t OpenPage,

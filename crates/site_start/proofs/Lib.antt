@@ -1,2 +1,1 @@
-pub mod LogAndSite
 pub mod Replaying

@@ -1,6 +1,6 @@
 -- Lines that were carried out, and those that are left.
 use Rattle.std.proofs.Common.{◌≡◌, ℕ, ◌+◌, ◌∙◌, List, [], ◌∷◌, ◌++◌, refl, sym, ap, map, take, drop, append_assoc, append-nil, take-append-drop, length, ◌<◌}
-use Rattle.std.proofs.Common.{get_or, subst, true, suc, arith, ◌≤◌, Result, Ok, Err}
+use Rattle.std.proofs.Common.{Bool, get_or, subst, true, suc, arith, ◌≤◌, Result, Ok, Err}
 use Rattle.std.specs.Prelude.{OnOk, OnErr}
 use Rattle.std.proofs.lemmas.List.{take_more, map-append}
 use Rattle.std.proofs.lemmas.List.Elements.{All-append, All-cons, All-nil}
@@ -11,12 +11,9 @@ use Rattle.sqlite.specs.Tree.{Trees}
 use Rattle.command_log.specs.Lines.{IsOpen}
 use Rattle.command_log.proofs.States.{ShutsIfDirty, clean_of}
 use Rattle.site_replies.specs.Reply.{ReplyData}
-use Rattle.site_program.specs.History.{site_after}
-use Rattle.site_commands.specs.Worked.{line_command}
-use Rattle.site_program.specs.State.{State}
-use Rattle.site_program.specs.Step.{is_edit}
+use Rattle.site_serving.specs.Served.{state_after}
+use Rattle.site_serving.proofs.Histories.{state_after-append}
 use Rattle.site_start.specs.Started.{AreEdits}
-use Rattle.site_start.proofs.LogAndSite.{site_after-append}
 
 -- the texts of one item more
 pub texts_more : {X : Type 0} (f : X → List ℕ) (lines : List X) (i : ℕ) (line : X) → i < length lines → line ≡ get_or lines i line
@@ -26,32 +23,32 @@ texts_more f lines i line inside is =
     ap (map f) taken ∙ map-append f (take i lines) (line ∷ [])
 
 -- one line more is an edit
-pub edits_more : {X : Type 0} (f : X → List ℕ) (lines : List X) (i : ℕ) (line : X) → i < length lines → line ≡ get_or lines i line
-    → AreEdits (map f (take i lines)) → is_edit (line_command (f line)) ≡ true → AreEdits (map f (take (i + 1) lines))
-edits_more f lines i line inside is before one =
-    let P : List ℕ → Type 0 = λ text. is_edit (line_command text) ≡ true in
-    subst AreEdits (sym (texts_more f lines i line inside is)) (All-append P (map f (take i lines)) (f line ∷ []) before
+pub edits_more : {X : Type 0} (edits : List ℕ → Bool) (f : X → List ℕ) (lines : List X) (i : ℕ) (line : X) → i < length lines → line ≡ get_or lines i line
+    → AreEdits edits (map f (take i lines)) → edits (f line) ≡ true → AreEdits edits (map f (take (i + 1) lines))
+edits_more edits f lines i line inside is before one =
+    let P : List ℕ → Type 0 = λ text. edits text ≡ true in
+    subst (AreEdits edits) (sym (texts_more f lines i line inside is)) (All-append P (map f (take i lines)) (f line ∷ []) before
     (All-cons P (f line) [] one (All-nil P)))
 
-module _ (steps : State → List ℕ → State × ReplyData) where
+module _ {S : Type 0} (steps : S → List ℕ → S × ReplyData) where
   -- one more line was carried out
-  pub one_more : {X : Type 0} (f : X → List ℕ) (first mid new : State) (lines : List X) (i : ℕ) (line : X) → i < length lines → line ≡ get_or lines i line
-      → mid ≡ site_after steps first (map f (take i lines)) → new ≡ (steps mid (f line)).0 → new ≡ site_after steps first (map f (take (i + 1) lines))
+  pub one_more : {X : Type 0} (f : X → List ℕ) (first mid new : S) (lines : List X) (i : ℕ) (line : X) → i < length lines → line ≡ get_or lines i line
+      → mid ≡ state_after steps first (map f (take i lines)) → new ≡ (steps mid (f line)).0 → new ≡ state_after steps first (map f (take (i + 1) lines))
   one_more f first mid new lines i line inside is before done =
-      done ∙ ap (λ site. (steps site (f line)).0) before ∙ sym (site_after-append steps first (map f (take i lines)) (f line ∷ []))
-      ∙ ap (site_after steps first) (sym (texts_more f lines i line inside is))
+      done ∙ ap (λ site. (steps site (f line)).0) before ∙ sym (state_after-append steps first (map f (take i lines)) (f line ∷ []))
+      ∙ ap (state_after steps first) (sym (texts_more f lines i line inside is))
 
   -- a batch more was carried out
-  pub batch_more : (first mid new : State) (lines before left batch next : List (List ℕ)) (limit : ℕ) → lines ≡ before ++ left → mid
-      ≡ site_after steps first before
-      → AreEdits before → batch ≡ take limit left → next ≡ drop limit left → new ≡ site_after steps mid batch → AreEdits batch
-      → (done : List (List ℕ)) × (lines ≡ done ++ next) × (new ≡ site_after steps first done) × AreEdits done
-  batch_more first mid new lines before left batch next limit whole made early took rest did late =
+  pub batch_more : (edits : List ℕ → Bool) (first mid new : S) (lines before left batch next : List (List ℕ)) (limit : ℕ) → lines ≡ before ++ left → mid
+      ≡ state_after steps first before
+      → AreEdits edits before → batch ≡ take limit left → next ≡ drop limit left → new ≡ state_after steps mid batch → AreEdits edits batch
+      → (done : List (List ℕ)) × (lines ≡ done ++ next) × (new ≡ state_after steps first done) × AreEdits edits done
+  batch_more edits first mid new lines before left batch next limit whole made early took rest did late =
       let cut : left ≡ batch ++ next = sym (take-append-drop limit left) ∙ ap (λ b. b ++ drop limit left) (sym took) ∙ ap (λ n. batch ++ n) (sym rest) in (
         before ++ batch,
         whole ∙ ap (λ l. before ++ l) cut ∙ sym (append_assoc before batch next),
-        did ∙ ap (λ site. site_after steps site batch) made ∙ sym (site_after-append steps first before batch),
-        All-append (λ text. is_edit (line_command text) ≡ true) before batch early late,
+        did ∙ ap (λ site. state_after steps site batch) made ∙ sym (state_after-append steps first before batch),
+        All-append (λ text. edits text ≡ true) before batch early late,
       )
 
 -- an empty batch is the last one

@@ -1,6 +1,5 @@
 //! Why a site cannot be started from its log.
 use command_log::LogFault;
-use site_program::StoreFault;
 use site_replies::Refusal;
 use std::alloc::AllocError;
 use thiserror::Error;
@@ -29,7 +28,7 @@ pub enum StartFault {
     NotAnEdit {
         line: u64,
     },
-    /// Lines that should rebuild the site made another one.
+    /// The short lines made a site with other short lines.
     #[error("the short history makes another site, so the long one is kept")]
     NotRebuilt,
 }
@@ -58,15 +57,6 @@ impl From<LogFault> for StartFault {
 
     fn from(fault: LogFault) -> StartFault {
         StartFault::Log(fault)
-    }
-}
-
-impl From<StoreFault> for StartFault {
-    fn from(fault: StoreFault) -> StartFault {
-        match fault {
-            StoreFault::OutOfMemory => StartFault::Log(LogFault::OutOfMemory),
-            StoreFault::Store => StartFault::Log(LogFault::Store),
-        }
     }
 }
 

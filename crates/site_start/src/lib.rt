@@ -5,12 +5,10 @@
 mod compacting;
 mod fault;
 mod identity;
-mod law;
 mod opening;
 mod replay;
 
 pub use compacting::{compact, compact_file};
 pub use fault::StartFault;
 pub use identity::identity_of;
-pub use law::the_log_is_the_site;
 pub use opening::{open_site, start};

@@ -6,35 +6,33 @@ ghost use Rattle.sqlite.specs.State.{HasCleanDisk, Survives};
 ghost use Rattle.sqlite.specs.WalFiles.{image_at};
 ghost use Rattle.command_log.specs.Found.{ReadsLines};
 ghost use Rattle.command_log.specs.Lines.{IsOpen, IsAppended, KeepsLines, lines_of};
-ghost use Rattle.site_program.specs.History.{site_after};
-ghost use Rattle.site_program.specs.Site.{setup_of, state_of};
-ghost use Rattle.site_program.specs.Step.{steps_of};
+ghost use Rattle.site_serving.specs.Served.{state_after};
 ghost use Rattle.site_start.specs.Started.{HasEdits, IsOfAnother, IsTakenOver};
 ghost use Rattle.site_start.specs.declared.fault.StartFault.TheVariants.{OtherProgram};
 
 use crate::fault::StartFault;
 use crate::replay::{introduce, replay};
-use callback_store::Stated;
 use command_log::{CommandLog, LogFault, LogPlace};
-use site_program::Site;
+use site_serving::Commands;
 use sqlite::{FileFrom, FileStore, Start};
 use sqlite_trees::store::Alter;
 use std::alloc::Global;
 
 /// Opens the log in a file, or makes it, and carries out its lines in the site, as [`start`] does.
-/// What the files held as they were opened is `S`, and so is what a torn write may leave of them.
-pub fn open_site<P: Stated, S: Start>(
+/// What the files held as they were opened is `S`, and so is what a torn write may leave of them. It
+/// has neither the clause `err` nor `survives` of [`start`].
+pub fn open_site<C: Commands, S: Start>(
     rt: &HostRuntime,
     path: &str,
     files: S,
-    site: &mut Site<'_, P>,
+    site: &mut C,
     identity: &str,
 ) -> Result<CommandLog<FileStore<FileFrom<S>>>, StartFault>
     // The site is what the lines of the log make of it.
     ensures replayed { IfOk result (λ log. HasCleanDisk (state over_files log)
-        → state_of P.says P.number site.new
-        ≡ site_after (steps_of P.says P.number (setup_of site.old))
-        (state_of P.says P.number site.old)
+        → C.state site.new
+        ≡ state_after (C.steps (C.fixed site.old))
+        (C.state site.old)
         (lines_of over_files log)) }
 
     // They are the lines that the files held, or the identity alone if they held none.
@@ -42,10 +40,10 @@ pub fn open_site<P: Stated, S: Start>(
         → (held : List (List ℕ)) × ReadsLines (image_at S.Start) held
         × IsTakenOver identity.now held (lines_of over_files log)) }
     ensures edits { IfOk result (λ log. HasCleanDisk (state over_files log)
-        → HasEdits identity.now (lines_of over_files log)) }
+        → HasEdits C.edits identity.now (lines_of over_files log)) }
     ensures opened { IfOk result (λ log. HasCleanDisk (state over_files log)
         → IsOpen over_files log) }
-    ensures setup { setup_of site.new ≡ setup_of site.old }
+    ensures fixed { C.fixed site.new ≡ C.fixed site.old }
 {
     let mut log = CommandLog::open(rt, path, files)?;
     start(rt.alloc(), site, &mut log, identity)?;
@@ -56,22 +54,22 @@ pub fn open_site<P: Stated, S: Start>(
 /// identity, and each later one an edit that is done; a log without a line gets the identity.
 ///
 /// On `Err` some of the lines were carried out, so the site is of no further use.
-pub fn start<P: Stated, S: Alter>(
+pub fn start<C: Commands, S: Alter>(
     alloc: Global,
-    site: &mut Site<'_, P>,
+    site: &mut C,
     log: &mut CommandLog<S>,
     identity: &str,
 ) -> Result<(), StartFault>
     // The site is what the lines of the log make of it.
     ensures replayed { HasCleanDisk (state S.Store log.new)
-        → OnOk result (state_of P.says P.number site.new
-        ≡ site_after (steps_of P.says P.number (setup_of site.old))
-        (state_of P.says P.number site.old)
+        → OnOk result (C.state site.new
+        ≡ state_after (C.steps (C.fixed site.old))
+        (C.state site.old)
         (lines_of S.Store log.new)) }
     ensures lines { HasCleanDisk (state S.Store log.new) → OnOk result
         (IsTakenOver identity.now (lines_of S.Store log.old) (lines_of S.Store log.new)) }
     ensures edits { HasCleanDisk (state S.Store log.new) → OnOk result
-        (HasEdits identity.now (lines_of S.Store log.new)) }
+        (HasEdits C.edits identity.now (lines_of S.Store log.new)) }
     ensures opened { HasCleanDisk (state S.Store log.new) → OnOk result (IsOpen S.Store log.new) }
 
     // It is another program's log only if its first line is another one.
@@ -86,7 +84,7 @@ pub fn start<P: Stated, S: Alter>(
     // A crash leaves what it could leave before, or a log that has the identity alone.
     ensures survives { Survives (state S.Store log.old) (state S.Store log.new)
         (KeepsLines (identity.now ∷ [])) }
-    ensures setup { setup_of site.new ≡ setup_of site.old }
+    ensures fixed { C.fixed site.new ≡ C.fixed site.old }
 {
     let first = log.read_batch(LogPlace::start(), 1)?;
     match first.lines.as_slice() {
@@ -96,7 +94,7 @@ pub fn start<P: Stated, S: Alter>(
         }
         [line, ..] => {
             introduce(site, line.as_str(), identity)?;
-            replay(alloc, site, log, first.next)
+            replay(site, log, first.next)
         }
     }
 }

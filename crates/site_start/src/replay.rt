@@ -4,127 +4,95 @@ ghost use Rattle.std.specs.String.{string_bytes};
 ghost use Rattle.sqlite.specs.Held.{state};
 ghost use Rattle.sqlite.specs.State.{HasCleanDisk, Survives};
 ghost use Rattle.command_log.specs.Lines.{IsOpen, lines_left};
-ghost use Rattle.site_program.specs.History.{site_after};
-ghost use Rattle.site_program.specs.Site.{setup_of, state_of};
-ghost use Rattle.site_commands.specs.Worked.{line_command};
-ghost use Rattle.site_program.specs.Step.{is_edit, steps_of};
+ghost use Rattle.site_serving.specs.Served.{state_after};
 ghost use Rattle.site_start.specs.Started.{AreEdits};
 ghost use Rattle.site_start.specs.declared.fault.StartFault.TheVariants.{OtherProgram};
 
 use crate::fault::StartFault;
-use callback_store::Stated;
 use command_log::{CommandLog, LogFault, LogPlace};
-use site_commands::{Command, read_command, read_line};
-use site_program::Site;
+use page_log::Unwatched;
 use site_replies::{Refusal, SiteReply};
+use site_serving::Commands;
 use sqlite_trees::store::Alter;
-use std::alloc::Global;
 
 // How many lines are read at a time.
 const BATCH: u32 = 1_000;
 
 /// Carries out the first line of a log, which has to be the identity. No site takes it for a
 /// command.
-pub(crate) fn introduce<P: Stated>(
-    site: &mut Site<'_, P>,
+pub(crate) fn introduce<C: Commands>(
+    site: &mut C,
     line: &str,
     identity: &str,
 ) -> Result<(), StartFault>
-    ensures done { OnOk result (state_of P.says P.number site.new
-        ≡ (steps_of P.says P.number (setup_of site.old) (state_of P.says P.number site.old)
-        line.now).0) }
+    ensures done { OnOk result (C.state site.new
+        ≡ (C.steps (C.fixed site.old) (C.state site.old) line.now).0) }
     ensures same { OnOk result (line.now ≡ identity.now) }
     ensures other { IfErr result (λ fault. fault ≡ OtherProgram → line.now ≢ identity.now) }
-    ensures setup { setup_of site.new ≡ setup_of site.old }
+    ensures fixed { C.fixed site.new ≡ C.fixed site.old }
 {
     if line != identity {
         return Err(StartFault::OtherProgram);
     }
-    match site.command(line.as_bytes()) {
+    match site.carry_out(line.as_bytes(), &mut Unwatched).reply {
         SiteReply::Refused(Refusal::BadCommand) => Ok(()),
         SiteReply::Refused(refusal) => Err(StartFault::refused(1, refusal)),
         _ => Err(StartFault::NotAnEdit { line: 1 }),
     }
 }
 
-/// Returns whether a line is an edit: a command that may change what is stored.
-fn is_edit(alloc: Global, line: &str) -> Result<bool, StartFault>
-    ensures edits { IfOk result (λ edits. edits ≡ is_edit (line_command line.now)) }
-    ensures fault { IfErr result (λ fault. fault ≢ OtherProgram) }
-{
-    let tree = match read_line(alloc, line.as_bytes()) {
-        Ok(Some(tree)) => tree,
-        Ok(None) => return Ok(false),
-        Err(_) => return Err(StartFault::Log(LogFault::OutOfMemory)),
-    };
-    match read_command(&tree) {
-        None | Some(Command::Get { .. } | Command::Begin { .. } | Command::Turns { .. }) => Ok(
-            false,
-        ),
-        Some(_) => Ok(true),
-    }
-}
-
 /// Carries out one more line of a log, which has to be an edit that is done.
-fn redo<P: Stated>(
-    alloc: Global,
-    site: &mut Site<'_, P>,
-    number: u64,
-    line: &str,
-) -> Result<(), StartFault>
-    ensures done { OnOk result (state_of P.says P.number site.new
-        ≡ (steps_of P.says P.number (setup_of site.old) (state_of P.says P.number site.old)
-        line.now).0) }
-    ensures edit { OnOk result (is_edit (line_command line.now) ≡ true) }
+fn redo<C: Commands>(site: &mut C, number: u64, line: &str) -> Result<(), StartFault>
+    ensures done { OnOk result (C.state site.new
+        ≡ (C.steps (C.fixed site.old) (C.state site.old) line.now).0) }
+    ensures edit { OnOk result (C.edits line.now ≡ true) }
     ensures fault { IfErr result (λ fault. fault ≢ OtherProgram) }
-    ensures setup { setup_of site.new ≡ setup_of site.old }
+    ensures fixed { C.fixed site.new ≡ C.fixed site.old }
 {
-    let edits = is_edit(alloc, line)?;
-    match site.command(line.as_bytes()) {
-        SiteReply::Ok | SiteReply::OkId(_) if edits => Ok(()),
+    let replied = site.carry_out(line.as_bytes(), &mut Unwatched);
+    match replied.reply {
+        SiteReply::Ok | SiteReply::OkId(_) if replied.is_kept => Ok(()),
         SiteReply::Refused(refusal) => Err(StartFault::refused(number, refusal)),
         _ => Err(StartFault::NotAnEdit { line: number }),
     }
 }
 
 /// Carries out lines that follow `count` others, and counts them.
-pub(crate) fn redo_all<P: Stated>(
-    alloc: Global,
-    site: &mut Site<'_, P>,
+pub(crate) fn redo_all<C: Commands>(
+    site: &mut C,
     count: &mut u64,
     lines: &[String],
 ) -> Result<(), StartFault>
-    ensures done { OnOk result (state_of P.says P.number site.new
-        ≡ site_after (steps_of P.says P.number (setup_of site.old))
-        (state_of P.says P.number site.old)
+    ensures done { OnOk result (C.state site.new
+        ≡ state_after (C.steps (C.fixed site.old))
+        (C.state site.old)
         (map string_bytes lines.now)) }
-    ensures edits { OnOk result (AreEdits (map string_bytes lines.now)) }
+    ensures edits { OnOk result (AreEdits C.edits (map string_bytes lines.now)) }
     ensures fault { IfErr result (λ fault. fault ≢ OtherProgram) }
-    ensures setup { setup_of site.new ≡ setup_of site.old }
+    ensures fixed { C.fixed site.new ≡ C.fixed site.old }
 {
     for line in lines {
         *count = count.saturating_add(1);
-        redo(alloc, site, *count, line.as_str())?;
+        redo(site, *count, line.as_str())?;
     }
     Ok(())
 }
 
 /// Carries out the lines of a log after its first, which the place follows.
-pub(crate) fn replay<P: Stated, S: Alter>(
-    alloc: Global,
-    site: &mut Site<'_, P>,
+pub(crate) fn replay<C: Commands, S: Alter>(
+    site: &mut C,
     log: &mut CommandLog<S>,
     first: LogPlace,
 ) -> Result<(), StartFault>
     ensures done { HasCleanDisk (state S.Store log.new)
-        → OnOk result (state_of P.says P.number site.new
-        ≡ site_after (steps_of P.says P.number (setup_of site.old))
-        (state_of P.says P.number site.old)
+        → OnOk result (C.state site.new
+        ≡ state_after (C.steps (C.fixed site.old))
+        (C.state site.old)
         (lines_left S.Store log.old first)) }
     ensures edits { HasCleanDisk (state S.Store log.new) → OnOk result
-        (AreEdits (lines_left S.Store log.old first)) }
+        (AreEdits C.edits (lines_left S.Store log.old first)) }
     ensures fault { IfErr result (λ fault. fault ≢ OtherProgram) }
-    ensures setup { setup_of site.new ≡ setup_of site.old }
+    ensures fixed { C.fixed site.new ≡ C.fixed site.old }
     ensures opened { HasCleanDisk (state S.Store log.new) → OnOk result (IsOpen S.Store log.new) }
     ensures same { IsOpen S.Store log.new
         → (state S.Store log.new).committed ≡ (state S.Store log.old).committed }
@@ -138,7 +106,7 @@ pub(crate) fn replay<P: Stated, S: Alter>(
         if batch.lines.is_empty() {
             return Ok(());
         }
-        redo_all(alloc, site, &mut count, &batch.lines)?;
+        redo_all(site, &mut count, &batch.lines)?;
         place = batch.next;
     }
     Err(StartFault::Log(LogFault::Damaged))

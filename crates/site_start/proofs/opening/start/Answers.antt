@@ -8,10 +8,7 @@ use Rattle.sqlite.specs.State.{HasCleanDisk}
 use Rattle.sqlite.proofs.StateLemmas.{survives_then}
 use Rattle.command_log.proofs.States.{clean_of}
 use Rattle.command_log.specs.Lines.{IsOpen, KeepsLines, lines_after, lines_in, lines_left, lines_of}
-use Rattle.site_program.specs.History.{site_after}
-use Rattle.site_program.specs.Site.{setup_of, state_of}
-use Rattle.site_commands.specs.Worked.{line_command}
-use Rattle.site_program.specs.Step.{is_edit, steps_of}
+use Rattle.site_serving.specs.Served.{state_after}
 use Rattle.site_start.specs.Started.{AreEdits, IsOfAnother, IsTakenOver}
 use Rattle.site_start.proofs.Replaying.{clean_before, first_left, none_left, on_every_err, on_ok_both}
 use Rattle.site_start.proofs.opening.start.Given.{Over}
@@ -42,9 +39,9 @@ alone g c clean =
 
 pub returns-in-empty-clause-replayed : goal.returns-in-empty-clause-replayed
 returns-in-empty-clause-replayed g c = λ clean.
-    let steps = steps_of g.P.Stated.says g.P.Stated.number (setup_of c.args.site.now) in
-    let old = state_of g.P.Stated.says g.P.Stated.number c.args.site.now in
-    on_ok_weaker c.append_first.result (λ one. c.in_ok-introduce-in-empty.ensures.done ∙ ap (site_after steps old) (sym one)) (alone g c clean)
+    let steps = g.C.Commands.steps (g.C.Commands.fixed c.args.site.now) in
+    let old = g.C.Commands.state c.args.site.now in
+    on_ok_weaker c.append_first.result (λ one. c.in_ok-introduce-in-empty.ensures.done ∙ ap (state_after steps old) (sym one)) (alone g c clean)
 
 pub returns-in-empty-clause-lines : goal.returns-in-empty-clause-lines
 returns-in-empty-clause-lines g c = λ clean.
@@ -102,21 +99,21 @@ left_after g c early =
 pub returns-clause-replayed : goal.returns-clause-replayed
 returns-clause-replayed g c = λ clean.
     let store = g.S.Store in
-    let seen = state_of g.P.Stated.says g.P.Stated.number in
+    let seen = g.C.Commands.state in
     let old = seen c.args.site.now in
     let early = clean_before store c.read_batch.new.self c.replay.new.log _ c.replay.ensures.survives clean in
     let intro = c.in_ok-introduce-in-len1-up.ensures in
     let left = left_after g c early in
     on_ok_both c.replay.result
     (λ done up.
-    done ∙ ap (λ setup. site_after (steps_of g.P.Stated.says g.P.Stated.number setup) (seen c.introduce-in-len1-up.new.site)
-    (lines_left store c.read_batch.new.self c.in_ok-first.first.next)) intro.setup
-    ∙ ap (λ site. site_after (steps_of g.P.Stated.says g.P.Stated.number (setup_of c.args.site.now)) site
+    done ∙ ap (λ fixed. state_after (g.C.Commands.steps fixed) (seen c.introduce-in-len1-up.new.site)
+    (lines_left store c.read_batch.new.self c.in_ok-first.first.next)) intro.fixed
+    ∙ ap (λ site. state_after (g.C.Commands.steps (g.C.Commands.fixed c.args.site.now)) site
     (lines_left store c.read_batch.new.self c.in_ok-first.first.next)) intro.done
-    ∙ ap (site_after (steps_of g.P.Stated.says g.P.Stated.number (setup_of c.args.site.now))
-    (steps_of g.P.Stated.says g.P.Stated.number (setup_of c.args.site.now) old c.as_str.result.now).0)
+    ∙ ap (state_after (g.C.Commands.steps (g.C.Commands.fixed c.args.site.now))
+    (g.C.Commands.steps (g.C.Commands.fixed c.args.site.now) old c.as_str.result.now).0)
     left
-    ∙ ap (site_after (steps_of g.P.Stated.says g.P.Stated.number (setup_of c.args.site.now)) old) (sym (still g c up early ∙ first_read g c early)))
+    ∙ ap (state_after (g.C.Commands.steps (g.C.Commands.fixed c.args.site.now)) old) (sym (still g c up early ∙ first_read g c early)))
     (c.replay.ensures.done clean) (c.replay.ensures.opened clean)
 
 pub returns-clause-lines : goal.returns-clause-lines
@@ -138,7 +135,7 @@ returns-clause-err g c = λ up.
 
 pub returns-in-empty-clause-edits : goal.returns-in-empty-clause-edits
 returns-in-empty-clause-edits g c = λ clean.
-    on_ok_weaker c.append_first.result (λ one. ([], one, All-nil (λ line. is_edit (line_command line) ≡ true))) (alone g c clean)
+    on_ok_weaker c.append_first.result (λ one. ([], one, All-nil (λ line. g.C.Commands.edits line ≡ true))) (alone g c clean)
 
 pub returns-clause-edits : goal.returns-clause-edits
 returns-clause-edits g c = λ clean.
@@ -148,7 +145,7 @@ returns-clause-edits g c = λ clean.
     (λ edits up. (
       drop 1 lines,
       still g c up early ∙ first_read g c early ∙ ap (λ text. text ∷ drop 1 lines) c.in_ok-introduce-in-len1-up.ensures.same,
-      subst AreEdits (left_after g c early) edits,
+      subst (AreEdits g.C.Commands.edits) (left_after g c early) edits,
     )) (c.replay.ensures.edits clean) (c.replay.ensures.opened clean)
 
 -- ---- another program's log has another first line

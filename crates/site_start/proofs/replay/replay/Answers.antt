@@ -5,9 +5,7 @@ use Rattle.sqlite.specs.Held.{state}
 use Rattle.sqlite.proofs.StateLemmas.{survives_then}
 use Rattle.command_log.proofs.States.{clean_of}
 use Rattle.command_log.specs.Lines.{lines_after, lines_left}
-use Rattle.site_program.specs.History.{site_after}
-use Rattle.site_program.specs.Site.{setup_of, state_of}
-use Rattle.site_program.specs.Step.{steps_of}
+use Rattle.site_serving.specs.Served.{state_after}
 use Rattle.site_start.specs.Started.{AreEdits}
 use Rattle.site_start.proofs.Replaying.{batch_more, clean_before, nothing_left, same_then}
 use Rattle.site_start.proofs.replay.replay.Goals as goal
@@ -40,7 +38,7 @@ returns-then-is_empty-clause-edits g c = λ clean.
     let items = c.in_ok-batch.batch.lines.items in
     let none : length items < 1 = let zero = eqb-true (vec_len c.in_ok-batch.batch.lines) 0 (sym c.is_empty.ensures ∙ c.if-is_empty.true) in
     let same = c.in_ok-batch.batch.lines.ok.0 in omega (arith, zero, same) in
-    subst AreEdits
+    subst (AreEdits g.C.Commands.edits)
     (sym (nothing_left string_bytes items (lines_left store c.args.log.now c.args.first) before.0
     (lines_left store c.batches.log c.batches.place) 999 before.1 (read.ok clean) none))
     before.3
@@ -49,7 +47,7 @@ returns-then-is_empty-clause-edits g c = λ clean.
 pub batches-preserved : goal.batches-preserved
 batches-preserved g c =
     let store = g.S.Store in
-    let seen = state_of g.P.Stated.says g.P.Stated.number in
+    let seen = g.C.Commands.state in
     let first = c.args.log.now in
     let mid = c.batches.log in
     let new = c.read_batch.new.self in
@@ -58,20 +56,20 @@ batches-preserved g c =
     let did = c.in_ok-redo_all.ensures in
     let lines = map string_bytes c.in_ok-batch.batch.lines.items in
     record {
-      setup = did.setup ∙ i.setup;
+      fixed = did.fixed ∙ i.fixed;
       survives = survives_then (state store first) (state store mid) (state store new) _ _ (λ _. ⊥) (λ _ db none. none) (λ _ db none. none) i.survives
           read.survives;
       same = λ clean. read.committed (read.stays clean) ∙ i.same (clean_before store mid new _ read.survives clean);
       done = λ clean.
           let before = i.done (clean_before store mid new _ read.survives clean) in
           let left = ap (λ d. lines_after c.in_ok-batch.batch.next d.trees) (read.committed (read.stays clean)) ∙ read.left clean in
-          let made = did.done ∙ ap (λ setup. site_after (steps_of g.P.Stated.says g.P.Stated.number setup) (seen c.batches.site)
-          (map string_bytes c.deref.result.now)) i.setup
-          ∙ ap (λ xs. site_after (steps_of g.P.Stated.says g.P.Stated.number (setup_of c.args.site.now)) (seen c.batches.site) (map string_bytes xs))
+          let made = did.done ∙ ap (λ fixed. state_after (g.C.Commands.steps fixed) (seen c.batches.site)
+          (map string_bytes c.deref.result.now)) i.fixed
+          ∙ ap (λ xs. state_after (g.C.Commands.steps (g.C.Commands.fixed c.args.site.now)) (seen c.batches.site) (map string_bytes xs))
           c.deref.ensures.value in
-          batch_more (steps_of g.P.Stated.says g.P.Stated.number (setup_of c.args.site.now)) (seen c.args.site.now) (seen c.batches.site)
+          batch_more (g.C.Commands.steps (g.C.Commands.fixed c.args.site.now)) g.C.Commands.edits (seen c.args.site.now) (seen c.batches.site)
           (seen c.redo_all.new.site) (lines_left store first c.args.first)
           before.0 (lines_left store mid c.batches.place) lines (lines_left store new c.in_ok-batch.batch.next) 1000 before.1 before.2 before.3
           (read.ok clean) left made
-          (subst (λ xs. AreEdits (map string_bytes xs)) c.deref.ensures.value did.edits);
+          (subst (λ xs. AreEdits g.C.Commands.edits (map string_bytes xs)) c.deref.ensures.value did.edits);
     }

@@ -1,0 +1,87 @@
+//! What the command-line arguments ask for.
+ghost use Rattle.std.specs.Prelude.{◌≤◌};
+
+use crate::serving::{serve, serve_file};
+use callback_store::{Plugins, Stated};
+use site_args::{ArgsAnswer, Task, read_args};
+use site_program::{Site, StoreFault};
+use site_start::identity_of;
+use site_tasks::{compact, export, failed};
+use std::process::ExitCode;
+use std::{env, io};
+
+/// Does what the command-line arguments ask for, with a site over these plugins, and returns the
+/// program's exit status: 0 if all went well, 1 after a fault and 2 after bad arguments, each with
+/// a line on standard error.
+pub fn run<S: Stated>(rt: &HostRuntime, plugins: &Plugins<S>) -> ExitCode {
+    let words = match words(rt) {
+        Ok(words) => words,
+        Err(error) if error.kind() == io::ErrorKind::InvalidData => {
+            let _ = eprintln!(rt; "error: a command-line argument is not UTF-8");
+            return ExitCode::from(2);
+        }
+        Err(_) => return failed(rt, StoreFault::OutOfMemory),
+    };
+    match read_args(rt.alloc(), &words) {
+        ArgsAnswer::Run {
+            calls,
+            cache,
+            trace,
+            task,
+        } => with_site(rt, plugins, calls, cache, trace, &task),
+        ArgsAnswer::Help(text) => {
+            let _ = print!(rt; "{text}");
+            ExitCode::SUCCESS
+        }
+        ArgsAnswer::Bad(text) => {
+            let _ = eprint!(rt; "{text}");
+            ExitCode::from(2)
+        }
+        ArgsAnswer::OutOfMemory => failed(rt, StoreFault::OutOfMemory),
+    }
+}
+
+/// Returns the command-line arguments.
+fn words(rt: &HostRuntime) -> io::Result<Vec<String>> {
+    let mut words = Vec::new(rt.alloc());
+    for word in env::args(rt)?.skip(1) {
+        words.push(word)?;
+    }
+    Ok(words)
+}
+
+/// Makes an empty site over the plugins, and does the task with it.
+fn with_site<S: Stated>(
+    rt: &HostRuntime,
+    plugins: &Plugins<S>,
+    calls: u32,
+    cache: u32,
+    trace: bool,
+    task: &Task,
+) -> ExitCode
+    requires calls { (1 ≤ calls) × (calls ≤ 100000) }
+    requires cache { (1 ≤ cache) × (cache ≤ 4096) }
+{
+    let alloc = rt.alloc();
+    // Only a file has a first line that names the program.
+    let identity = match task {
+        Task::Serve => Ok(String::new(alloc)),
+        _ => identity_of(alloc, plugins),
+    };
+    let Ok(identity) = identity else {
+        return failed(rt, StoreFault::OutOfMemory);
+    };
+    let identity = identity.as_str();
+    match Site::new(alloc, plugins, calls, cache) {
+        Ok(mut site) => match task {
+            Task::Serve => serve(rt, &mut site, trace),
+            Task::ServeFile(path) => serve_file(rt, &mut site, identity, path.as_str(), trace),
+            Task::Export(path) => export(rt, &mut site, identity, path.as_str()),
+            Task::Compact(path) => match Site::new(alloc, plugins, calls, cache) {
+                Ok(mut copy) => compact(rt, &mut site, &mut copy, identity, path.as_str()),
+                Err(fault) => failed(rt, fault),
+            },
+        },
+        Err(fault) => failed(rt, fault),
+    }
+}

@@ -1,0 +1,7 @@
+pub mod LineLists
+pub mod Histories
+mod Journals
+mod Newlines
+mod Stretches
+mod Endings
+mod Settling

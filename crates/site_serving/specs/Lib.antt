@@ -1,0 +1,5 @@
+pub mod Journaled
+pub mod Lines
+pub mod Served
+pub mod Serving
+pub mod Stretches

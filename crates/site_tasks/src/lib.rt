@@ -1,0 +1,14 @@
+//! What a program does with a site that is kept in a file: it opens the log and shuts it, and
+//! prints or shortens its history.
+//!
+//! Each task ends with the program's exit status, after a line on standard error if something
+//! failed. What carries out the lines is any [`Commands`](site_serving::Commands).
+#![tactic(auto)]
+
+mod files;
+mod history;
+mod status;
+
+pub use files::{FileLog, close_journal, open_journal};
+pub use history::{compact, export};
+pub use status::failed;
