@@ -19,7 +19,7 @@ from exchanges import CHANGE
 
 CRATES = Path(__file__).resolve().parents[1] / "crates"
 SITE = CRATES / "site" / "out" / "site"
-PASSES = CRATES / "engine_bench" / "out" / "engine_bench"
+PASSES = CRATES / "test_bench" / "out" / "test_bench"
 TURNS = 15
 # How many callbacks all passes of one run call, and the smallest number of passes of a run.
 PASSED, FEWEST = 200_000, 20

@@ -26,7 +26,7 @@ class Rejected(Exception):
 
 
 class NoFunction(Rejected):
-    """The crate has no function of the name that an edit says it turns."""
+    """The crate has no function of the name that an edit says it changes."""
 
 
 class Fault(NamedTuple):
@@ -47,20 +47,20 @@ class Said:
             self.errors.setdefault(folder.replace("/", "::"), []).append(Fault(file, int(line), error))
 
     def verdict(self, edit):
-        return self.verdicts.get(f"{edit.crate}::{edit.turns}")
+        return self.verdicts.get(f"{edit.crate}::{edit.function}")
 
     def goals(self, edit):
-        """The names of the turned function's goals that `search` tried and did not prove.
+        """The names of the changed function's goals that `search` tried and did not prove.
 
         A goal that is answered isn't among them: where the answer fails, that tells nothing of the goal."""
         unproved = UNPROVED.match(self.verdict(edit) or "")
         return re.findall("`([^`]*)`", unproved[1]) if unproved else []
 
     def faults(self, edit):
-        """The errors in the turned function's proof; of a recursion, which has one proof, those of all of it."""
+        """The errors in the changed function's proof; of a recursion, which has one proof, those of all of it."""
         if edit.cycle is not None:
             return [it for folder, of in self.errors.items() if folder.endswith(f"+{edit.cycle}") for it in of]
-        return self.errors.get(edit.turns, [])
+        return self.errors.get(edit.function, [])
 
 
 class Toolchain:

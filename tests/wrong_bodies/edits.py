@@ -19,12 +19,12 @@ class BadEdit(Exception):
 
 
 class Edit:
-    """One wrong body: the function that it turns, and the texts that it replaces, as (file, old, new)."""
+    """One wrong body: the function that it changes, and the texts that it replaces, as (file, old, new)."""
 
-    def __init__(self, crate, stem, turns, pairs):
+    def __init__(self, crate, stem, function, pairs):
         self.crate = crate
         self.label = f"{crate}/{stem}"
-        self.turns = turns
+        self.function = function
         self.pairs = pairs
         # Set by read_edits: the recursion that the function is part of, if any; the bodies in which the texts lie, each
         # as its file and the line where its function begins; and whether all lies in bodies, one of them the function's.
@@ -65,10 +65,10 @@ class Edit:
 
 def parsed(crate, path):
     """The edit that a file holds."""
-    turns, file, old, pairs = [], None, None, []
+    functions, file, old, pairs = [], None, None, []
     for line in path.read_text(encoding="utf-8").split("\n"):
-        if line.startswith("turns: "):
-            turns.append(line[len("turns: ") :].strip())
+        if line.startswith("function: "):
+            functions.append(line[len("function: ") :].strip())
         elif line.startswith("file: "):
             file = line[len("file: ") :].strip()
             if not file.startswith(("src/", "specs/", "proofs/")) or ".." in file:
@@ -80,11 +80,11 @@ def parsed(crate, path):
                 raise BadEdit("a 'new:' line comes before any 'file:' or 'old:' line")
             pairs.append((file, old, line[len("new:") :].removeprefix(" ")))
             old = None
-    if len(turns) != 1 or not re.fullmatch(r"[\w:+]+", turns[0]):
-        raise BadEdit("it has not exactly one line 'turns: FUNCTION'")
+    if len(functions) != 1 or not re.fullmatch(r"[\w:+]+", functions[0]):
+        raise BadEdit("it has not exactly one line 'function: FUNCTION'")
     if not pairs:
         raise BadEdit("it has no 'old:' and 'new:' pair")
-    return Edit(crate, path.stem, turns[0], pairs)
+    return Edit(crate, path.stem, functions[0], pairs)
 
 
 def declarations(text):
@@ -174,5 +174,5 @@ def read_edits(crate, folder, path):
         else:
             edit.in_bodies = False
         texts[file] = text.replace(old, new)
-    edit.in_bodies = edit.in_bodies and edit.turns.rpartition("::")[2] in names
+    edit.in_bodies = edit.in_bodies and edit.function.rpartition("::")[2] in names
     return edit

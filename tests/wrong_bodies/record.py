@@ -55,7 +55,7 @@ class Record:
 
     @staticmethod
     def sum_of(basis, edit):
-        return hashed(basis, edit.label, edit.turns, edit.pairs)
+        return hashed(basis, edit.label, edit.function, edit.pairs)
 
     def lacks(self, crate, edits):
         """Those of a crate's edits of which no refusal is recorded that was seen over just what a check would read now."""

@@ -37,10 +37,10 @@ class Round:
     @staticmethod
     def collide(one, other):
         in_one_recursion = one.cycle is not None and one.cycle == other.cycle
-        return one.turns == other.turns or in_one_recursion or not one.bodies.isdisjoint(other.bodies)
+        return one.function == other.function or in_one_recursion or not one.bodies.isdisjoint(other.bodies)
 
     def takes(self, edit):
-        """Adds an edit, if it turns a function, bodies and a recursion of its own and its texts are still there."""
+        """Adds an edit, if it changes a function, bodies and a recursion of its own and its texts are still there."""
         if any(self.collide(it, edit) for it in self.edits):
             return False
         texts = edit.applied(self.texts, self.read)
@@ -61,10 +61,10 @@ def round_of(crate, edits):
 def try_round(toolchain, made, kept):
     """What a check of a round says of its edits, as pairs of an edit and what was said, halved if it can't be read."""
     try:
-        said = toolchain.check(made.crate, made.texts, [it.turns for it in made.edits], kept)
+        said = toolchain.check(made.crate, made.texts, [it.function for it in made.edits], kept)
         return [(it, said) for it in made.edits]
     except Rejected as fault:
-        named = [it for it in made.edits if isinstance(fault, NoFunction) and it.turns == str(fault)]
+        named = [it for it in made.edits if isinstance(fault, NoFunction) and it.function == str(fault)]
         if named:
             others = round_of(made.crate, [it for it in made.edits if it not in named])
             found = [(it, Rejected(f"the crate has no function {fault}")) for it in named]
@@ -80,7 +80,7 @@ def refusal(edit, goals):
     """What is said of an edit that goals refuse: with the names of the clauses that they are of, if there are any,
     and with what was said of the first answer that was set aside."""
     clauses = sorted({it for goal in goals for it in CLAUSE.findall(goal)})
-    by = f"{edit.turns}, clause{'s' * (len(clauses) > 1)} {', '.join(clauses)}" if clauses else edit.turns
+    by = f"{edit.function}, clause{'s' * (len(clauses) > 1)} {', '.join(clauses)}" if clauses else edit.function
     named = ", ".join(f"`{it}`" for it in goals)
     aside = f"; the answer that was set aside: {edit.misfit[:160]}" if edit.aside else ""
     return f"refused by {by}: not proved: {named}{aside}"
@@ -95,15 +95,15 @@ def judged(edit, said):
         return Verdict(False, edit.label, f"BAD EDIT: the prover can't be asked: {said}")
     verdict, goals = said.verdict(edit), said.goals(edit)
     if verdict is None:
-        return Verdict(False, edit.label, f"BAD EDIT: the check has no function {edit.turns}")
+        return Verdict(False, edit.label, f"BAD EDIT: the check has no function {edit.function}")
     if verdict == "proved":
-        return Verdict(False, edit.label, f"NOT REFUSED: {edit.turns} is still proved")
+        return Verdict(False, edit.label, f"NOT REFUSED: {edit.function} is still proved")
     return Verdict(True, edit.label, refusal(edit, goals)) if goals else None
 
 
 def not_shown(edit, said):
     why = "; ".join(" ".join(it.said.split())[:200] for it in said.faults(edit)) or said.verdict(edit)
-    return Verdict(False, edit.label, f"NOT SHOWN: {edit.turns} is not proved, but by no goal of its contract: {why}")
+    return Verdict(False, edit.label, f"NOT SHOWN: {edit.function} is not proved, but by no goal of its contract: {why}")
 
 
 def try_edits(toolchain, crate, edits, kept):

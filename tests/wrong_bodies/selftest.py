@@ -83,7 +83,7 @@ returns-then-follows-clause-less c =
 """,
 }
 
-# The name of each edit, what must be said of it, the function that it turns, and what becomes what.
+# The name of each edit, what must be said of it, the function that it changes, and what becomes what.
 EDITS = [
     # A goal of another name, which holds: its answer names one that isn't there.
     ("renames_a_local", "NOT REFUSED", "is_digit", {"    let some =": "    let any =", "    some && n": "    any && n"}),
@@ -96,9 +96,9 @@ EDITS = [
 ]
 
 
-def text_of(turned, changes):
+def text_of(function, changes):
     """The text of an edit of src/lib.rt."""
-    lines = [f"turns: {turned}", "file: src/lib.rt"]
+    lines = [f"function: {function}", "file: src/lib.rt"]
     for old, new in changes.items():
         lines += [f"old: {old}", f"new: {new}"]
     return "\n".join(lines) + "\n"
@@ -113,8 +113,8 @@ def sample_in(toolchain, room):
     crate = next(it for it in toolchain.crates(room) if it.name == "sample")
     folder = Path(crate.folder, "wrong-bodies")
     folder.mkdir()
-    for stem, _, turned, changes in EDITS:
-        Path(folder, f"{stem}.edit").write_text(text_of(turned, changes), encoding="utf-8")
+    for stem, _, function, changes in EDITS:
+        Path(folder, f"{stem}.edit").write_text(text_of(function, changes), encoding="utf-8")
     return crate
 
 

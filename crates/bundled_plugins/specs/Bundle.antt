@@ -3,7 +3,7 @@ use Rattle.std.specs.Prelude.{ℕ, pos, List, [], ◌∷◌, flat_map, codes}
 use Rattle.hook_changes.specs.declared.reply.Change.{Change}
 use Rattle.hook_changes.specs.declared.reply.Change.TheVariants.{Add, AddTag}
 use Rattle.callback_store.specs.Shape.{Shape}
-use Rattle.hook_changes.specs.Texts.{Text}
+use Rattle.plain_data.specs.Texts.{Text}
 use Rattle.bundled_plugins.specs.Replies.{the_title, wp_footer}
 
 abbrev pub plugin : Text → List Change → List ℕ → Shape

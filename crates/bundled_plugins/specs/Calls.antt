@@ -1,7 +1,7 @@
 -- What a callback finds in its call.
 use Rattle.std.specs.Prelude.{ℕ, true, false, List, [], ◌∷◌, ◌++◌, codes, flat_map}
 use Rattle.std.specs.Fmt.{signed_decimal}
-use Rattle.hook_changes.specs.Texts.{Text}
+use Rattle.plain_data.specs.Texts.{Text}
 use Rattle.hook_changes.specs.declared.reply.Answer.{Answer}
 use Rattle.hook_changes.specs.declared.reply.Answer.TheVariants as answer
 

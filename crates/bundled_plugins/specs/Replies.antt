@@ -10,7 +10,7 @@ use Rattle.hook_changes.specs.declared.reply.Ask.{Ask}
 use Rattle.hook_changes.specs.declared.reply.Ask.TheVariants.{Apply, Act, Shortcodes, Did, Current, Doing, Has, TagExists, GetOption}
 use Rattle.hook_changes.specs.declared.reply.Change.TheVariants.{Add, Remove, RemoveAll, RemoveTag, RemoveAllTags}
 use Rattle.hook_changes.specs.Replies.{answers_text, changes_and_answers, prints_and_answers, changes_and_asks, asks}
-use Rattle.hook_changes.specs.Texts.{Text}
+use Rattle.plain_data.specs.Texts.{Text}
 use Rattle.bundled_plugins.specs.Calls.{first_argument, second_argument, text_in, text_of_answer, text_of_answers}
 
 abbrev pub the_title : Text

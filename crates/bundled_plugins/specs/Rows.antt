@@ -1,7 +1,7 @@
 -- What a row of the tables means: a change, a part of a text, a reply, a plugin.
 use Rattle.std.specs.Prelude.{◌≡◌, ◌==◌, ℕ, Bool, true, false, List, [], ◌∷◌, map, flat_map, length, decimal, Some}
 use Rattle.std.specs.List.{list_any, AllByRecursion}
-use Rattle.hook_changes.specs.Names.{core_name}
+use Rattle.plain_data.specs.Names.{core_name}
 use Rattle.hook_changes.specs.declared.reply.Call.{Call}
 use Rattle.hook_changes.specs.declared.reply.Change.{Change}
 use Rattle.hook_changes.specs.declared.reply.Change.TheVariants as change
@@ -13,7 +13,7 @@ use Rattle.bundled_plugins.specs.declared.rows.TextPart.{TextPart}
 use Rattle.bundled_plugins.specs.declared.rows.TextPart.TheVariants.{Fixed, First, Second, Count, Content}
 use Rattle.bundled_plugins.specs.declared.rows.ReplyRow.{ReplyRow}
 use Rattle.bundled_plugins.specs.declared.shipped.Shipped.{Shipped}
-use Rattle.hook_changes.specs.Texts.{Text}
+use Rattle.plain_data.specs.Texts.{Text}
 use Rattle.bundled_plugins.specs.Calls.{first_argument, second_argument}
 use Rattle.bundled_plugins.specs.Replies.{reply_in, stated_functions}
 use Rattle.bundled_plugins.specs.Bundle.{plugin}

@@ -48,8 +48,8 @@ pub struct ReplyRow {
     pub answers: &'static [TextPart],
 }
 
-/// Copies a text, whose copies then share its memory: a load list is carried out anew for each
-/// request.
+/// Copies a text, whose copies then share its memory: a load list is copied for each page, and
+/// carried out where it isn't that of the page before.
 fn shared(alloc: Global, text: &str) -> Result<Text, AllocError>
     ensures { IfOk result (λ shared. shared ≡ text.now) }
 {

@@ -1,6 +1,6 @@
 //! Passes over a registry, and the changes that it takes meanwhile.
 ghost use Rattle.std.specs.Prelude.{◌≡◌, [], None, IfOk, IsTrue, OnOk, OnErr};
-ghost use Rattle.hook_changes.specs.Names.{is_hook_name};
+ghost use Rattle.plain_data.specs.Names.{is_hook_name};
 ghost use Rattle.call_plans.specs.Changes.{IsApplicable, table_after_change};
 ghost use Rattle.call_plans.specs.Position.{next_entry};
 

@@ -3,7 +3,7 @@ use Rattle.std.proofs.Common.{◌≡◌, ℕ, Bool, true, false, not, ◌||◌, 
 use Rattle.std.specs.Prelude.{if◌then◌else◌}
 use Rattle.std.specs.List.{list_any}
 use Rattle.std.proofs.lemmas.List.{length-map}
-use Rattle.hook_changes.specs.Names.{is_tag_name}
+use Rattle.plain_data.specs.Names.{is_tag_name}
 use Rattle.callback_store.specs.declared.plugins.Plugin.{Plugin}
 use Rattle.callback_store.specs.declared.fault.PluginFault.TheVariants.{TooMany, BadName, SameName, SameCallback}
 use Rattle.callback_store.specs.Shape.{shape_of}

@@ -1,7 +1,7 @@
 -- When plugins are refused.
 use Rattle.std.specs.Prelude.{ℕ, Bool, false, not, ◌||◌, ◌==◌, List, [], ◌∷◌, length, map, flat_map, Option, None, Some, nat_lt, if◌then◌else◌, bytes_eq}
 use Rattle.std.specs.List.{list_any}
-use Rattle.hook_changes.specs.Names.{is_tag_name}
+use Rattle.plain_data.specs.Names.{is_tag_name}
 use Rattle.callback_store.specs.Shape.{Shape}
 use Rattle.callback_store.specs.declared.fault.PluginFault.{PluginFault}
 use Rattle.callback_store.specs.declared.fault.PluginFault.TheVariants.{TooMany, BadName, SameName, SameCallback}

@@ -3,6 +3,7 @@
 
 mod fault;
 mod laws;
+mod ordered;
 mod plugins;
 mod stated;
 

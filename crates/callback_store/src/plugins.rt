@@ -9,7 +9,7 @@ ghost use Rattle.std.specs.List.Sorted.{IsPermutation, IsSortedByKey};
 ghost use Rattle.std.specs.Ordering.{nat_cmp};
 ghost use Rattle.std.specs.Cmp.Lexicographic.{slice_cmp};
 ghost use Rattle.std.specs.Option.{option_copied};
-ghost use Rattle.hook_changes.specs.Names.{is_tag_name};
+ghost use Rattle.plain_data.specs.Names.{is_tag_name};
 ghost use Rattle.callback_store.specs.Shape.{AreInOrder, shape_of, shapes_of, has_callback};
 ghost use Rattle.callback_store.specs.Shape.{is_held};
 ghost use Rattle.callback_store.specs.Shape.{is_held_by, by_name, owner, load_of};
@@ -17,6 +17,7 @@ ghost use Rattle.callback_store.specs.Faults.{has_repeat, is_large, has_same_cal
 ghost use Rattle.callback_store.specs.Faults.{fault_of};
 
 use crate::fault::PluginFault;
+use crate::ordered::Ordered;
 use crate::stated::Stated;
 use hook_changes::{Call, CallbackId, Change, Listed, Reply, Text, is_one_of, is_tag_name};
 use indexmap::IndexSet;
@@ -88,7 +89,7 @@ impl<S: Stated> Plugin<S> {
 /// The plugins that a program brings, each with a name and callbacks that no other has.
 #[derive(Drop)]
 pub struct Plugins<S> {
-    list: Listed<Plugin<S>>,
+    list: Ordered<S>,
     /// By ascending number.
     places: Vec<CallbackPlace>,
 }
@@ -130,18 +131,11 @@ impl<S: Stated> Plugins<S> {
     }
 
     /// Returns the plugins in the order of their names by bytes, in which load lists are carried
-    /// out. `new` has put them in that order already, but no invariant of a type that holds
-    /// callbacks can say so.
-    pub fn by_name(&self, alloc: Global) -> Result<Vec<&Plugin<S>>, AllocError>
-        ensures { IfOk result (λ list. map (λ p. shape_of S.number p.now) list.items
-            ≡ by_name (shapes_of S.number self.entry.now)) }
+    /// out.
+    pub fn by_name(&self) -> &[Plugin<S>]
+        ensures { map (shape_of S.number) result.now ≡ by_name (shapes_of S.number self.entry.now) }
     {
-        let mut list = Vec::new(alloc);
-        for plugin in self.list.as_slice() {
-            list.push(plugin)?;
-        }
-        list.sort_by(|plugin, other| plugin.name.as_str().cmp(other.name.as_str()))?;
-        Ok(list)
+        self.list.in_order()
     }
 
     fn with_callback(&self, id: CallbackId) -> Option<&Plugin<S>>
@@ -369,13 +363,15 @@ fn has_same_name<S>(list: &[Plugin<S>]) -> bool
     false
 }
 
-fn sorted_by_name<S>(list: Listed<Plugin<S>>) -> Listed<Plugin<S>>
+fn sorted_by_name<S>(list: Listed<Plugin<S>>) -> Ordered<S>
     ensures permutation { IsPermutation list result }
     ensures in_order { IsSortedByKey (λ p. p.name) (slice_cmp nat_cmp) result }
 {
     let mut plugins = list.into_vec();
     plugins.sort_unstable_by(|plugin, other| plugin.name.as_str().cmp(other.name.as_str()));
-    Listed::new(plugins)
+    Ordered {
+        list: Listed::new(plugins),
+    }
 }
 
 fn push_numbers<S: Stated>(numbers: &mut Vec<u32>, callbacks: &[S]) -> Result<(), AllocError>
@@ -450,7 +446,7 @@ fn places_of<S: Stated>(
     Ok(all)
 }
 
-fn with_places<S: Stated>(alloc: Global, list: Listed<Plugin<S>>) -> Result<Plugins<S>, PluginFault>
+fn with_places<S: Stated>(alloc: Global, list: Ordered<S>) -> Result<Plugins<S>, PluginFault>
     ensures ok { IfOk result (λ plugins. plugins.list ≡ list) }
     ensures err { IfErr result (λ fault. fault ≡ PluginFault.OutOfMemory) }
 {

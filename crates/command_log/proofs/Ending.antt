@@ -56,7 +56,7 @@ module _ {S : Type 0} (g : Ghosts S) where
 
   -- what stays true over two calls, of which the first has succeeded
   module _ (first mid last : Transaction S) (two : Survives (state g mid.conn.now) (state g last.conn.now) (λ _. ⊥)) where
-    -- no doubt after the second is none before it
+    -- a disk that is clean after the second call was clean before it
     earlier : HasCleanDisk (state g last.conn.now) → HasCleanDisk (state g mid.conn.now)
     earlier clean = omega (arith, two.clean, clean)
 

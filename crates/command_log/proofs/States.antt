@@ -224,7 +224,7 @@ module _ {S : Type 0} (g : Ghosts S) where
 module _ {S : Type 0} (g : Ghosts S) (law : ShutsIfDirty g) (old last end : Held S) (log : IsLog g old) (falls : doubt (g.view last.store).is_clean ≤ doubt
     (g.view end.store).is_clean)
     (same : HasCleanDisk (state g last) → IsUnchanged (state g (begun g old)) (state g last)) where
-  -- no doubt at the end is none before
+  -- a disk that is clean at the end was clean before
   early : HasCleanDisk (state g end) → HasCleanDisk (state g last)
   early clean = omega (arith, falls, clean)
 

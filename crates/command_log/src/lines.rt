@@ -230,6 +230,7 @@ pub(crate) fn read_after<S: Alter>(
         → IfErr result (λ e. IsCaused (state S.Store conn.old) (state S.Store conn.new)
         (Unreadable (lines_left S.Store conn.old place)) (fault_of e)) }
 {
+    // Called for its clause alone: what an open connection knows of its tables.
     let _schema = conn.schema();
     let rows = read_rows(conn, place, limit)?;
     lines_from(alloc, &rows, place)

@@ -170,6 +170,7 @@ impl<D: Disk + Drop> CommandLog<FileStore<D>> {
         ensures cause { IfErr result (λ e. IsClean (view e.1) → IsCloseFault self e.1 e.0) }
     {
         let CommandLog { conn, alloc: _ } = self;
+        // Called for its clause alone: what an open connection knows of its tables.
         let _schema = conn.schema();
         match conn.close_files() {
             Ok(files) => Ok(files),
@@ -183,6 +184,7 @@ impl<D: Disk + Drop> CommandLog<FileStore<D>> {
         ensures { IsClean (view result) → IsFoundAgain self }
     {
         let CommandLog { conn, alloc: _ } = self;
+        // Called for its clause alone: what an open connection knows of its tables.
         let _schema = conn.schema();
         conn.into_store()
     }
@@ -296,10 +298,11 @@ impl<S: Alter> CommandLog<S> {
 
     /// A law: while the log is open, a crash leaves its lines and nothing else. The call changes
     /// nothing: it carries this fact.
-    pub fn left_by_a_crash(&self)
+    pub fn law_left_by_a_crash(&self)
         ensures { IsOpen S.Store self.now → (db : Trees) → MayLeave S.Store self.now db
             → KeepsLines (lines_of S.Store self.now) db }
     {
+        // Called for its clause alone: what an open connection knows of its tables.
         let _schema = self.conn.schema();
     }
 }

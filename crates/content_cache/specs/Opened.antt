@@ -1,6 +1,6 @@
 -- The names that a text opens, each with whether it was a tag when the text was cut.
 use Rattle.std.specs.Prelude.{◌≡◌, ℕ, List, map, filter, IsTrue}
-use Rattle.hook_changes.specs.Names.{is_tag_name}
+use Rattle.plain_data.specs.Names.{is_tag_name}
 use Rattle.shortcode_scan.specs.declared.Piece.{Piece}
 use Rattle.shortcode_scan.specs.Live.{is_live, is_one_of}
 use Rattle.shortcode_scan.specs.Pieces.{pieces_of}

@@ -6,8 +6,8 @@ ghost use Rattle.shortcode_scan.specs.Spans.{HasSpansOf};
 ghost use Rattle.content_cache.specs.Opened.{tags_in, IsOpenedBy, IsCutOf};
 
 use crate::cut_text::{CutText, Known, OpenedName, are_same};
-use hook_changes::{SharedList, TagName};
 use lru::LruCache;
+use plain_data::{SharedList, TagName};
 use shortcode_scan::{Piece, pieces};
 use std::alloc::{AllocError, Global};
 use std::marker::Model;

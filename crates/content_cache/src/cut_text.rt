@@ -1,7 +1,7 @@
 //! How a text was cut into pieces.
 ghost use Rattle.std.specs.Prelude.{◌≡◌, ◌↔◌, Some, IsTrue, IfOk, IfSome};
 
-use hook_changes::{Listed, SharedList, TagName, Text};
+use plain_data::{Listed, SharedList, TagName, Text};
 use shortcode_scan::Piece;
 use std::alloc::{AllocError, Global};
 

@@ -2,9 +2,7 @@
 ghost use Rattle.std.specs.Prelude.{◌≡◌};
 ghost use Rattle.hook_changes.specs.Replies.{answers_text, asks};
 
-use crate::callback::CallbackId;
-use crate::lists::Listed;
-use crate::texts::Text;
+use plain_data::{CallbackId, Listed, Text};
 use shortcode_atts::Atts;
 use std::alloc::Global;
 

@@ -2,8 +2,8 @@
 use Rattle.std.proofs.Common.{◌≡◌, ℕ, ◌≤◌, List, [], ◌∷◌, ◌++◌, length, Result, Ok, Err, refl, sym, ap, subst, ◌∙◌, arith}
 use Rattle.std.specs.Prelude.{IfOk, IfErr}
 use Rattle.hook_changes.specs.declared.reply.Call.{Call}
-use Rattle.hook_machine.specs.declared.fault.RunFault.{RunFault}
-use Rattle.hook_machine.specs.declared.fault.RunFault.TheVariants.{TooManyCalls, TooDeep, OutOfMemory}
+use Rattle.hook_meaning.specs.declared.fault.RunFault.{RunFault}
+use Rattle.hook_meaning.specs.declared.fault.RunFault.TheVariants.{TooManyCalls, TooDeep, OutOfMemory}
 use Rattle.hook_machine.specs.declared.run.frames.Frame.{Frame}
 use Rattle.hook_machine.specs.declared.run.frames.Frame.TheVariants as frame
 use Rattle.hook_machine.specs.declared.run.frames.Invoked.{Invoked}
@@ -12,10 +12,10 @@ use Rattle.hook_machine.specs.declared.run.frames.Move.TheVariants.{Turned, Hand
 use Rattle.hook_machine.specs.declared.run.frames.Pace.{Pace}
 use Rattle.hook_machine.specs.declared.run.frames.Pace.TheVariants.{ByTurns, Through}
 use Rattle.hook_machine.specs.declared.run.jobs.Turn.{Turn}
-use Rattle.hook_changes.specs.Texts.{Text}
-use Rattle.hook_machine.specs.World.{World}
-use Rattle.hook_machine.specs.Trace.{Trace, Done, Turn as turned_to, and_then, outcome_of, turns_of}
-use Rattle.hook_machine.specs.Meaning.{Engine, invoke}
+use Rattle.plain_data.specs.Texts.{Text}
+use Rattle.hook_meaning.specs.World.{World}
+use Rattle.hook_meaning.specs.Trace.{Trace, Done, Turn as turned_to, and_then, outcome_of, turns_of}
+use Rattle.hook_meaning.specs.Meaning.{Engine, invoke}
 use Rattle.hook_machine.specs.Outcomes.{RunsAs}
 use Rattle.hook_machine.specs.Rest.{handed, pending_left, goes_on, rest, then_rest}
 use Rattle.hook_machine.specs.Moves.{through, MayPass, Leads, LeadsOn, Moves, Turns, TurnsBy, Invokes}

@@ -6,8 +6,8 @@ use Rattle.hook_machine.specs.declared.run.frames.Pending.{Pending}
 use Rattle.hook_machine.specs.declared.run.frames.Frame.{Frame}
 use Rattle.hook_machine.specs.declared.run.frames.Frame.TheVariants.{Pass, Invocation, Shortcodes}
 use Rattle.hook_machine.specs.declared.run.jobs.Job.{Job}
-use Rattle.hook_machine.specs.World.{World}
-use Rattle.hook_machine.specs.Meaning.{Engine}
+use Rattle.hook_meaning.specs.World.{World}
+use Rattle.hook_meaning.specs.Meaning.{Engine}
 use Rattle.hook_machine.specs.Rest.{rest, goes_on, pending_left, then_rest}
 use Rattle.hook_machine.specs.Jobs.{left_from}
 use Rattle.hook_machine.specs.Invocations.{invoked_in}

@@ -3,7 +3,7 @@ use Rattle.std.proofs.Common.{◌≡◌, ◌⊎◌, inl, inr, ℕ, ◌+◌, ◌�
 use Rattle.std.proofs.Common.{refl, sym, ap, ◌∙◌}
 use Rattle.std.specs.Prelude.{map, pos, is_some, bytes_eq}
 use Rattle.std.specs.List.{list_any}
-use Rattle.hook_changes.specs.Names.{is_hook_name}
+use Rattle.plain_data.specs.Names.{is_hook_name}
 use Rattle.hook_changes.specs.declared.reply.Call.{Call}
 use Rattle.hook_changes.specs.declared.reply.Answer.{Answer}
 use Rattle.hook_changes.specs.declared.reply.Answer.TheVariants as answer
@@ -17,10 +17,10 @@ use Rattle.hook_registry.specs.Named.{value_of}
 use Rattle.shortcode_scan.specs.declared.Piece.{Piece}
 use Rattle.shortcode_scan.specs.Pieces.{pieces_of}
 use Rattle.shortcode_scan.specs.Live.{live}
-use Rattle.hook_machine.specs.declared.fault.RunFault.{RunFault}
-use Rattle.hook_machine.specs.declared.fault.RunFault.TheVariants.{TooDeep, OutOfMemory}
-use Rattle.hook_machine.specs.declared.run.calls.PassKind.{PassKind}
-use Rattle.hook_machine.specs.declared.run.calls.PassKind.TheVariants.{Filter, Action}
+use Rattle.hook_meaning.specs.declared.fault.RunFault.{RunFault}
+use Rattle.hook_meaning.specs.declared.fault.RunFault.TheVariants.{TooDeep, OutOfMemory}
+use Rattle.hook_meaning.specs.declared.pass_kind.PassKind.{PassKind}
+use Rattle.hook_meaning.specs.declared.pass_kind.PassKind.TheVariants.{Filter, Action}
 use Rattle.call_plans.specs.declared.position.Position.{Position}
 use Rattle.hook_machine.specs.declared.run.pieces.Matched.{Matched}
 use Rattle.hook_machine.specs.declared.run.frames.HookPass.{HookPass}
@@ -34,12 +34,12 @@ use Rattle.hook_machine.specs.declared.run.frames.Move.TheVariants.{Handed}
 use Rattle.hook_machine.specs.declared.run.texts.Handling.{Handling}
 use Rattle.hook_machine.specs.Cuts.{CutText, PassOverText}
 use Rattle.hook_machine.specs.Handling.{handling_pass}
-use Rattle.hook_changes.specs.Texts.{Text}
-use Rattle.hook_machine.specs.World.{World}
-use Rattle.hook_machine.specs.Trace.{Trace, Done, Refused, and_then}
-use Rattle.hook_machine.specs.Meaning.{Engine, Invocation, hook_call, arguments, value_after, pass, filter_pass, action_pass, filtered, with_firing, text_at}
-use Rattle.hook_machine.specs.Meaning.{shortcode_filter, pieces_pass, shortcodes_pass, answered, invoke, first_or_empty, last_or_empty, has_answer}
-use Rattle.hook_machine.specs.Meaning.{text_or_false}
+use Rattle.plain_data.specs.Texts.{Text}
+use Rattle.hook_meaning.specs.World.{World}
+use Rattle.hook_meaning.specs.Trace.{Trace, Done, Refused, and_then}
+use Rattle.hook_meaning.specs.Meaning.{Engine, Invocation, hook_call, arguments, value_after, pass, filter_pass, action_pass, filtered, with_firing, text_at}
+use Rattle.hook_meaning.specs.Meaning.{shortcode_filter, pieces_pass, shortcodes_pass, answered, invoke, first_or_empty, last_or_empty, has_answer}
+use Rattle.hook_meaning.specs.Meaning.{text_or_false}
 use Rattle.call_plans.specs.Position.{first_of, reach, next_entry}
 use Rattle.hook_machine.specs.Works.{between_brackets, answer_shown}
 use Rattle.hook_machine.specs.Rest.{in_place, left_hook, one_level_up, with_answer, pass_left, text_left, text_handed, pending_left, pending_handed, goes_on}
@@ -51,8 +51,8 @@ use Rattle.hook_machine.specs.declared.run.frames.Pace.TheVariants.{Through}
 use Rattle.hook_machine.specs.Moves.{Moves, Leads}
 use Rattle.hook_machine.specs.PassedOver.{left_by_core}
 use Rattle.hook_machine.proofs.Going.{leads_here, leads_over, moves_onto, moves_same}
-use Rattle.hook_machine.proofs.Walk.{then_under}
-use Rattle.hook_machine.proofs.Ending.{filter_named, filter_unnamed, filter_unhooked, unhooked, action_named, action_unnamed}
+use Rattle.hook_meaning.proofs.Walk.{then_under}
+use Rattle.hook_meaning.proofs.Ending.{filter_named, filter_unnamed, filter_unhooked, unhooked, action_named, action_unnamed}
 use Rattle.hook_machine.proofs.Steps.{pass_goes, pass_ends, pass_begins, ask_plain, ask_apply, ask_act, ask_shortcodes, core_goes}
 use Rattle.hook_machine.proofs.Steps.{text_begins, then_done}
 

@@ -2,7 +2,7 @@
 use Rattle.std.proofs.Common.{◌≡◌, ℕ, zero, suc, ◌+◌, ◌-◌, ◌<◌, true, List, [], ◌∷◌, ◌++◌, cond, map, filter, length, take, None, Some}
 use Rattle.std.proofs.Common.{refl, ap, ◌∙◌, arith}
 use Rattle.std.proofs.lemmas.Bool.{lt-ltb}
-use Rattle.hook_changes.specs.Names.{is_hook_name}
+use Rattle.plain_data.specs.Names.{is_hook_name}
 use Rattle.hook_changes.specs.declared.reply.Call.{Call}
 use Rattle.hook_registry.specs.declared.registration.Entry.{Entry}
 use Rattle.hook_registry.specs.declared.registration.Registration.{Registration}
@@ -12,14 +12,14 @@ use Rattle.shortcode_scan.specs.declared.Piece.TheVariants.{Plain}
 use Rattle.shortcode_scan.specs.Matches.{span}
 use Rattle.shortcode_scan.specs.Pieces.{pieces_of, plain_between}
 use Rattle.shortcode_scan.specs.Live.{live}
-use Rattle.hook_machine.specs.declared.run.calls.PassKind.TheVariants.{Filter}
-use Rattle.hook_changes.specs.Texts.{Text}
-use Rattle.hook_machine.specs.World.{World}
-use Rattle.hook_machine.specs.Trace.{Trace, Done, Turn, and_then}
-use Rattle.hook_machine.specs.Meaning.{Engine, Invocation, hook_call, deeper, pieces_pass, shortcodes_pass, filter_pass, invoke, first_or_empty}
+use Rattle.hook_meaning.specs.declared.pass_kind.PassKind.TheVariants.{Filter}
+use Rattle.plain_data.specs.Texts.{Text}
+use Rattle.hook_meaning.specs.World.{World}
+use Rattle.hook_meaning.specs.Trace.{Trace, Done, Turn, and_then}
+use Rattle.hook_meaning.specs.Meaning.{Engine, Invocation, hook_call, deeper, pieces_pass, shortcodes_pass, filter_pass, invoke, first_or_empty}
 use Rattle.hook_machine.specs.Rest.{pass_from, pending_left}
 use Rattle.hook_machine.specs.PassedOver.{IsCoreAlone, left_by_core}
-use Rattle.hook_machine.proofs.Ending.{filter_named, one_stretch, deeper_within, left_again}
+use Rattle.hook_meaning.proofs.Ending.{filter_named, one_stretch, deeper_within, left_again}
 use Rattle.hook_machine.proofs.Steps.{pass_begins, pass_above, pass_cons, pass_none, turn_core}
 
 -- ---- a text without shortcodes

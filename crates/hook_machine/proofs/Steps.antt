@@ -14,9 +14,9 @@ use Rattle.shortcode_scan.specs.declared.Piece.{Piece}
 use Rattle.shortcode_scan.specs.declared.Span.{Span}
 use Rattle.shortcode_scan.specs.Pieces.{pieces_of}
 use Rattle.shortcode_scan.specs.Live.{live}
-use Rattle.hook_machine.specs.declared.fault.RunFault.{RunFault}
-use Rattle.hook_machine.specs.declared.fault.RunFault.TheVariants.{TooManyCalls, TooDeep}
-use Rattle.hook_machine.specs.declared.run.calls.PassKind.{PassKind}
+use Rattle.hook_meaning.specs.declared.fault.RunFault.{RunFault}
+use Rattle.hook_meaning.specs.declared.fault.RunFault.TheVariants.{TooManyCalls, TooDeep}
+use Rattle.hook_meaning.specs.declared.pass_kind.PassKind.{PassKind}
 use Rattle.call_plans.specs.declared.position.Position.{Position}
 use Rattle.hook_machine.specs.declared.run.pieces.Matched.{Matched}
 use Rattle.hook_machine.specs.declared.run.frames.HookPass.{HookPass}
@@ -27,20 +27,20 @@ use Rattle.hook_machine.specs.declared.run.frames.Frame.{Frame}
 use Rattle.hook_machine.specs.declared.run.frames.Frame.TheVariants as frame
 use Rattle.hook_machine.specs.declared.run.pieces.Work.{Work}
 use Rattle.hook_machine.specs.declared.run.pieces.Work.TheVariants as work
-use Rattle.hook_changes.specs.Texts.{Text}
-use Rattle.hook_machine.specs.World.{World}
-use Rattle.hook_machine.specs.Trace.{Trace, Done, Refused, Turn, and_then}
-use Rattle.hook_machine.specs.Meaning.{Engine, Invocation, hook_call, arguments, value_after, group_pass, priorities_pass, pass, filter_pass, action_pass}
-use Rattle.hook_machine.specs.Meaning.{piece_pass, pieces_pass, shortcodes_pass, answered, deeper, follow, reply_to_call, invoked, invoked_with, invoke}
-use Rattle.hook_machine.specs.Meaning.{world_after_reply}
-use Rattle.hook_machine.specs.Meaning.{first_or_empty, text_at}
+use Rattle.plain_data.specs.Texts.{Text}
+use Rattle.hook_meaning.specs.World.{World}
+use Rattle.hook_meaning.specs.Trace.{Trace, Done, Refused, Turn, and_then}
+use Rattle.hook_meaning.specs.Meaning.{Engine, Invocation, hook_call, arguments, value_after, group_pass, priorities_pass, pass, filter_pass, action_pass}
+use Rattle.hook_meaning.specs.Meaning.{piece_pass, pieces_pass, shortcodes_pass, answered, deeper, follow, reply_to_call, invoked, invoked_with, invoke}
+use Rattle.hook_meaning.specs.Meaning.{world_after_reply}
+use Rattle.hook_meaning.specs.Meaning.{first_or_empty, text_at}
 use Rattle.hook_machine.specs.Works.{work_pass, answer_shown}
 use Rattle.call_plans.specs.Position.{first_of, reach, next_entry}
 use Rattle.hook_machine.specs.Rest.{after_call, left_hook, one_level_up, with_answer, above_left, pass_from, pass_left, pending_left, pending_handed, handed}
 use Rattle.hook_machine.specs.Rest.{rest_with, then_rest}
-use Rattle.hook_machine.proofs.Agree.{invoke-step}
-use Rattle.hook_machine.proofs.Ending.{invoke_some, deeper_within, deeper_beyond}
-use Rattle.hook_machine.proofs.Walk.{then_then, walk, walk-some, reached}
+use Rattle.hook_meaning.proofs.Agree.{invoke-step}
+use Rattle.hook_meaning.proofs.Ending.{invoke_some, deeper_within, deeper_beyond}
+use Rattle.hook_meaning.proofs.Walk.{then_then, walk, walk-some, reached}
 
 some_is : {X : Type 0} (a b : X) → Some a ≡ Some b → a ≡ b
 some_is a b e = cc

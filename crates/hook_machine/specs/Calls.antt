@@ -2,7 +2,7 @@
 use Rattle.std.specs.Prelude.{[]}
 use Rattle.shortcode_atts.specs.Attributes.{Attributes}
 use Rattle.hook_changes.specs.declared.reply.Call.{Call}
-use Rattle.hook_changes.specs.Texts.{Text}
+use Rattle.plain_data.specs.Texts.{Text}
 
 -- it has no hook and no arguments
 abbrev pub shortcode_call : Text → Attributes → Text → Call

@@ -1,4 +1,4 @@
--- The invocation that a stopped run's last turn made.
+-- The invocation that is a stopped run's innermost frame.
 use Rattle.std.specs.Prelude.{◌≡◌, ℕ, ℤ, ◌==◌, if◌then◌else◌, List, Option, None, Some, option_map, slice_get}
 use Rattle.hook_changes.specs.declared.reply.Call.{Call}
 use Rattle.hook_changes.specs.declared.reply.Reply.{Reply}
@@ -9,12 +9,12 @@ use Rattle.hook_machine.specs.declared.run.frames.Frame.TheVariants.{Pass, Invoc
 use Rattle.hook_machine.specs.declared.run.invocation.Invocation as invocation
 use Rattle.hook_machine.specs.declared.run.paused.PausedRun.{PausedRun}
 use Rattle.hook_machine.specs.declared.run.jobs.Job.{Job}
-use Rattle.hook_machine.specs.World.{World}
-use Rattle.hook_machine.specs.Meaning.{Engine, reply_to_call}
+use Rattle.hook_meaning.specs.World.{World}
+use Rattle.hook_meaning.specs.Meaning.{Engine, reply_to_call}
 use Rattle.hook_machine.specs.Rest.{pending_left, then_rest}
 use Rattle.hook_machine.specs.Runs.{paused_world, paused_left}
 
--- an invocation: its callback and call, the priority that its pass has reached, and how deep in asks it was made
+-- an invocation: its callback and call, the priority that the pass under it has reached, and how deep in asks the world is
 pub record Made : Type 0 where
   pub callback : ℕ
   pub call : Call
@@ -46,11 +46,12 @@ abbrev pub made_in : World → Option Job → List Frame → Option Made
 made_in world None frames = option_map (made_by world (reached_by (slice_get frames 1))) (invoked_in (slice_get frames 0))
 made_in world (Some job) frames = None
 
--- the invocation that a run's last turn made
+-- that of a run that is put aside
 abbrev pub last_made : PausedRun → Option Made
 last_made run = made_in (paused_world run) run.job run.stack
 
--- what is left of the run begins, in the world that its last turn has reached, with what is left of this invocation
+-- what is left of the run is, in its world, what is left of an invocation of this callback with this call by some pending
+-- step, and then some frames
 abbrev pub GoesOnWith : Engine → PausedRun → ℕ → Call → Type 0
 GoesOnWith engine run callback call =
     (pending : Pending) × (frames : List Frame) × (paused_left engine run ≡ then_rest engine (pending_left engine (paused_world run) callback call pending)

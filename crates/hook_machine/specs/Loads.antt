@@ -1,14 +1,14 @@
 -- The tables that changes leave, by what each change says and whether its callback is active.
 use Rattle.std.specs.Prelude.{ℕ, Bool, true, not, ◌&&◌, ◌||◌, ◌==◌, List, [], ◌∷◌, ◌++◌, map, if◌then◌else◌, nat_le, Option, None, Some}
 use Rattle.std.specs.Borrow.{Bor}
-use Rattle.hook_changes.specs.Names.{is_hook_name, is_tag_name}
+use Rattle.plain_data.specs.Names.{is_hook_name, is_tag_name}
 use Rattle.hook_changes.specs.declared.reply.Change.{Change}
 use Rattle.hook_changes.specs.declared.reply.Change.TheVariants.{Add, Remove, RemoveAll, AddTag, RemoveTag, RemoveAllTags}
 use Rattle.callback_store.specs.Shape.{Shape, is_held_by}
 use Rattle.hook_registry.specs.Named.{set_value, remove_value}
 use Rattle.hook_registry.specs.Table.{Registered, add, remove, remove_all}
-use Rattle.hook_changes.specs.Texts.{Text}
-use Rattle.hook_machine.specs.World.{World, core_changes}
+use Rattle.plain_data.specs.Texts.{Text}
+use Rattle.hook_meaning.specs.World.{World, core_changes}
 
 -- what is registered after a change
 abbrev pub registered_after : Registered → Change → Bool → Registered

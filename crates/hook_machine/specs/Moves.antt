@@ -1,6 +1,6 @@
 -- How a stopped run moves along what is left of it.
 use Rattle.std.specs.Prelude.{◌≡◌, ℕ, zero, suc, ◌+◌, ◌≤◌, List, [], ◌∷◌, Option, None, Some, Result, Ok, Err, ⊤}
-use Rattle.hook_machine.specs.declared.fault.RunFault.{RunFault}
+use Rattle.hook_meaning.specs.declared.fault.RunFault.{RunFault}
 use Rattle.hook_machine.specs.declared.run.pieces.Matched.{Matched}
 use Rattle.hook_machine.specs.declared.run.frames.Frame.{Frame}
 use Rattle.hook_machine.specs.declared.run.frames.Frame.TheVariants.{Pass, Invocation, Shortcodes}
@@ -12,10 +12,10 @@ use Rattle.hook_machine.specs.declared.run.frames.Move.{Move}
 use Rattle.hook_machine.specs.declared.run.frames.Move.TheVariants.{Turned, Handed}
 use Rattle.hook_machine.specs.declared.run.jobs.Turn.{Turn}
 use Rattle.hook_machine.specs.declared.run.jobs.Turn.TheVariants as turn
-use Rattle.hook_changes.specs.Texts.{Text}
-use Rattle.hook_machine.specs.World.{World}
-use Rattle.hook_machine.specs.Trace.{Trace, Done, Refused, Turn as turned_to}
-use Rattle.hook_machine.specs.Meaning.{Engine}
+use Rattle.plain_data.specs.Texts.{Text}
+use Rattle.hook_meaning.specs.World.{World}
+use Rattle.hook_meaning.specs.Trace.{Trace, Done, Refused, Turn as turned_to}
+use Rattle.hook_meaning.specs.Meaning.{Engine}
 use Rattle.hook_machine.specs.Outcomes.{UnlessOutOfMemory}
 use Rattle.hook_machine.specs.Rest.{pending_left, rest, rest_with, then_rest}
 

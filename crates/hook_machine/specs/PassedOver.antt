@@ -2,9 +2,9 @@
 use Rattle.std.specs.Prelude.{◌≡◌, ◌-◌, ◌<◌, [], ◌∷◌, ◌++◌}
 use Rattle.hook_registry.specs.declared.registration.Registration.{Registration}
 use Rattle.hook_registry.specs.Table.{Table, registrations}
-use Rattle.hook_changes.specs.Texts.{Text}
-use Rattle.hook_machine.specs.World.{World}
-use Rattle.hook_machine.specs.Trace.{Trace, Done, Turn}
+use Rattle.plain_data.specs.Texts.{Text}
+use Rattle.hook_meaning.specs.World.{World}
+use Rattle.hook_meaning.specs.Trace.{Trace, Done, Turn}
 
 -- core's callback is all that is registered on a hook, and takes an argument
 pub record IsCoreAlone (table : Table) (hook : Text) : Type 0 where

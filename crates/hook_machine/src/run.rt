@@ -1,7 +1,6 @@
-//! The run of a request's callbacks: the public face, and in `run/` its frames.
-ghost use Rattle.std.specs.Prelude.{◌≡◌, [], None, IfOk, OnOk};
-ghost use Rattle.hook_machine.specs.Meaning.{filtered, action_pass, replaced, invoke};
-ghost use Rattle.hook_machine.specs.Outcomes.{RunsAs, engine_over};
+//! The run of a request's callbacks: the calls by which the pages of a site go, and in `run/` its
+//! frames and the calls for programs of one's own.
+ghost use Rattle.std.specs.Prelude.{◌≡◌};
 ghost use Rattle.hook_machine.specs.Runs.{fault_in};
 
 pub(crate) mod asks;
@@ -14,24 +13,27 @@ pub(crate) mod left;
 pub(crate) mod passes;
 pub(crate) mod paused;
 pub(crate) mod pieces;
+pub(crate) mod stack;
 pub(crate) mod texts;
+pub(crate) mod whole;
 
-use crate::fault::RunFault;
-use crate::run::calls::copies;
-use crate::run::frames::{Pace, Stack};
-use crate::run::jobs::{Job, Turn, next_turn, run_job};
+use crate::run::frames::Pace;
+use crate::run::jobs::{Job, Turn, next_turn};
 use crate::run::passes::may_pass_over;
 use crate::run::paused::PausedRun;
+use crate::run::stack::Stack;
 use crate::state::State;
 use crate::state::load_list::load_list;
 use crate::state::loaded::KeptLoad;
+use crate::state::tables::RunTables;
 use callback_store::{Plugins, Stated};
 use content_cache::PieceCache;
-use hook_changes::{Listed, SharedList, Text};
+use hook_changes::{SharedList, Text};
+use hook_meaning::RunFault;
 use std::alloc::{AllocError, Global};
 
-/// A run of a request's callbacks. It borrows the plugins and copies the rest, so that no later
-/// edit reaches it.
+/// A run of a request's callbacks. It borrows the plugins, and shares the options and the active
+/// names, which no later edit changes.
 ///
 /// Once a call has returned a fault, each later call returns that same fault.
 pub struct Run<'a, S> {
@@ -58,95 +60,6 @@ impl<'a, S> Drop for Run<'a, S> {
     }
 }
 
-/// Makes the job of `apply_filters`.
-fn filters(alloc: Global, hook: &str, value: Text, args: &Listed<Text>) -> Result<Job, AllocError>
-    ensures { IfOk result (λ job. job ≡ Job.Filters hook.now value args.now) }
-{
-    Ok(Job::Filters {
-        hook: Text::copied(alloc, hook)?,
-        value,
-        args: Listed::new(copies(alloc, args.as_slice())?),
-    })
-}
-
-/// Makes the job of `do_action`.
-fn action(alloc: Global, hook: &str, args: &Listed<Text>) -> Result<Job, AllocError>
-    ensures { IfOk result (λ job. job ≡ Job.Action hook.now args.now) }
-{
-    Ok(Job::Action {
-        hook: Text::copied(alloc, hook)?,
-        args: Listed::new(copies(alloc, args.as_slice())?),
-    })
-}
-
-/// Makes the job of `do_shortcode`.
-fn shortcodes(alloc: Global, text: &str) -> Result<Job, AllocError>
-    ensures { IfOk result (λ job. job ≡ Job.Shortcodes text.now) }
-{
-    Ok(Job::Shortcodes {
-        text: Text::copied(alloc, text)?,
-    })
-}
-
-/// Runs `apply_filters` to its end.
-fn run_filters<S: Stated>(
-    plugins: &Plugins<S>,
-    state: &mut State,
-    stack: &mut Stack,
-    hook: &str,
-    value: Text,
-    args: &Listed<Text>,
-    cache: &mut PieceCache,
-) -> Result<Text, RunFault>
-    requires { stack.old ≡ [] }
-    ensures ends { RunsAs
-        (filtered (engine_over S.says S.number plugins.now) state.old hook.now value args.now)
-        result state.new }
-    ensures over { OnOk result (stack.new ≡ []) }
-    ensures cache { cache.new ≡ cache.old }
-{
-    let job = filters(state.alloc(), hook, value, args)?;
-    run_job(plugins, state, stack, job, cache)
-}
-
-/// Runs `do_action` to its end.
-fn run_action<S: Stated>(
-    plugins: &Plugins<S>,
-    state: &mut State,
-    stack: &mut Stack,
-    hook: &str,
-    args: &Listed<Text>,
-    cache: &mut PieceCache,
-) -> Result<Text, RunFault>
-    requires { stack.old ≡ [] }
-    ensures ends { RunsAs
-        (action_pass (invoke (engine_over S.says S.number plugins.now)) state.old hook.now args.now)
-        result state.new }
-    ensures over { OnOk result (stack.new ≡ []) }
-    ensures cache { cache.new ≡ cache.old }
-{
-    let job = action(state.alloc(), hook, args)?;
-    run_job(plugins, state, stack, job, cache)
-}
-
-/// Runs `do_shortcode` to its end.
-fn run_shortcodes<S: Stated>(
-    plugins: &Plugins<S>,
-    state: &mut State,
-    stack: &mut Stack,
-    text: &str,
-    cache: &mut PieceCache,
-) -> Result<Text, RunFault>
-    requires { stack.old ≡ [] }
-    ensures ends { RunsAs
-        (replaced (engine_over S.says S.number plugins.now) state.old text.now) result state.new }
-    ensures over { OnOk result (stack.new ≡ []) }
-    ensures cache { cache.new ≡ cache.old }
-{
-    let job = shortcodes(state.alloc(), text)?;
-    run_job(plugins, state, stack, job, cache)
-}
-
 fn fault_in<T>(outcome: &Result<T, RunFault>) -> Option<RunFault>
     ensures { result ≡ fault_in outcome.now }
 {
@@ -160,49 +73,20 @@ impl<'a, S: Stated> Run<'a, S> {
     ghost use Rattle.std.specs.Prelude.{◌≡◌, ◌++◌, ℕ, List, [], None, IfOk, IfErr, OnOk, IsOk};
     ghost use Rattle.std.specs.Prelude.{IsTrue, IsFalse};
     ghost use Rattle.callback_store.specs.Shape.{shapes_of};
-    ghost use Rattle.hook_machine.specs.World.{fresh, loaded};
-    ghost use Rattle.hook_machine.specs.Meaning.{Engine, filtered, acted, replaced};
-    ghost use Rattle.hook_machine.specs.Outcomes.{RunsAs, engine_with};
+    ghost use Rattle.hook_meaning.specs.World.{fresh, loaded};
+    ghost use Rattle.hook_meaning.specs.Meaning.{Engine, filtered};
+    ghost use Rattle.hook_machine.specs.Outcomes.{engine_with};
     ghost use Rattle.hook_registry.specs.Table.{has};
-    ghost use Rattle.hook_machine.specs.Trace.{Done};
-    ghost use Rattle.hook_machine.specs.Moves.{Leads, Turns, TurnsBy};
+    ghost use Rattle.hook_meaning.specs.Trace.{Done};
+    ghost use Rattle.hook_machine.specs.Moves.{Leads, TurnsBy};
     ghost use Rattle.hook_machine.specs.Jobs.{job_left};
     ghost use Rattle.hook_machine.specs.Runs.{world_of, fault_of, engine_of, left_of, left_in};
     ghost use Rattle.hook_machine.specs.Runs.{CanBegin, IsIdle, IsReady, IsIdleAtEnd};
     ghost use Rattle.hook_machine.specs.Runs.{Keeps, paused_world, paused_left, IsPausedIdle};
 
-    /// Makes a run with nothing registered and nothing printed, of a site with these active plugins
-    /// and options, that may make that many invocations. If an option has two values, the first
-    /// counts.
-    pub fn new(
-        alloc: Global,
-        plugins: &'a Plugins<S>,
-        active: &[Text],
-        options: &[(Text, Text)],
-        calls: u32,
-    ) -> Result<Self, RunFault>
-        ensures world { IfOk result (λ run. world_of run ≡ fresh calls options.now active.now) }
-        ensures sound { IfOk result (λ run. fault_of run ≡ None) }
-        ensures idle { IfOk result (λ run. IsIdle run) }
-        ensures engine { IfOk result (λ run. engine_of S.says S.number run ≡ engine_with S.says
-            (shapes_of S.number plugins.entry.now)) }
-        ensures err { IfErr result (λ fault. fault ≡ RunFault.OutOfMemory) }
-    {
-        let active = SharedList::new(Vec::from_clones(alloc, active)?)?;
-        let options = SharedList::new(Vec::from_clones(alloc, options)?)?;
-        Ok(Run::over(alloc, plugins, active, options, calls))
-    }
-
-    /// Makes a run as [`Run::new`] does, with active names and options that are shared and not
-    /// copied. Does not allocate.
-    fn over(
-        alloc: Global,
-        plugins: &'a Plugins<S>,
-        active: SharedList<Text>,
-        options: SharedList<(Text, Text)>,
-        calls: u32,
-    ) -> Self
-        ensures world { world_of result ≡ fresh calls options active }
+    /// Makes a run of a state, with no job under way. Does not allocate.
+    fn over(plugins: &'a Plugins<S>, state: State) -> Self
+        ensures world { world_of result ≡ state }
         ensures sound { fault_of result ≡ None }
         ensures idle { IsIdle result }
         ensures engine { engine_of S.says S.number result ≡ engine_with S.says
@@ -210,16 +94,17 @@ impl<'a, S: Stated> Run<'a, S> {
     {
         Run {
             plugins,
-            state: State::new(alloc, active, options, calls),
             job: None,
-            stack: Stack::none(alloc),
+            stack: Stack::none(state.alloc()),
+            state,
             fault: None,
         }
     }
 
-    /// Makes a run as [`Run::new`] does, in which everything has loaded as by [`Run::load`]. It
-    /// shares the active names and the options. What the load left is kept for later runs: one with
-    /// the same load lists shares it, and carries nothing out.
+    /// Makes a run of a site with these active plugins and options, which may make that many
+    /// invocations, once core and the active plugins have loaded. If an option has two values, the
+    /// first counts. The run shares the active names and the options. What the load left is kept
+    /// for later runs: one with the same load lists shares it, and carries nothing out.
     pub fn loaded(
         alloc: Global,
         plugins: &'a Plugins<S>,
@@ -227,139 +112,17 @@ impl<'a, S: Stated> Run<'a, S> {
         options: SharedList<(Text, Text)>,
         calls: u32,
         kept: &mut KeptLoad,
-    ) -> Result<Self, RunFault>
+    ) -> Result<Self, AllocError>
         ensures world { IfOk result (λ run. world_of run
             ≡ loaded (shapes_of S.number plugins.entry.now) (fresh calls options active)) }
         ensures ready { IfOk result (λ run. IsReady run) }
         ensures engine { IfOk result (λ run. engine_of S.says S.number run ≡ engine_with S.says
             (shapes_of S.number plugins.entry.now)) }
-        ensures err { IfErr result (λ fault. fault ≡ RunFault.OutOfMemory) }
     {
         let load = load_list(alloc, plugins, active.as_slice())?;
         let loaded = kept.loaded(alloc, &load)?;
-        let mut run = Run::over(alloc, plugins, active, options, calls);
-        run.state.share(loaded);
-        Ok(run)
-    }
-
-    /// Carries out core's own registration, and then the load lists of the active plugins in the
-    /// order of their names. Invokes no callback.
-    pub fn load(&mut self) -> Result<(), RunFault>
-        requires idle { CanBegin self.old }
-        ensures idle { OnOk result (IsIdle self.new) }
-        ensures loaded { fault_of self.old ≡ None →
-            OnOk result (world_of self.new ≡ loaded (engine_of S.says S.number self.old).plugins
-            (world_of self.old)) }
-        ensures memory { fault_of self.old ≡ None
-            → IfErr result (λ fault. fault ≡ RunFault.OutOfMemory) }
-        ensures keeps { Keeps S.says S.number self.old result self.new }
-    {
-        if let Some(fault) = self.fault {
-            return Err(fault);
-        }
-        match self.state.load(self.plugins) {
-            Ok(()) => Ok(()),
-            Err(AllocError) => {
-                self.fault = Some(RunFault::OutOfMemory);
-                Err(RunFault::OutOfMemory)
-            }
-        }
-    }
-
-    /// Returns the value after the callbacks of a filter (Code Reference, apply_filters). For a
-    /// text that is no hook's name, returns the value as it is.
-    pub fn apply_filters(
-        &mut self,
-        hook: &str,
-        value: Text,
-        args: &Listed<Text>,
-        cache: &mut PieceCache,
-    ) -> Result<Text, RunFault>
-        requires idle { CanBegin self.old }
-        ensures idle { OnOk result (IsIdle self.new) }
-        ensures filtered { fault_of self.old ≡ None →
-            RunsAs (filtered (engine_of S.says S.number self.old) (world_of self.old) hook.now value
-            args.now) result
-            (world_of self.new) }
-        ensures keeps { Keeps S.says S.number self.old result self.new }
-        ensures cache { cache.new ≡ cache.old }
-    {
-        if let Some(fault) = self.fault {
-            return Err(fault);
-        }
-        let result = run_filters(
-            self.plugins,
-            &mut self.state,
-            &mut self.stack,
-            hook,
-            value,
-            args,
-            cache,
-        );
-        self.fault = fault_in(&result);
-        result
-    }
-
-    /// Runs the callbacks of an action (Code Reference, do_action). A text that is no hook's name
-    /// does nothing.
-    pub fn do_action(
-        &mut self,
-        hook: &str,
-        args: &Listed<Text>,
-        cache: &mut PieceCache,
-    ) -> Result<(), RunFault>
-        requires idle { CanBegin self.old }
-        ensures idle { OnOk result (IsIdle self.new) }
-        ensures acted { fault_of self.old ≡ None →
-            RunsAs (acted (engine_of S.says S.number self.old) (world_of self.old) hook.now
-            args.now) result
-            (world_of self.new) }
-        ensures keeps { Keeps S.says S.number self.old result self.new }
-        ensures cache { cache.new ≡ cache.old }
-    {
-        if let Some(fault) = self.fault {
-            return Err(fault);
-        }
-        match run_action(
-            self.plugins,
-            &mut self.state,
-            &mut self.stack,
-            hook,
-            args,
-            cache,
-        ) {
-            Ok(_nothing) => Ok(()),
-            Err(fault) => {
-                self.fault = Some(fault);
-                Err(fault)
-            }
-        }
-    }
-
-    /// Returns a text with its shortcodes replaced (Code Reference, do_shortcode).
-    pub fn do_shortcode(&mut self, text: &str, cache: &mut PieceCache) -> Result<Text, RunFault>
-        requires idle { CanBegin self.old }
-        ensures idle { OnOk result (IsIdle self.new) }
-        ensures replaced { fault_of self.old ≡ None →
-            RunsAs (replaced (engine_of S.says S.number self.old) (world_of self.old) text.now)
-            result
-            (world_of self.new) }
-        ensures keeps { Keeps S.says S.number self.old result self.new }
-        ensures cache { cache.new ≡ cache.old }
-    {
-        if let Some(fault) = self.fault {
-            return Err(fault);
-        }
-        let result = run_shortcodes(self.plugins, &mut self.state, &mut self.stack, text, cache);
-        self.fault = fault_in(&result);
-        result
-    }
-
-    /// Returns the fault that the run has returned, if it has.
-    pub fn fault(&self) -> Option<RunFault>
-        ensures { result ≡ fault_of self.now }
-    {
-        self.fault
+        let tables = RunTables::of(alloc, loaded);
+        Ok(Run::over(plugins, State::new(alloc, tables, active, options, calls)))
     }
 
     /// Begins a job, of which nothing is done before the first turn. Does not allocate.
@@ -377,19 +140,6 @@ impl<'a, S: Stated> Run<'a, S> {
         }
         self.job = Some(job);
         Ok(())
-    }
-
-    /// Goes on with the job until one callback was invoked and its echo and changes were carried
-    /// out, or until the job's end.
-    pub fn turn(&mut self, cache: &mut PieceCache) -> Result<Turn, RunFault>
-        ensures turns { fault_of self.old ≡ None →
-            Turns (left_of (engine_of S.says S.number self.old) self.old) result (world_of self.new)
-            (left_of (engine_of S.says S.number self.old) self.new) }
-        ensures idle { IsIdleAtEnd result self.new }
-        ensures keeps { Keeps S.says S.number self.old result self.new }
-        ensures cache { cache.new ≡ cache.old }
-    {
-        self.go_on(Pace::ByTurns, cache)
     }
 
     /// Goes on with the job: to its end, or to an invocation after which there is more to do. By
@@ -511,18 +261,13 @@ impl<'a, S: Stated> Run<'a, S> {
         } = self;
         PausedRun { state, job, stack }
     }
-
-    /// Ends the run. All that a run owns is dropped here, for every page that ends one, so that
-    /// what dropping does is proved once.
-    pub fn end(self) {
-        drop(self);
-    }
 }
 
 impl PausedRun {
-    ghost use Rattle.hook_machine.specs.Meaning.{Engine};
+    ghost use Rattle.hook_meaning.specs.Meaning.{Engine};
     ghost use Rattle.hook_machine.specs.Runs.{world_of, fault_of, engine_of, left_of, IsIdle};
     ghost use Rattle.hook_machine.specs.Runs.{paused_world, paused_left, IsPausedIdle};
+    ghost use Rattle.hook_machine.specs.Outcomes.{engine_over};
 
     /// Goes on with the run. The plugins are those that it was made with: over others it goes on as
     /// those reply. Does not allocate.

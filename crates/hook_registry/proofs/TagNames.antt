@@ -5,7 +5,7 @@ use Rattle.std.specs.Prelude.{bytes_eq, slice_get, is_some, if◌then◌else◌}
 use Rattle.std.specs.List.{list_all}
 use Rattle.std.proofs.lemmas.Bool.{cases_Bool, cond-false, false≢true}
 use Rattle.std.proofs.lemmas.Slice.Eq.{bytes_eq-Decides}
-use Rattle.hook_changes.specs.Names.{is_tag_name}
+use Rattle.plain_data.specs.Names.{is_tag_name}
 use Rattle.hook_registry.specs.Named.{value_of, set_value, remove_value}
 
 and_left : (a b : Bool) → (a && b) ≡ true → a ≡ true

@@ -5,7 +5,7 @@ ghost use Rattle.std.specs.List.{list_any};
 ghost use Rattle.hook_registry.specs.Entries.{with_entry, is_by};
 
 use crate::registration::Entry;
-use hook_changes::CallbackId;
+use plain_data::CallbackId;
 use std::alloc::{AllocError, Global};
 use std::marker::Model;
 use std::rc::Rc;

@@ -11,7 +11,7 @@ ghost use Rattle.hook_registry.specs.Groups.{IsPlaceAbove};
 use crate::entries::GroupEntries;
 use crate::group::Group;
 use crate::registration::{Entry, Priority, Registration};
-use hook_changes::CallbackId;
+use plain_data::CallbackId;
 use std::alloc::{AllocError, Global};
 use std::marker::Model;
 

@@ -9,8 +9,8 @@ ghost use Rattle.hook_registry.specs.Table.{group, next_priority, has, is_of, pr
 use crate::group::Group;
 use crate::hook_groups::HookGroups;
 use crate::registration::{Entry, Priority, Registration};
-use hook_changes::{CallbackId, HookName};
 use indexmap::IndexMap;
+use plain_data::{CallbackId, HookName};
 use std::alloc::{AllocError, Global};
 use std::marker::Model;
 

@@ -1,7 +1,7 @@
 //! One registration, and what a pass takes of it.
 ghost use Rattle.std.specs.Prelude.{◌≡◌, ℤ, Some};
 
-use hook_changes::CallbackId;
+use plain_data::CallbackId;
 use std::marker::Model;
 
 /// A priority, which contracts see as a whole number of 32 bits. Smaller ones run earlier.

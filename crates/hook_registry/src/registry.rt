@@ -2,7 +2,7 @@
 ghost use Rattle.std.specs.Prelude.{◌≡◌, ◌==◌, ◌≤◌, ◌+◌, ◌∷◌, [], false, length, map, min, is_some};
 ghost use Rattle.std.specs.Prelude.{MatchOption, Some, None, IfOk, IsTrue, OnOk, OnErr, option_map};
 ghost use Rattle.std.specs.List.{list_all, list_any};
-ghost use Rattle.hook_changes.specs.Names.{is_tag_name};
+ghost use Rattle.plain_data.specs.Names.{is_tag_name};
 ghost use Rattle.hook_registry.specs.Named.{value_of, set_value, remove_value};
 ghost use Rattle.hook_registry.specs.Table.{Table, registrations, add, remove, remove_all, group};
 ghost use Rattle.hook_registry.specs.Table.{next_priority, has, is_of, priority_of, times_fired};
@@ -11,7 +11,7 @@ use crate::entries::SharedEntries;
 use crate::hook_table::{GroupPlace, HookTable};
 use crate::named::Named;
 use crate::registration::{Entry, Priority, Registration};
-use hook_changes::{CallbackId, HookName, NameFault, TagName};
+use plain_data::{CallbackId, HookName, NameFault, TagName};
 use std::alloc::{AllocError, Global};
 use std::marker::Model;
 
@@ -36,7 +36,7 @@ pub struct Registry {
 impl Model for Registry {
     ghost use Rattle.std.specs.Prelude.{IsTrue};
     ghost use Rattle.std.specs.List.{list_all};
-    ghost use Rattle.hook_changes.specs.Names.{is_tag_name};
+    ghost use Rattle.plain_data.specs.Names.{is_tag_name};
     ghost use Rattle.hook_registry.specs.Table.{Registered};
 
     ghost Value = { Registered };

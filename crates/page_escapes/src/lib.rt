@@ -5,8 +5,8 @@ ghost use Rattle.std.specs.Prelude.{◌≡◌, ◌++◌, IsTrue, IfOk, OnOk, cod
 ghost use Rattle.std.specs.Char.{encode_utf8};
 ghost use Rattle.page_escapes.specs.Escapes.{ends_escaped, html_escaped};
 
-use hook_changes::Text;
 use memchr::{memchr, memchr2, memchr3, memmem};
+use plain_data::Text;
 use std::alloc::{AllocError, Global};
 
 /// Writes each `]]>` of a text as `]]&gt;` (Code Reference, the_content). A text without one is

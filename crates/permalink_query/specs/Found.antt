@@ -7,7 +7,7 @@ use Rattle.site_records.specs.Texts.{text_named}
 use Rattle.site_records.specs.declared.post.Post.{Post}
 use Rattle.site_records.specs.declared.post.PostKind.{PostKind}
 use Rattle.site_records.specs.declared.post.PostKind.TheVariants.{Post as OfPost, Page as OfPage}
-use Rattle.hook_changes.specs.Texts.{Text}
+use Rattle.plain_data.specs.Texts.{Text}
 use Rattle.post_tables.specs.Rows.{post_with}
 use Rattle.table_rows.specs.Sorting.{in_order}
 use Rattle.post_tables.specs.Page.{newest, is_kind, is_published}

@@ -2,7 +2,7 @@
 use Rattle.std.specs.Prelude.{ℕ, pos, take, ◌+◌, ◌/◌, ◌%◌, ◌&&◌, Bool, [], ◌∷◌, ◌++◌, codes}
 use Rattle.std.specs.Str.{bytes_eq}
 use Rattle.jiff.specs.Words.{days_in_month}
-use Rattle.hook_changes.specs.Texts.{Text}
+use Rattle.plain_data.specs.Texts.{Text}
 use Rattle.permalink_query.specs.Numbers.{is_within}
 
 -- a month of a year from 1 to 9999

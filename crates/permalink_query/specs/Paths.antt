@@ -4,7 +4,7 @@ use Rattle.std.specs.List.{before_first, after_first}
 use Rattle.std.specs.Option.{option_map_or}
 use Rattle.std.specs.Str.{bytes_eq}
 use Rattle.form_urlencoded.specs.Form.{parse}
-use Rattle.hook_changes.specs.Texts.{Text}
+use Rattle.plain_data.specs.Texts.{Text}
 use Rattle.permalink_query.specs.Numbers.{whole_number, year_and_month}
 use Rattle.permalink_query.specs.declared.query.Query.{Query}
 use Rattle.permalink_query.specs.declared.query.Query.TheVariants.{Front, Single, Page, Month, Nothing}

@@ -1,6 +1,6 @@
 -- For worked cases.
 use Rattle.std.specs.Prelude.{List, [], ◌∷◌, codes}
-use Rattle.hook_changes.specs.Texts.{Text}
+use Rattle.plain_data.specs.Texts.{Text}
 
 -- the two options that say what the front shows
 abbrev pub fronting : Text → Text → List (Text × Text)

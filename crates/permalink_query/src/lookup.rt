@@ -42,7 +42,7 @@ ghost use Rattle.permalink_query.specs.Months.{is_month};
 use crate::month::month_span;
 use crate::number::whole_number;
 use crate::query::Query;
-use hook_changes::{Listed, Text};
+use plain_data::{Listed, Text};
 use post_tables::{StoreFault, Tables};
 use site_records::{Found, FoundKind, Post, PostDate, PostKind, PostStatus, text_named};
 use std::alloc::{AllocError, Global};

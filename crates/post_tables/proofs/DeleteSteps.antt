@@ -1,5 +1,7 @@
 -- What deleting a post makes of the site.
-use Rattle.std.proofs.Common.{◌≡◌, ℕ, pos, List, [], ◌∷◌, map, filter, Bool, true, not, ◌==◌, codes, None, Ok, refl, sym, ap, subst, ◌∙◌, arith}
+use Rattle.std.proofs.Common.{◌≡◌, ℕ, pos, List, [], ◌∷◌, map, filter, Bool, true, not, ◌==◌, codes, None, Ok, Err, Result, IfOk, refl, sym, ap, subst, ◌∙◌, arith}
+use Rattle.std.proofs.Common.{length, nat_eq, unwrap_or}
+use Rattle.std.proofs.lemmas.List.{length-map}
 use Rattle.sqlite.specs.Order.{Row}
 use Rattle.sqlite_value.specs.declared.value.Value.TheVariants.{Null, Int}
 use Rattle.sqlite_value.specs.declared.keys.Collation.TheVariants.{Binary}
@@ -20,6 +22,7 @@ use Rattle.sqlite_rules.specs.declared.error.Rowids.TheVariants.{Given}
 use Rattle.sqlite_trees.specs.declared.memory.MemStore.{MemStore}
 use Rattle.sqlite_tied.specs.Compute.{everything}
 use Rattle.sqlite.specs.Rows.{Written}
+use Rattle.sqlite.specs.declared.error.Error.{Error}
 use Rattle.sqlite.specs.Held.{Held, state}
 use Rattle.sqlite.specs.Steps.{over_memory}
 use Rattle.sqlite.specs.Effect.{Database}
@@ -28,8 +31,8 @@ use Rattle.sqlite.specs.Listing.{understood}
 use Rattle.sqlite.specs.State.{mode_of, Executes}
 use Rattle.sqlite.proofs.Callers.{IsPlain, command_of, statement_of, runs_as, one_step}
 use Rattle.post_tables.specs.Schema.{site_schema, post_table}
-use Rattle.post_tables.specs.Rows.{without_post}
-use Rattle.post_tables.specs.Stored.{HoldsSite, ArePosts, IsCounter, post_in, top_in}
+use Rattle.post_tables.specs.Rows.{without_post, has_post}
+use Rattle.post_tables.specs.Stored.{HoldsSite, ArePosts, IsCounter, post_in, top_in, rows_of, trees_of}
 use Rattle.post_tables.proofs.Comparing.{number_compares}
 use Rattle.table_rows.proofs.Steps.{went, same_value}
 use Rattle.post_tables.proofs.Memory.{wrote}
@@ -37,6 +40,7 @@ use Rattle.post_tables.proofs.GivenIds.{some_given}
 use Rattle.post_tables.proofs.Parts.{posts_now}
 use Rattle.post_tables.proofs.PostRows.{mapped_filter, some_posts}
 use Rattle.post_tables.proofs.Statements.{IsDone}
+use Rattle.post_tables.proofs.Finding.{row_is_found}
 use Rattle.table_rows.proofs.Deleting as deleting
 
 abbrev pub delete_text : List ℕ
@@ -94,3 +98,29 @@ deletes_post old new holds id count h =
       rows = it.are;
       idle = λ idle. wrote old new idle _ _ _ _ _ w;
     }
+
+-- it has deleted a row if there was such a post
+deleted_any : (old new : Held MemStore) (holds : HoldsSite (state over_memory old).now) (id count : ℕ)
+    → Executes delete_text (Int (pos id) ∷ []) (state over_memory old) (state over_memory new) (Ok count)
+    → not (nat_eq count 0) ≡ has_post id (rows_of old).posts
+deleted_any old new holds id count h =
+    let s = state over_memory old in
+    let t = state over_memory new in
+    let text = statement_of delete_text (understood site_schema delete_text) in
+    let given : Row = Int (pos id) ∷ [] in
+    let w = runs_as delete_text given s t site_schema holds.schema_is delete_command delete_is delete_plain count h in
+    let done = went (subst (λ x. Does s.step_limit (mode_of s) given (record s.now { schema = x }) text None delete_command (Ok (w.tally, t.now)))
+    holds.schema_is w.changed) in
+    let tally = ap (λ (x : Tally × Database). unwrap_or x.0.rows 0) (same_value (went (went done.2).2).2) in
+    let asked = went done.1 in
+    let edit = went asked.2 in
+    let ids = ids_of asked.0 in
+    let taken : length done.0.rows ≡ length asked.0 = ap (λ (x : Written). length x.rows) (same_value edit.2) ∙ length-map ids _ ∙ length-map asked.0 _ in
+    let is : count ≡ length asked.0 = w.counted ∙ tally ∙ taken in
+    ap (λ n. not (nat_eq n 0)) is ∙ row_is_found (col 1 0 ∷ []) id (trees_of old) holds.sound.posts asked.0 (asked.1.answer Null)
+
+pub deleted_count : (old new : Held MemStore) (holds : HoldsSite (state over_memory old).now) (id : ℕ) (r : Result ℕ Error)
+    → Executes delete_text (Int (pos id) ∷ []) (state over_memory old) (state over_memory new) r
+    → IfOk r (λ count. not (nat_eq count 0) ≡ has_post id (rows_of old).posts)
+deleted_count old new holds id (Ok count) h = deleted_any old new holds id count h
+deleted_count old new holds id (Err e) h = tt

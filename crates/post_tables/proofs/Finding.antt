@@ -191,14 +191,20 @@ as_many : (o : Option Post) (f : Post → Row) → not (nat_eq (length (map f (o
 as_many None f = refl
 as_many (Some p) f = refl
 
+-- there is one if the result has a row
+pub row_is_found : (shown : List Term) (id : ℕ) (db : Trees) → ArePosts (db 0) → (rows : List Row) → IsAnswer (query shown) (overlay db []) (id_given id) rows
+    → not (nat_eq (length rows) 0) ≡ has_post id (map post_in (db 0))
+row_is_found shown id db ok rows a =
+    ap (λ l. not (nat_eq (length l) 0)) (by_id shown id db ok rows a) ∙ as_many (post_with id (map post_in (db 0))) _
+    ∙ sym (any_is_found id (map post_in (db 0)))
+
 module _ (old new : Held MemStore) (id : ℕ) (holds : HoldsSite (state over_memory old).now) where
   found_is : (rows : List Row) → Shown find_text (id_given id) (state over_memory old) (state over_memory new) rows
       → not (nat_eq (length rows) 0) ≡ has_post id (rows_of old).posts
   found_is rows h =
       let read = reads_as find_text (id_given id) (state over_memory old) (state over_memory new) site_schema holds.schema_is
       (Select (record { lets = []; body = query (col 1 0 ∷ []) }) (codes "id" ∷ [])) find_is.0 find_plain find_is.1 rows h in
-      let is = by_id (col 1 0 ∷ []) id (trees_of old) holds.sound.posts rows (read.answer Null) in
-      ap (λ l. not (nat_eq (length l) 0)) is ∙ as_many (post_with id (rows_of old).posts) _ ∙ sym (any_is_found id (rows_of old).posts)
+      row_is_found (col 1 0 ∷ []) id (trees_of old) holds.sound.posts rows (read.answer Null)
 
   pub found : (r : Result (Vec Row Global) Error) → IfOk r (λ rows. Shown find_text (id_given id) (state over_memory old) (state over_memory new) rows.items)
       → IfOk r (λ rows. not (nat_eq (length rows.items) 0) ≡ has_post id (rows_of old).posts)

@@ -134,6 +134,13 @@ module _ (id : ℕ) (e : PostEdit) where
     | inr other ↦ let more = rw other at none in rw other (ap (λ l. p ∷ l) (none_edited ps more))
   ]
 
+  pub absent_edited : (ps : List Post) → has_post id ps ≡ false → edited_posts id e ps ≡ ps
+  absent_edited [] none = refl
+  absent_edited (p ∷ ps) none = elim (cases_Bool (p.id == id)) [
+    | inl here ↦ absurd (let found = rw here at none in cc)
+    | inr other ↦ let more = rw other at none in rw other (ap (λ l. p ∷ l) (absent_edited ps more))
+  ]
+
   -- posts with larger IDs stay
   above_stay : (ps : List Post) → AllByRecursion (λ q. nat_cmp id q.id ≡ Less) ps → edited_posts id e ps ≡ ps
   above_stay [] up = refl
@@ -180,6 +187,13 @@ module _ (id : ℕ) (e : PostEdit) where
 pub any_is_found : (id : ℕ) (ps : List Post) → has_post id ps ≡ is_some (post_with id ps)
 any_is_found id [] = refl
 any_is_found id (p ∷ ps) = elim (cases_Bool (p.id == id)) [ inl here ↦ rw here refl | inr other ↦ rw other (any_is_found id ps) ]
+
+pub absent_without : (id : ℕ) (ps : List Post) → has_post id ps ≡ false → without_post id ps ≡ ps
+absent_without id [] none = refl
+absent_without id (p ∷ ps) none = elim (cases_Bool (p.id == id)) [
+  | inl here ↦ absurd (let found = rw here at none in cc)
+  | inr other ↦ let more = rw other at none in rw other (ap (λ l. p ∷ l) (absent_without id ps more))
+]
 
 -- ---- no more posts than IDs
 

@@ -1,6 +1,7 @@
 -- What an edit makes of the post with an ID.
 use Rattle.std.proofs.Common.{◌≡◌, inl, inr, ℕ, pos, negsuc, List, [], ◌∷◌, map, filter, Bool, true, false, not, ◌==◌, codes, Option, option_map, Some}
-use Rattle.std.proofs.Common.{None, unwrap_or, Ok, Bor, refl, sym, ap, subst, ◌∙◌, arith}
+use Rattle.std.proofs.Common.{None, unwrap_or, Ok, Err, Result, IfOk, Bor, length, nat_eq, is_some, refl, sym, ap, subst, ◌∙◌, arith}
+use Rattle.std.proofs.lemmas.List.{length-map}
 use Rattle.std.specs.List.{IsDistinct}
 use Rattle.std.specs.Prelude.{IfSome, IsUtf8}
 use Rattle.site_records.specs.Dates.{is_post_date}
@@ -24,12 +25,14 @@ use Rattle.sqlite_schema.specs.declared.command.Command.TheVariants.{Update}
 use Rattle.sqlite_rules.specs.Lists.{Has}
 use Rattle.sqlite_rules.specs.Edit.{edit_of, is_taken}
 use Rattle.sqlite_rules.specs.Calls.{ids_of}
+use Rattle.sqlite_rules.proofs.RowLemmas.{length-numbered}
 use Rattle.sqlite_rules.specs.declared.error.Rowids.TheVariants.{Given}
 use Rattle.sqlite_tied.specs.Compute.{everything}
 use Rattle.sqlite_schema.specs.declared.schema.Keys.{Keys}
 use Rattle.sqlite_schema.specs.declared.schema.Keys.TheVariants.{Enforced}
 use Rattle.sqlite_trees.specs.declared.memory.MemStore.{MemStore}
 use Rattle.sqlite.specs.Rows.{Written, Edited}
+use Rattle.sqlite.specs.declared.error.Error.{Error}
 use Rattle.sqlite.specs.Held.{Held, state}
 use Rattle.sqlite.specs.Steps.{over_memory}
 use Rattle.sqlite.specs.Effect.{Database}
@@ -41,8 +44,8 @@ use Rattle.site_records.specs.declared.post.Post.{Post}
 use Rattle.site_records.specs.declared.post.PostStatus.{PostStatus}
 use Rattle.post_tables.specs.Schema.{site_schema, post_table}
 use Rattle.table_rows.specs.Sorting.{in_order}
-use Rattle.post_tables.specs.Rows.{with_post, without_post, post_with, PostEdit, edited_post, edited_posts}
-use Rattle.post_tables.specs.Stored.{HoldsSite, IsReadable, ArePosts, IsCounter, row_of, post_in, top_in, status_text}
+use Rattle.post_tables.specs.Rows.{with_post, without_post, has_post, post_with, PostEdit, edited_post, edited_posts}
+use Rattle.post_tables.specs.Stored.{HoldsSite, IsReadable, ArePosts, IsCounter, row_of, post_in, top_in, status_text, rows_of, trees_of}
 use Rattle.table_rows.proofs.Casting.{cast_int, cast_null}
 use Rattle.post_tables.proofs.Comparing.{number_compares, pos_cmp, same_number}
 use Rattle.table_rows.proofs.Steps.{went, same_value}
@@ -50,7 +53,7 @@ use Rattle.post_tables.proofs.Memory.{wrote}
 use Rattle.post_tables.proofs.GivenIds.{edited_given}
 use Rattle.post_tables.proofs.Parts.{posts_now}
 use Rattle.post_tables.proofs.PageLemmas.{rising_from, rows_are}
-use Rattle.post_tables.proofs.PostRows.{same_posts, still_posts, some_posts, mapped_filter, one_or_none, none_edited, one_edited}
+use Rattle.post_tables.proofs.PostRows.{same_posts, still_posts, some_posts, mapped_filter, one_or_none, any_is_found, none_edited, one_edited}
 use Rattle.post_tables.proofs.Statements.{IsDone}
 use Rattle.table_rows.proofs.Answering as reading
 
@@ -140,12 +143,30 @@ module _ (id : ℕ) (e : PostEdit) where
     tests : (r : Row) → Has (db 0) r → passes r ≡ ((post_in r).id == id)
     tests r there = ap passes (ok.each r there) ∙ number_compares (post_in r).id id
 
-    nothing_updated : filter passes (db 0) ≡ [] → post_with id (map post_in (db 0)) ≡ None → IsUpdated db next
-    nothing_updated none found =
+    none_shown : filter passes (db 0) ≡ [] → shown ≡ []
+    none_shown none =
         let outs : map shows (filter passes (db 0)) ≡ [] = ap (map shows) none in
         let all = reading.answer_is 0 wheres projects [] [] (lit (Int (negsuc 0))) (lit (Int (pos 0))) (overlay db []) given shown a
         (subst (IsDistinct (eq_by_cmp (output_cmp query))) (sym outs) apart_none) in
-        let is : shown ≡ [] = all ∙ ap (λ l. map (λ (o : Output). o.1) (in_order (output_cmp query) l)) outs in
+        all ∙ ap (λ l. map (λ (o : Output). o.1) (in_order (output_cmp query) l)) outs
+
+    one_shown : (r : Row) → filter passes (db 0) ≡ r ∷ [] → shown ≡ (shows r).1 ∷ []
+    one_shown r one =
+        let outs : map shows (filter passes (db 0)) ≡ shows r ∷ [] = ap (map shows) one in
+        let all = reading.answer_is 0 wheres projects [] [] (lit (Int (negsuc 0))) (lit (Int (pos 0))) (overlay db []) given shown a
+        (subst (IsDistinct (eq_by_cmp (output_cmp query))) (sym outs) (apart_one (shows r))) in
+        all ∙ ap (λ l. map (λ (o : Output). o.1) (in_order (output_cmp query) l)) outs
+
+    -- a row is shown if there is such a post
+    pub any_shown : not (nat_eq (length shown) 0) ≡ has_post id (map post_in (db 0))
+    any_shown = elim (one_or_none passes id (db 0) ok.ordered ok.each tests) [
+      | inl none ↦ ap (λ l. not (nat_eq (length l) 0)) (none_shown none.0) ∙ sym (any_is_found id (map post_in (db 0)) ∙ ap is_some none.1)
+      | inr one ↦ ap (λ l. not (nat_eq (length l) 0)) (one_shown one.0 one.2) ∙ sym (any_is_found id (map post_in (db 0)) ∙ ap is_some one.3)
+    ]
+
+    nothing_updated : filter passes (db 0) ≡ [] → post_with id (map post_in (db 0)) ≡ None → IsUpdated db next
+    nothing_updated none found =
+        let is = none_shown none in
         let edit = subst (λ l. Edited site_schema keys db (edit_of db post_table (ids_of l) Given 1 l) (Ok next)) is h in
         let done = one_step site_schema keys db next (edit_of db post_table [] Given 1 []) refl edit in
         record {
@@ -159,11 +180,7 @@ module _ (id : ℕ) (e : PostEdit) where
         let q : Post = post_in r in
         let p : Post = edited_post e q in
         let row : Row = Int (pos q.id) ∷ row_of p in
-        let outs : map shows (filter passes (db 0)) ≡ shows r ∷ [] = ap (map shows) one in
-        let all = reading.answer_is 0 wheres projects [] [] (lit (Int (negsuc 0))) (lit (Int (pos 0))) (overlay db []) given shown a
-        (subst (IsDistinct (eq_by_cmp (output_cmp query))) (sym outs) (apart_one (shows r))) in
-        let is : shown ≡ row ∷ [] = all ∙ ap (λ l. map (λ (o : Output). o.1) (in_order (output_cmp query) l)) outs
-        ∙ ap (λ x. (shows x).1 ∷ []) (ok.each r there) ∙ ap (λ x. x ∷ []) (shown_is q) in
+        let is : shown ≡ row ∷ [] = one_shown r one ∙ ap (λ x. (shows x).1 ∷ []) (ok.each r there) ∙ ap (λ x. x ∷ []) (shown_is q) in
         let edit = subst (λ l. Edited site_schema keys db (edit_of db post_table (ids_of l) Given 1 l) (Ok next)) is h in
         let done = one_step site_schema keys db next (edit_of db post_table (pos q.id ∷ []) Given 1 (row ∷ [])) refl edit in
         let left : List Row = without_rowid (pos q.id) (db 0) in
@@ -221,6 +238,31 @@ edits_post old new holds id e good count h =
       rows = it.are;
       idle = λ idle. wrote old new idle _ _ _ _ _ w;
     }
+
+-- it has edited a row if there was such a post
+edited_any : (old new : Held MemStore) (holds : HoldsSite (state over_memory old).now) (id : ℕ) (e : PostEdit) → IsReadableEdit id e → (count : ℕ)
+    → Executes update_text (given id e) (state over_memory old) (state over_memory new) (Ok count)
+    → not (nat_eq count 0) ≡ has_post id (rows_of old).posts
+edited_any old new holds id e good count h =
+    let s = state over_memory old in
+    let t = state over_memory new in
+    let text = statement_of update_text (understood site_schema update_text) in
+    let w = runs_as update_text (given id e) s t site_schema holds.schema_is update_command update_is update_plain count h in
+    let done = went (subst (λ x. Does s.step_limit (mode_of s) (given id e) (record s.now { schema = x }) text None update_command (Ok (w.tally, t.now)))
+    holds.schema_is w.changed) in
+    let tally = ap (λ (x : Tally × Database). unwrap_or x.0.rows 0) (same_value (went (went done.2).2).2) in
+    let asked = went done.1 in
+    let edit = went asked.2 in
+    let news : length done.0.rows ≡ length asked.0 = ap (λ (x : Written). length x.rows) (same_value edit.2) ∙ length-numbered Given _ _ ∙ length-map asked.0 _ in
+    let is : count ≡ length asked.0 = w.counted ∙ tally ∙ news in
+    ap (λ n. not (nat_eq n 0)) is
+    ∙ any_shown id e Enforced (trees_of old) edit.0 asked.0 good holds.sound.posts (asked.1.answer Null) edit.1
+
+pub edited_count : (old new : Held MemStore) (holds : HoldsSite (state over_memory old).now) (id : ℕ) (e : PostEdit) → IsReadableEdit id e → (r : Result ℕ Error)
+    → Executes update_text (given id e) (state over_memory old) (state over_memory new) r
+    → IfOk r (λ count. not (nat_eq count 0) ≡ has_post id (rows_of old).posts)
+edited_count old new holds id e good (Ok count) h = edited_any old new holds id e good count h
+edited_count old new holds id e good (Err x) h = tt
 
 pub lent_text : (o : Option (Bor (List ℕ))) → bound_value (or_null (λ s. Text s.now) o) ≡ or_null Text (option_map (λ s. s.now) o)
 lent_text None = refl

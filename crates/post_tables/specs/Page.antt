@@ -8,7 +8,7 @@ use Rattle.site_records.specs.declared.post.PostKind.TheVariants.{Post as OfPost
 use Rattle.site_records.specs.declared.post.PostStatus.{PostStatus}
 use Rattle.site_records.specs.declared.post.PostStatus.TheVariants.{Publish, Draft}
 use Rattle.table_rows.specs.Sorting.{in_order}
-use Rattle.hook_changes.specs.Texts.{Text}
+use Rattle.plain_data.specs.Texts.{Text}
 use Rattle.post_tables.specs.Rows.{by_bytes}
 
 -- by date, newest first, and then by ID, largest first (WordPress, WP_Query, orderby)

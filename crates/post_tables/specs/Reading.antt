@@ -9,7 +9,7 @@ use Rattle.sqlite.specs.declared.error.Error.TheVariants.{SqliteFailure}
 use Rattle.sqlite.specs.declared.error.ErrorCode.TheVariants as code
 use Rattle.site_records.specs.declared.post.Post.{Post}
 use Rattle.post_tables.specs.declared.posts.NewPost.{NewPost}
-use Rattle.hook_changes.specs.Texts.{Text}
+use Rattle.plain_data.specs.Texts.{Text}
 use Rattle.site_records.specs.Dates.{is_post_date}
 use Rattle.post_tables.specs.Stored.{IsText, magnitude, kind_of, status_of}
 

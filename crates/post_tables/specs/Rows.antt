@@ -21,7 +21,7 @@ use Rattle.post_tables.specs.declared.fault.TablesFault.TheVariants.{OutOfMemory
 use Rattle.sqlite.specs.declared.error.Error.{Error}
 use Rattle.sqlite.specs.declared.error.Error.TheVariants.{SqliteFailure}
 use Rattle.sqlite.specs.declared.error.ErrorCode.TheVariants as code
-use Rattle.hook_changes.specs.Texts.{Text}
+use Rattle.plain_data.specs.Texts.{Text}
 
 abbrev pub by_bytes : Text → Text → Ordering
 by_bytes = slice_cmp nat_cmp

@@ -24,7 +24,7 @@ use Rattle.site_records.specs.declared.post.PostStatus.{PostStatus}
 use Rattle.site_records.specs.declared.post.PostStatus.TheVariants.{Publish, Draft}
 use Rattle.site_records.specs.Dates.{is_post_date}
 use Rattle.post_tables.specs.Schema.{site_schema}
-use Rattle.hook_changes.specs.Texts.{Text}
+use Rattle.plain_data.specs.Texts.{Text}
 use Rattle.post_tables.specs.Rows.{by_bytes, Rows}
 
 -- the rows of the trees

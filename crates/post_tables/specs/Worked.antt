@@ -4,7 +4,7 @@ use Rattle.std.specs.FinMap.{empty}
 use Rattle.site_records.specs.declared.post.Post.{Post}
 use Rattle.site_records.specs.declared.post.PostKind.TheVariants.{Post as OfPost, Page as OfPage}
 use Rattle.site_records.specs.declared.post.PostStatus.TheVariants.{Publish, Draft}
-use Rattle.hook_changes.specs.Texts.{Text}
+use Rattle.plain_data.specs.Texts.{Text}
 use Rattle.post_tables.specs.Rows.{Named, Names, Rows, PostEdit, no_rows, with_new, without_post, set_all, put_all}
 
 abbrev pub monday : Text

@@ -20,7 +20,7 @@ ghost use Rattle.post_tables.specs.Stored.{IsSite, IsOpen, MakesInside, Reads, r
 use crate::fault::TablesFault;
 use crate::named::{put_active_in, put_option_in, put_template_in};
 use crate::posts::{NewPost, has_post, insert_post_in};
-use hook_changes::Text;
+use plain_data::Text;
 use site_records::{Post, SiteRecords};
 use sqlite::{Connection, Error, MemStore, Transaction};
 use std::alloc::{AllocError, Global};

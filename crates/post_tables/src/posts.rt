@@ -158,13 +158,18 @@ pub(crate) fn insert_post_in(
     )
 }
 
+/// Deletes the post with the ID, if there is one, and returns how many it has deleted.
 pub(crate) fn delete_post(conn: &mut Connection<MemStore>, id: u32) -> Result<usize, Error>
     requires { IsSite conn.old }
-    ensures { Makes (λ s. record s { posts = without_post id s.posts }) conn.old conn.new result }
+    ensures makes { Makes (λ s. record s { posts = without_post id s.posts })
+        conn.old conn.new result }
+    ensures found { IfOk result (λ count. not (nat_eq count 0)
+        ≡ has_post id (rows_of conn.old).posts) }
 {
     conn.execute("DELETE FROM post WHERE id = ?1", params![id])
 }
 
+/// Edits the post with the ID, if there is one, and returns how many it has edited.
 // What is not given is NULL in the statement, and the column then keeps what it has.
 pub(crate) fn edit_post(
     conn: &mut Connection<MemStore>,
@@ -175,12 +180,14 @@ pub(crate) fn edit_post(
     date: Option<&PostDate>,
 ) -> Result<usize, Error>
     requires { IsSite conn.old }
-    ensures { Makes
+    ensures makes { Makes
         (λ s. record s {
           posts = edited_posts id
               (edit_by status title.entry content.entry date.entry) s.posts;
         })
         conn.old conn.new result }
+    ensures found { IfOk result (λ count. not (nat_eq count 0)
+        ≡ has_post id (rows_of conn.old).posts) }
 {
     conn.execute(
         "UPDATE post SET status = coalesce(?2, status), title = coalesce(?3, title), \

@@ -33,7 +33,7 @@ ghost use Rattle.post_tables.specs.Stored.{IsText, magnitude, kind_of, status_of
 ghost use Rattle.sqlite_rules.specs.Edit.{id_in};
 ghost use Rattle.sqlite_value.specs.Order.{column, bytes};
 
-use hook_changes::Text;
+use plain_data::Text;
 use site_records::{Post, PostDate, PostKind, PostStatus};
 use sqlite::{Error, ErrorCode, Row};
 use std::alloc::Global;

@@ -54,9 +54,9 @@ use crate::posts::{
 };
 use crate::read::{read_found, read_names, read_pairs, read_posts};
 use crate::schema::create;
-use hook_changes::{Listed, Text};
+use plain_data::{Listed, Text};
 use site_records::{MAX_ID, Post, PostDate, PostKind, PostStatus, SiteRecords};
-use sqlite::{Connection, MemStore};
+use sqlite::{Connection, Error, MemStore};
 use std::alloc::Global;
 use std::marker::Model;
 
@@ -98,6 +98,23 @@ fn next_id(conn: &mut Connection<MemStore>) -> Result<u32, TablesFault>
         return Err(TablesFault::IdsUsedUp);
     }
     Ok(largest + 1)
+}
+
+/// Returns why a statement that changes a post was refused: that no post has the ID comes first.
+fn refusal(conn: &mut Connection<MemStore>, id: u32, error: Error) -> TablesFault
+    requires { IsSite conn.old }
+    ensures reads { Reads conn.old conn.new }
+    ensures missing { result ≡ TablesFault.NoSuchPost
+        → has_post id (rows_of conn.old).posts ≡ false }
+    ensures absent { has_post id (rows_of conn.old).posts ≡ false
+        → (result ≡ TablesFault.NoSuchPost) ⊎ IsReadFault (rows_of conn.old).step_limit result }
+    ensures fault { (result ≡ TablesFault.NoSuchPost) ⊎ IsOfStore result }
+{
+    match has_post(conn, id) {
+        Ok(true) => TablesFault::from(error),
+        Ok(false) => TablesFault::NoSuchPost,
+        Err(error) => TablesFault::from(error),
+    }
 }
 
 impl Tables {
@@ -197,11 +214,11 @@ impl Tables {
             → IsRefusedAs self.old.step_limit TablesFault.NoSuchPost result }
         ensures fault { IfErr result (λ e. (e ≡ TablesFault.NoSuchPost) ⊎ IsOfStore e) }
     {
-        if !has_post(&mut self.conn, id)? {
-            return Err(TablesFault::NoSuchPost);
+        match edit_post(&mut self.conn, id, status, title, content, date) {
+            Ok(0) => Err(TablesFault::NoSuchPost),
+            Ok(_) => Ok(()),
+            Err(error) => Err(refusal(&mut self.conn, id, error)),
         }
-        edit_post(&mut self.conn, id, status, title, content, date)?;
-        Ok(())
     }
 
     /// Deletes the post with the ID. The ID is never given again.
@@ -216,11 +233,11 @@ impl Tables {
             → IsRefusedAs self.old.step_limit TablesFault.NoSuchPost result }
         ensures fault { IfErr result (λ e. (e ≡ TablesFault.NoSuchPost) ⊎ IsOfStore e) }
     {
-        if !has_post(&mut self.conn, id)? {
-            return Err(TablesFault::NoSuchPost);
+        match delete_post(&mut self.conn, id) {
+            Ok(0) => Err(TablesFault::NoSuchPost),
+            Ok(_) => Ok(()),
+            Err(error) => Err(refusal(&mut self.conn, id, error)),
         }
-        delete_post(&mut self.conn, id)?;
-        Ok(())
     }
 
     /// Returns the post or page with the ID, published or not, if there is one.

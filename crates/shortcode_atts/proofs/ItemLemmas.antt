@@ -9,10 +9,10 @@ use Rattle.std.proofs.Math.Numerals.{one-add}
 use Rattle.std.proofs.lemmas.Option.{none-some, same_Some}
 use Rattle.shortcode_atts.specs.declared.items.Form.{Form}
 use Rattle.shortcode_atts.specs.declared.items.Form.TheVariants.{Quoted, Bare, Word}
-use Rattle.shortcode_atts.specs.Steps.{◌>>=◌, only_if}
-use Rattle.shortcode_atts.proofs.StepLemmas.{bind_some, only_if-some}
+use Rattle.plain_data.specs.Steps.{◌>>=◌, only_if}
+use Rattle.plain_data.proofs.StepLemmas.{bind_some, only_if-some}
 use Rattle.shortcode_atts.specs.Found.{first_of}
-use Rattle.shortcode_atts.specs.NameByte.{is_name_byte}
+use Rattle.plain_data.specs.NameByte.{is_name_byte}
 use Rattle.shortcode_atts.specs.Items.{is_white, is_word_char, is_bare_char, after_run, skip_white, after_char, is_ended, run_at, quoted_at, spelled_at}
 use Rattle.shortcode_atts.specs.Items.{value_at, Item, named_at, single_at, item_at, IsItems, items_within, items_of}
 

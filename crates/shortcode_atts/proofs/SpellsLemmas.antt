@@ -18,8 +18,8 @@ use Rattle.std.proofs.lemmas.List.Sums.{take_while-cons}
 use Rattle.std.proofs.lemmas.Str.{encode_ascii, length-encode, len_utf8_bounds, encodes-append, encodes-chars, scalars-chars, chars-encodes}
 use Rattle.shortcode_atts.specs.declared.items.Form.{Form}
 use Rattle.shortcode_atts.specs.declared.items.Form.TheVariants.{Quoted, Bare, Word}
-use Rattle.shortcode_atts.specs.Steps.{◌>>=◌, only_if}
-use Rattle.shortcode_atts.specs.NameByte.{is_name_byte}
+use Rattle.plain_data.specs.Steps.{◌>>=◌, only_if}
+use Rattle.plain_data.specs.NameByte.{is_name_byte}
 use Rattle.shortcode_atts.specs.Items.{is_white, is_word_char, is_bare_char, after_run, skip_white, after_char, is_ended, run_at, quoted_at, spelled_at}
 use Rattle.shortcode_atts.specs.Items.{value_at, Item, named_at, single_at, item_at}
 use Rattle.shortcode_atts.specs.Values.{escape_meaning, without_escapes, after_last_opening, has_closing, has_open_tag, meaning}

@@ -5,8 +5,8 @@ use Rattle.std.specs.Prelude.{◌≡◌, ℕ, zero, suc, Bool, true, false, not,
 use Rattle.std.specs.Prelude.{take_while, Option, Some, None}
 use Rattle.std.specs.List.{prefix_len}
 use Rattle.std.specs.Option.{option_or, option_map_or}
-use Rattle.shortcode_atts.specs.Steps.{◌>>=◌, only_if}
-use Rattle.shortcode_atts.specs.NameByte.{is_name_byte}
+use Rattle.plain_data.specs.Steps.{◌>>=◌, only_if}
+use Rattle.plain_data.specs.NameByte.{is_name_byte}
 use Rattle.shortcode_atts.specs.declared.items.Form.{Form}
 use Rattle.shortcode_atts.specs.declared.items.Form.TheVariants.{Quoted, Bare, Word}
 

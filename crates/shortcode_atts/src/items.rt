@@ -4,14 +4,14 @@ ghost use Rattle.std.specs.Prelude.{◌≡◌, ℕ, ◌<◌, ◌≤◌, List, le
 ghost use Rattle.std.specs.Prelude.{drop, nat_lt, Option, Some, option_map, IfSome};
 ghost use Rattle.std.specs.List.{prefix_len};
 ghost use Rattle.shortcode_atts.specs.Found.{pair_now, item_now, belongs, first_of};
-ghost use Rattle.shortcode_atts.specs.Steps.{only_if};
-ghost use Rattle.shortcode_atts.specs.NameByte.{is_name_byte};
+ghost use Rattle.plain_data.specs.Steps.{only_if};
+ghost use Rattle.plain_data.specs.NameByte.{is_name_byte};
 ghost use Rattle.shortcode_atts.specs.Items.{is_white, is_bare_char, skip_white, after_char};
 ghost use Rattle.shortcode_atts.specs.Items.{is_ended, run_at};
 ghost use Rattle.shortcode_atts.specs.Items.{quoted_at, spelled_at, value_at, named_at, single_at};
 ghost use Rattle.shortcode_atts.specs.Items.{item_at};
 
-use crate::name_byte::is_name_byte;
+use plain_data::is_name_byte;
 
 /// How a value is written.
 #[derive(Clone, Copy)]

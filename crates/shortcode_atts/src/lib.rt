@@ -19,11 +19,9 @@ use std::alloc::{AllocError, Global};
 use std::marker::Model;
 
 mod items;
-mod name_byte;
 mod values;
 
 use items::{FoundItem, item_at, skip_white};
-pub use name_byte::is_name_byte;
 use values::{is_plain, lowered, meaning, spaced};
 
 /// The attributes of a shortcode: values under names, each name once, and values without a name,

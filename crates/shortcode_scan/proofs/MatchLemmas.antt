@@ -13,9 +13,9 @@ use Rattle.shortcode_scan.specs.declared.Span.{Span}
 use Rattle.shortcode_scan.specs.declared.matches.Core.{Core}
 use Rattle.shortcode_scan.specs.declared.Piece.{Piece}
 use Rattle.shortcode_scan.specs.declared.Piece.TheVariants.{Plain, Match}
-use Rattle.shortcode_atts.specs.Steps.{◌>>=◌, only_if}
-use Rattle.shortcode_atts.specs.NameByte.{is_name_byte}
-use Rattle.shortcode_atts.proofs.StepLemmas.{bind_some, only_if-some}
+use Rattle.plain_data.specs.Steps.{◌>>=◌, only_if}
+use Rattle.plain_data.specs.NameByte.{is_name_byte}
+use Rattle.plain_data.proofs.StepLemmas.{bind_some, only_if-some}
 use Rattle.shortcode_scan.specs.Matches.{closing_tag, closing_from, is_doubled, core_of, without_content, with_closing, name_start, name_at, bracket_from}
 use Rattle.shortcode_scan.specs.Matches.{with_extras, match_at, span}
 use Rattle.shortcode_scan.specs.Live.{AreSameNames}

@@ -6,7 +6,7 @@ use Rattle.std.proofs.lemmas.List.{get_or_append_left, get_or_push}
 use Rattle.std.proofs.Common.{length-append}
 use Rattle.memchr.specs.Find.{occurs_at}
 use Rattle.memchr.proofs.lemmas.MatchLemmas.{OccursAt-true}
-use Rattle.hook_changes.specs.Names.{is_tag_name}
+use Rattle.plain_data.specs.Names.{is_tag_name}
 use Rattle.shortcode_scan.specs.declared.ahead.Lookahead.{Lookahead}
 use Rattle.shortcode_scan.specs.Memory.{IsAheadOf, nothing_searched}
 use Rattle.shortcode_scan.specs.Places.{first_place}

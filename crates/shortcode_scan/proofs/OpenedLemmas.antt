@@ -14,10 +14,10 @@ use Rattle.std.proofs.lemmas.Option.{none-some, same_Some}
 use Rattle.std.proofs.lemmas.Slice.Eq.{bytes_eq-Decides}
 use Rattle.memchr.specs.Find.{OccursAt}
 use Rattle.memchr.proofs.lemmas.MatchLemmas.{occurs_at-true, OccursAt-true}
-use Rattle.shortcode_atts.specs.Steps.{only_if}
-use Rattle.shortcode_atts.specs.NameByte.{is_name_byte}
-use Rattle.shortcode_atts.proofs.StepLemmas.{only_if-some}
-use Rattle.hook_changes.specs.Names.{is_tag_name}
+use Rattle.plain_data.specs.Steps.{only_if}
+use Rattle.plain_data.specs.NameByte.{is_name_byte}
+use Rattle.plain_data.proofs.StepLemmas.{only_if-some}
+use Rattle.plain_data.specs.Names.{is_tag_name}
 use Rattle.shortcode_scan.specs.Places.{first_place}
 use Rattle.shortcode_scan.specs.Live.{ends_name, is_name_end, opening_of, opens_at, has_opening, is_live, live}
 use Rattle.shortcode_scan.specs.Opened.{name_opened, is_among, AreOpenedBefore, AreOpened}

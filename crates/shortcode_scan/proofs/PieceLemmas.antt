@@ -10,8 +10,8 @@ use Rattle.std.proofs.lemmas.Bool.{cases_lt, cases_order, cond_both, ltb-true, l
 use Rattle.std.proofs.lemmas.Option.{none-some}
 use Rattle.shortcode_scan.specs.declared.Piece.{Piece}
 use Rattle.shortcode_scan.specs.declared.Piece.TheVariants.{Plain, Match}
-use Rattle.shortcode_atts.specs.Steps.{◌>>=◌}
-use Rattle.shortcode_atts.proofs.StepLemmas.{bind_some}
+use Rattle.plain_data.specs.Steps.{◌>>=◌}
+use Rattle.plain_data.proofs.StepLemmas.{bind_some}
 use Rattle.shortcode_scan.specs.Places.{first_place}
 use Rattle.shortcode_scan.specs.Matches.{bracket_from, match_at, span}
 use Rattle.shortcode_scan.specs.Live.{AreSameNames}

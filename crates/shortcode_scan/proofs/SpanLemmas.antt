@@ -11,7 +11,7 @@ use Rattle.std.proofs.lemmas.Option.{same_Some}
 use Rattle.std.proofs.lemmas.Str.{IsCharBoundary-before_ascii, IsCharBoundary-after_ascii, IsCharBoundary-end, IsCharBoundary-start}
 use Rattle.memchr.specs.Find.{occurs_at}
 use Rattle.memchr.proofs.lemmas.MatchLemmas.{OccursAt-true}
-use Rattle.shortcode_atts.specs.NameByte.{is_name_byte}
+use Rattle.plain_data.specs.NameByte.{is_name_byte}
 use Rattle.shortcode_scan.specs.declared.Span.{Span}
 use Rattle.shortcode_scan.specs.declared.matches.Core.{Core}
 use Rattle.shortcode_scan.specs.declared.Piece.{Piece}
@@ -21,7 +21,7 @@ use Rattle.shortcode_scan.specs.Matches.{span, name_start, name_at, is_doubled, 
 use Rattle.shortcode_scan.specs.Matches.{with_closing, with_extras, match_at}
 use Rattle.shortcode_scan.specs.Pieces.{PiecesFrom, IsPieces, BeginsNotPlain}
 use Rattle.shortcode_scan.proofs.PlaceLemmas.{first_place-some}
-use Rattle.shortcode_atts.proofs.StepLemmas.{bind_some, only_if-some}
+use Rattle.plain_data.proofs.StepLemmas.{bind_some, only_if-some}
 use Rattle.shortcode_scan.proofs.MatchLemmas.{match_at-lies, core_ends, name_start-after}
 
 name_byte_ascii : (c : ℕ) → is_name_byte c ≡ true → c < 128

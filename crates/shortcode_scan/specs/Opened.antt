@@ -3,8 +3,8 @@
 use Rattle.std.specs.Prelude.{◌≡◌, ℕ, ◌+◌, ◌<◌, Bool, true, ◌&&◌, nat_lt, List, length, take, drop, slice_index, bytes_eq, Option, Some}
 use Rattle.std.specs.List.{list_any, prefix_len}
 use Rattle.std.specs.Borrow.{Bor}
-use Rattle.shortcode_atts.specs.Steps.{only_if}
-use Rattle.shortcode_atts.specs.NameByte.{is_name_byte}
+use Rattle.plain_data.specs.Steps.{only_if}
+use Rattle.plain_data.specs.NameByte.{is_name_byte}
 use Rattle.shortcode_scan.specs.Live.{is_name_end}
 
 -- what a `[` at place k opens: the bytes of names after it, if there are some and a name may end after them

@@ -2,7 +2,7 @@
 use Rattle.std.specs.Prelude.{◌≡◌, ℕ, zero, suc, ◌+◌, ◌<◌, ◌≤◌, if◌then◌else◌, nat_lt, List, [], ◌∷◌, ◌++◌, length, slice_range, flat_map, is_some, Option}
 use Rattle.std.specs.Prelude.{Some, None}
 use Rattle.std.specs.Option.{option_map_or}
-use Rattle.shortcode_atts.specs.Steps.{◌>>=◌}
+use Rattle.plain_data.specs.Steps.{◌>>=◌}
 use Rattle.shortcode_scan.specs.Places.{first_place}
 use Rattle.shortcode_scan.specs.Matches.{span, match_at}
 use Rattle.shortcode_scan.specs.declared.Span.{Span}

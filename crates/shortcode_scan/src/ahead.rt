@@ -8,8 +8,8 @@ ghost use Rattle.shortcode_scan.specs.Matches.{bracket_from, closing_tag};
 ghost use Rattle.shortcode_scan.specs.Memory.{IsAheadOf, Knows, nothing_searched};
 
 use crate::places::{bracket_from, closing_tag, tag_from};
-use hook_changes::TagName;
 use memchr::memmem::Finder;
+use plain_data::TagName;
 use std::alloc::{AllocError, Global};
 
 /// The result of a search from a place on. Up to what it found, nothing has to be searched again.

@@ -9,15 +9,15 @@ ghost use Rattle.std.specs.Prelude.{◌≡◌, ◌≢◌, ◌<◌, ◌↔◌, �
 ghost use Rattle.std.specs.Prelude.{slice_range};
 ghost use Rattle.std.specs.Prelude.{AllPairs, IfOk, IsTrue};
 ghost use Rattle.std.specs.List.{AllByRecursion};
-ghost use Rattle.hook_changes.specs.Names.{is_tag_name};
+ghost use Rattle.plain_data.specs.Names.{is_tag_name};
 ghost use Rattle.shortcode_scan.specs.Spans.{IsSpanOf, HasSpansOf};
 ghost use Rattle.shortcode_scan.specs.Pieces.{IsPieces, pieces_of, plain_between, pieces_text};
 ghost use Rattle.shortcode_scan.specs.Live.{is_live, live, AreSameNames};
 ghost use Rattle.shortcode_scan.specs.Opened.{is_among};
 
-use hook_changes::TagName;
 use live_names::{live_few, live_many, opened};
 use places::{bracket_from, opening_from};
+use plain_data::TagName;
 use std::alloc::{AllocError, Global};
 
 mod ahead;

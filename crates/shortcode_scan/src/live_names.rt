@@ -6,9 +6,9 @@ ghost use Rattle.shortcode_scan.specs.Opened.{is_among, name_opened, AreOpened};
 
 use crate::matches::name_len;
 use crate::places::{opening, opening_from, tag_from};
-use hook_changes::TagName;
 use indexmap::IndexSet;
 use memchr::memmem::Finder;
+use plain_data::TagName;
 use std::alloc::{AllocError, Global};
 
 /// Returns whether a byte after a name ends it.

@@ -3,7 +3,7 @@ ghost use Rattle.std.specs.Prelude.{◌≡◌, ◌+◌, ◌<◌, ◌≤◌, ◌+
 ghost use Rattle.std.specs.Prelude.{Some, bytes_eq, length, slice_index_or, slice_range, IfNone};
 ghost use Rattle.std.specs.Prelude.{IfOk, IfSome, OnOk};
 ghost use Rattle.std.specs.List.{list_any, prefix_len};
-ghost use Rattle.shortcode_atts.specs.NameByte.{is_name_byte};
+ghost use Rattle.plain_data.specs.NameByte.{is_name_byte};
 ghost use Rattle.shortcode_scan.specs.Memory.{IsAheadOf, IsNamed, Knows};
 ghost use Rattle.shortcode_scan.specs.Matches.{closing_tag, core_of, match_at, name_at, name_start};
 ghost use Rattle.shortcode_scan.specs.Matches.{with_extras};
@@ -12,9 +12,8 @@ ghost use Rattle.shortcode_scan.specs.Pieces.{end_of, plain_between, start_of, I
 use crate::ahead::{Lookahead, Memory, first_memory, next_bracket, next_closing};
 use crate::places::{has_byte_at, opening_from};
 use crate::{Piece, Span};
-use hook_changes::TagName;
 use memchr::memmem::Finder;
-use shortcode_atts::is_name_byte;
+use plain_data::{TagName, is_name_byte};
 use std::alloc::{AllocError, Global};
 
 /// A match without its optional outer brackets.

@@ -66,10 +66,10 @@ trace_of words = is_given (first_of (codes "trace") (matches_of site_app words))
 abbrev pub database_of : List Text → Option Text
 database_of words = first_of (codes "database") (matches_of site_app words)
 
--- whether lines that rebuild the site are to be printed
+-- whether the short history is to be printed
 abbrev pub export_of : List Text → Bool
 export_of words = is_given (first_of (codes "export") (matches_of site_app words))
 
--- whether they are to be put in the place of the history
+-- whether it is to be put in the place of the history
 abbrev pub compact_of : List Text → Bool
 compact_of words = is_given (first_of (codes "compact") (matches_of site_app words))

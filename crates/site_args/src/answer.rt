@@ -26,9 +26,9 @@ pub enum Task {
     Serve,
     /// Serve the site of this database file.
     ServeFile(String),
-    /// Print lines that rebuild the site of this database file.
+    /// Print the short history of the site of this database file.
     Export(String),
-    /// Put such lines in the place of the history in this database file.
+    /// Put it in the place of the history in this database file.
     Compact(String),
 }
 

@@ -7,7 +7,7 @@ use Rattle.site_records.specs.Dates.{is_post_date}
 use Rattle.site_records.specs.Ids.{max_id}
 use Rattle.site_records.specs.declared.post.PostKind.{PostKind}
 use Rattle.site_records.specs.declared.post.PostStatus.{PostStatus}
-use Rattle.hook_changes.specs.Texts.{Text}
+use Rattle.plain_data.specs.Texts.{Text}
 use Rattle.post_tables.specs.Rows.{Rows, PostEdit, with_new, has_post, edited_posts, without_post, set_name}
 use Rattle.site_values.specs.Limits.{max_title, max_content, max_value, fits}
 use Rattle.site_replies.specs.declared.reply.Refusal.TheVariants.{NoSuchPost, BadDate, UnknownPlugin, TooLarge, IdsUsedUp}

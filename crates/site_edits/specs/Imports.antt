@@ -3,7 +3,7 @@ use Rattle.std.specs.Prelude.{List, Bool, is_some, Ok, Err, if◌then◌else◌}
 use Rattle.std.specs.List.{list_all}
 use Rattle.callback_store.specs.Shape.{Shape, load_of}
 use Rattle.serde_json.specs.Data.{Data}
-use Rattle.hook_changes.specs.Texts.{Text}
+use Rattle.plain_data.specs.Texts.{Text}
 use Rattle.post_tables.specs.Rows.{Rows, are_new, with_records}
 use Rattle.site_records.specs.declared.post.SiteRecords.{SiteRecords}
 use Rattle.site_import.specs.Walks.{Read}

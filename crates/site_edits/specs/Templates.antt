@@ -4,7 +4,7 @@ use Rattle.std.specs.FinMap.{insert, remove}
 use Rattle.serde_json.specs.Data.{Data}
 use Rattle.serde_json.specs.Find.{as_null}
 use Rattle.serde_json.specs.Written.{compact_text}
-use Rattle.hook_changes.specs.Texts.{Text}
+use Rattle.plain_data.specs.Texts.{Text}
 use Rattle.post_tables.specs.Rows.{Rows}
 use Rattle.template_trees.specs.Trees.{is_template_name, template_of}
 use Rattle.template_trees.specs.declared.fault.TemplateFault.{TemplateFault}

@@ -8,7 +8,7 @@ ghost use Rattle.site_edits.specs.Imports.{rows_with_records, are_known};
 ghost use Rattle.site_edits.specs.Carried.{CarriesOut};
 
 use callback_store::{Plugins, Stated};
-use hook_changes::Text;
+use plain_data::Text;
 use post_tables::{StoreFault, Tables, TablesFault};
 use serde_json::Value;
 use site_import::{ImportFault, read_site_value};

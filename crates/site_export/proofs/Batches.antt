@@ -5,7 +5,7 @@ use Rattle.std.proofs.lemmas.Bool.{false_from_ne_true}
 use Rattle.std.specs.List.{flat_map}
 use Rattle.std.proofs.lemmas.List.Concat.{flat_map-append}
 use Rattle.site_records.specs.declared.post.Post.{Post}
-use Rattle.hook_changes.specs.Texts.{Text}
+use Rattle.plain_data.specs.Texts.{Text}
 use Rattle.site_export.specs.Lines.{AppendsPosts, batch_lines, fits, import_line, apart}
 
 pub none_more : (old : List Text) → AppendsPosts [] old old

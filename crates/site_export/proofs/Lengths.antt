@@ -18,7 +18,7 @@ use Rattle.std.proofs.lemmas.Bool.{leb-true}
 use Rattle.std.proofs.lemmas.List.Sums.{sum_by-cons}
 use Rattle.std.proofs.lemmas.List.Elements.{recursion_from_All}
 use Rattle.site_records.specs.Ids.{max_id}
-use Rattle.hook_changes.specs.Texts.{Text}
+use Rattle.plain_data.specs.Texts.{Text}
 use Rattle.post_tables.specs.Rows.{Rows, post_with}
 use Rattle.site_export.specs.Lines.{with_text, with_number, post_tokens, room_of, import_head, import_tail, import_line, edit_lines, delete_line, bare}
 use Rattle.site_export.specs.Lines.{apart, fits, batch_lines, gone, gone_lines}

@@ -9,7 +9,7 @@ use Rattle.std.specs.Ordering.{nat_cmp}
 use Rattle.std.proofs.lemmas.List.{take-append-drop}
 use Rattle.std.proofs.lemmas.Bool.Decides.{nat_tests}
 use Rattle.site_records.specs.declared.post.Post.{Post}
-use Rattle.hook_changes.specs.Texts.{Text}
+use Rattle.plain_data.specs.Texts.{Text}
 use Rattle.post_tables.specs.Rows.{posts_after}
 use Rattle.site_export.specs.Lines.{AppendsPosts}
 use Rattle.site_export.proofs.Batches.{none_more, more}

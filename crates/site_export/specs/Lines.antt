@@ -1,4 +1,4 @@
--- The command lines that rebuild what a site stores.
+-- The command lines that are defined of what a site stores.
 use Rattle.std.specs.Prelude.{◌≡◌, ℕ, ◌+◌, nat_lt, nat_le, nat_eq, not, ◌&&◌, Bool, List, [], ◌∷◌, ◌++◌, map, filter, flat_map, length, sum_by, codes}
 use Rattle.std.specs.Prelude.{decimal, is_some, if◌then◌else◌, ◌≤◌, All}
 use Rattle.std.specs.FinMap.{entries, keys}
@@ -8,7 +8,7 @@ use Rattle.site_records.specs.Ids.{max_id}
 use Rattle.site_records.specs.declared.post.Post.{Post}
 use Rattle.site_records.specs.declared.post.PostKind.TheVariants.{Post as OfPost}
 use Rattle.site_records.specs.declared.post.PostStatus.TheVariants.{Draft}
-use Rattle.hook_changes.specs.Texts.{Text}
+use Rattle.plain_data.specs.Texts.{Text}
 use Rattle.post_tables.specs.Rows.{Rows, post_with}
 use Rattle.post_tables.specs.Stored.{kind_text, status_text}
 use Rattle.site_export.specs.declared.posts.ShownPost.{ShownPost}

@@ -55,9 +55,9 @@ fn push_all_posts(
     }
 }
 
-/// Returns the command lines after which a site that has just begun stores the same posts, options,
-/// templates and active plugins, and has given the same largest ID. Each is without its newline. An
-/// empty site has none.
+/// Returns the command lines that are defined of the posts, options, templates, active plugins and
+/// the largest ID given: they are meant for a site that has just begun, which then stores the same
+/// (tested, not proved). Each is without its newline. An empty site has none.
 ///
 /// Each line is within a site's limit of 1,048,576 bytes, if each text of the rows fits into a line
 /// of its own, as it does if it came by such a line. It fails as `OutOfMemory` if memory runs out,

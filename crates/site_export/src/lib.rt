@@ -1,7 +1,8 @@
-//! The command lines that rebuild what a site stores.
+//! The command lines that are defined of what a site stores: one for each post, option, template
+//! and active plugin, and for the ID to go on with.
 //!
-//! A site that has just begun and carries out these lines stores the same posts, options, templates
-//! and active plugins, and goes on with the same ID.
+//! They are meant to rebuild it. That a site that has just begun stores the same rows after them is
+//! tested, and isn't proved.
 #![tactic(auto)]
 
 mod history;

@@ -3,7 +3,7 @@ ghost use Rattle.std.specs.Prelude.{◌≡◌, ◌++◌, string_bytes, map, IfOk
 ghost use Rattle.site_export.specs.Lines.{option_line, template_line, activate_line};
 
 use crate::line::{begin_command, end_command, ended, put_text};
-use hook_changes::Text;
+use plain_data::Text;
 use std::alloc::{AllocError, Global};
 
 fn option_line(alloc: Global, name: &str, value: &str) -> Result<String, AllocError>

@@ -5,7 +5,7 @@ ghost use Rattle.site_import.specs.Walks.{Reads, each_from, section_of};
 ghost use Rattle.site_import.specs.Active.{name_at, active_of};
 
 use crate::fault::{ImportFault, Place, Section};
-use hook_changes::{Listed, Text};
+use plain_data::{Listed, Text};
 use serde_json::Value;
 use std::alloc::Global;
 

@@ -5,8 +5,8 @@ ghost use Rattle.site_import.specs.Walks.{Reads, section_of};
 ghost use Rattle.site_import.specs.Front.{shown_in, options_for, front_of};
 
 use crate::fault::{ImportFault, Place, Section};
-use hook_changes::{Listed, Text};
 use itoa::Buffer;
+use plain_data::{Listed, Text};
 use serde_json::Value;
 use site_values::{id_at, text_at};
 use std::alloc::{AllocError, Global};

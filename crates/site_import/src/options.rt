@@ -5,7 +5,7 @@ ghost use Rattle.site_import.specs.Walks.{Reads, each_from, section_of, members_
 ghost use Rattle.site_import.specs.Options.{option_at, options_of};
 
 use crate::fault::{ImportFault, Place, Section};
-use hook_changes::{Listed, Text};
+use plain_data::{Listed, Text};
 use serde_json::{Map, Value};
 use site_values::{MAX_VALUE, option_named};
 use std::alloc::Global;

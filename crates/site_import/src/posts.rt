@@ -6,7 +6,7 @@ ghost use Rattle.site_import.specs.Walks.{Reads, each_from, section_of};
 ghost use Rattle.site_import.specs.Posts.{post_by, shape_of, post_at, posts_in, posts_of};
 
 use crate::fault::{ImportFault, Place, Section};
-use hook_changes::{Listed, Text};
+use plain_data::{Listed, Text};
 use serde_json::Value;
 use site_records::{Post, PostDate, PostKind, PostStatus};
 use site_values::{MAX_CONTENT, MAX_TITLE, id_at, kind_named, status_named, text_at};

@@ -12,7 +12,7 @@ use crate::front::read_front;
 use crate::options::read_options;
 use crate::posts::read_posts;
 use crate::templates::read_templates;
-use hook_changes::{Listed, Text};
+use plain_data::{Listed, Text};
 use serde_json::Value;
 use site_records::SiteRecords;
 use std::alloc::{AllocError, Global};

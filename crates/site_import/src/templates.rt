@@ -6,7 +6,7 @@ ghost use Rattle.site_import.specs.Walks.{Reads, each_from, section_of, members_
 ghost use Rattle.site_import.specs.Templates.{template_at, templates_of};
 
 use crate::fault::{ImportFault, Place, Section};
-use hook_changes::{Listed, Text};
+use plain_data::{Listed, Text};
 use serde_json::{Map, Value};
 use std::alloc::Global;
 use template_trees::{Template, TemplateFault, read_template, template_text};

@@ -1,8 +1,8 @@
 -- Lemmas on replies that are taken and wait.
 use Rattle.std.proofs.Common.{ℕ, List, [], ◌++◌, ◌∙◌, Option, Some, None, Ok, Err, Result, OnErr, sym, ap, append_assoc, append-nil}
 use Rattle.std.specs.Io.KnownBytes.{Appends, append_known}
-use Rattle.ends.specs.Known.{AppendsFront}
-use Rattle.ends.specs.Journal.{Grows}
+use Rattle.byte_io.specs.Known.{AppendsFront}
+use Rattle.byte_io.specs.Journal.{Grows}
 
 pub Grows-nil : {X : Type 0} (a : Option (List X)) → Grows a a []
 Grows-nil None = tt

@@ -1,7 +1,7 @@
 //! The lines that wait to be committed.
 ghost use Rattle.std.specs.Prelude.{◌≡◌, ◌⊎◌, ◌∷◌, ◌++◌, [], List, ℕ, Some, map, OnOk};
 ghost use Rattle.std.specs.String.{string_bytes};
-ghost use Rattle.ends.specs.Journal.{Grows};
+ghost use Rattle.byte_io.specs.Journal.{Grows};
 ghost use Rattle.site_journal.specs.Known.{IsOpenIfClean, MayHold, known_lines};
 
 use command_log::{CommandLog, LogFault};

@@ -1,14 +1,14 @@
 //! The journal.
 ghost use Rattle.std.specs.Prelude.{◌≡◌, ◌||◌, Some, IsSome, IsTrue, List, ℕ, [], map, is_some};
 ghost use Rattle.std.specs.String.{string_bytes};
-ghost use Rattle.ends.specs.Journal.{IsSettled};
+ghost use Rattle.byte_io.specs.Journal.{IsSettled};
 ghost use Rattle.site_journal.specs.Known.{IsOpenIfClean, MayHold, fault_in, known_lines};
 
 use crate::commit::{commit, hold};
 use crate::steady::Steady;
 use crate::waiting::{Waiting, flush};
+use byte_io::{EndFault, Journal, Message};
 use command_log::{CommandLog, LogFault};
-use ends::{EndFault, Journal, Message};
 use sqlite_trees::store::Alter;
 use std::alloc::Global;
 
@@ -58,7 +58,7 @@ impl<S: Alter, W: Steady> LogJournal<S, W> {
             ⟦<LogJournal<S, W> as Journal>⟧.is_open ⟦<LogJournal<S, W> as Journal>⟧.may_hold
             ⟦<LogJournal<S, W> as Journal>⟧.noted result }
     {
-        log.left_by_a_crash();
+        log.law_left_by_a_crash();
         LogJournal {
             log,
             sink,
@@ -127,7 +127,7 @@ impl<S: Alter, W: Steady> Journal for LogJournal<S, W> {
 
     fn take<M: Message>(&mut self, message: &M) -> Result<(), EndFault> {
         if self.lines.is_empty() && self.waiting.bytes.is_empty() {
-            self.log.left_by_a_crash();
+            self.log.law_left_by_a_crash();
             return message.write_to(&mut self.sink);
         }
         if let Err(EndFault) = message.write_to(&mut self.waiting) {
@@ -145,7 +145,7 @@ impl<S: Alter, W: Steady> Journal for LogJournal<S, W> {
             self.fault = Some(fault);
             return Err(EndFault);
         }
-        self.log.left_by_a_crash();
+        self.log.law_left_by_a_crash();
         flush(&mut self.sink, &mut self.waiting)
     }
 }

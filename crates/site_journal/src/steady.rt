@@ -1,7 +1,7 @@
 //! Sinks that always tell their bytes, or never.
 ghost use Rattle.std.specs.Prelude.{◌≡◌, Bool, true, false, is_some, refl};
 
-use ends::{Sink, Writing};
+use byte_io::{Sink, Writing};
 use std::io::{Print, Printer};
 
 /// A sink that always tells its bytes, or never.

@@ -3,7 +3,7 @@ ghost use Rattle.std.specs.Prelude.{◌≡◌, ◌≤◌, [], List, ℕ, length,
 ghost use Rattle.std.specs.Io.KnownBytes.{Appends, append_known};
 
 use crate::steady::Steady;
-use ends::{EndFault, Sink};
+use byte_io::{EndFault, Sink};
 use std::alloc::Global;
 
 /// The bytes of replies that wait. A write fails if memory runs out.

@@ -2,7 +2,7 @@
 ghost use Rattle.std.specs.Prelude.{◌≡◌, false};
 
 use callback_store::Stated;
-use site_program::{Journal, PageLog, Reading, ServeFault, Site, Writing};
+use site_program::{Journal, PageTrace, Reading, ServeFault, Site, Writing};
 use site_tasks::{close_journal, failed, open_journal};
 use std::io;
 use std::process::ExitCode;
@@ -45,7 +45,7 @@ fn serve_into<S: Stated, W: Journal>(
 {
     let mut reader = Reading::new(rt.reader());
     if trace {
-        let mut log = PageLog::new(rt.alloc(), Writing::new(rt.stderr()));
+        let mut log = PageTrace::new(rt.alloc(), Writing::new(rt.stderr()));
         site_serving::serve(rt.alloc(), site, &mut reader, writer, &mut log)
     } else {
         site.serve(&mut reader, writer)

@@ -3,13 +3,14 @@ use Rattle.std.proofs.Common.{ℕ, ◌+◌, ◌≤◌, List, [], ◌∷◌, ◌+
 use Rattle.hook_changes.specs.declared.reply.Change.{Change}
 use Rattle.hook_changes.specs.declared.reply.Change.TheVariants.{Add, Remove, RemoveAll, AddTag, RemoveTag, RemoveAllTags}
 use Rattle.callback_store.specs.Shape.{Shape}
-use Rattle.hook_changes.specs.Texts.{Text}
-use Rattle.hook_machine.specs.World.{World, world_after_change, world_after_changes, core_changes, load_changes, fresh, loaded}
-use Rattle.hook_machine.specs.Meaning.{Engine}
-use Rattle.hook_machine.specs.Throughout.{IsWithinCalls, IsWithinDepth}
+use Rattle.plain_data.specs.Texts.{Text}
+use Rattle.hook_meaning.specs.World.{World, world_after_change, world_after_changes, core_changes, load_changes, fresh, loaded}
+use Rattle.hook_meaning.specs.Meaning.{Engine}
+use Rattle.hook_meaning.specs.Throughout.{IsWithinCalls, IsWithinDepth}
 use Rattle.post_tables.specs.Rows.{Rows}
 use Rattle.template_parts.proofs.Keeping.{calls-page, depth-page}
-use Rattle.site_program.specs.Requests.{Texts, HasRunNothing, first_world, settings_for, found_by, options_of, templates_of, active_of, page_pass, work_of}
+use Rattle.site_store.specs.Stored.{Texts, found_by, options_of, templates_of, active_of}
+use Rattle.site_program.specs.Requests.{HasRunNothing, first_world, settings_for, page_pass, work_of}
 use Rattle.site_program.specs.Requests.{requested}
 
 -- a change touches registrations and tags alone

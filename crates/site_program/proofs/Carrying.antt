@@ -2,10 +2,10 @@
 use Rattle.std.proofs.Common.{◌≡◌, ◌≢◌, inl, inr, ℕ, ◌+◌, ◌-◌, ◌≤◌, List, ◌∙◌, Option, Some, None, Result, Ok, Err, true, false, refl, sym, ap, length}
 use Rattle.std.specs.Prelude.{◌&&◌, ◌||◌, nat_le, is_none, is_some, position, IfOk, IfErr}
 use Rattle.std.proofs.lemmas.Bool.{le-leb}
-use Rattle.hook_machine.specs.Meaning.{Engine}
-use Rattle.hook_machine.specs.Trace.{Fault, outcome_of}
-use Rattle.hook_machine.specs.declared.fault.RunFault.{RunFault}
-use Rattle.hook_machine.specs.declared.fault.RunFault.TheVariants as run
+use Rattle.hook_meaning.specs.Meaning.{Engine}
+use Rattle.hook_meaning.specs.Trace.{Fault, outcome_of}
+use Rattle.hook_meaning.specs.declared.fault.RunFault.{RunFault}
+use Rattle.hook_meaning.specs.declared.fault.RunFault.TheVariants as run
 use Rattle.template_parts.specs.declared.open_page.OpenPage.{OpenPage}
 use Rattle.template_parts.specs.Open.{open_left}
 use Rattle.template_parts.specs.Page.{EndsWithin}

@@ -3,9 +3,9 @@ use Rattle.std.proofs.Common.{◌≡◌, ℕ, true, false, List, [], ◌∷◌, 
 use Rattle.std.specs.Prelude.{is_some, is_none, position, if◌then◌else◌, nat_le, length}
 use Rattle.std.specs.List.{AllByRecursion}
 use Rattle.std.specs.FinMap.{entries, len-entries, len-empty}
-use Rattle.hook_changes.specs.Texts.{Text}
-use Rattle.hook_machine.specs.World.{fresh, loaded}
-use Rattle.hook_machine.specs.Meaning.{Engine}
+use Rattle.plain_data.specs.Texts.{Text}
+use Rattle.hook_meaning.specs.World.{fresh, loaded}
+use Rattle.hook_meaning.specs.Meaning.{Engine}
 use Rattle.site_records.specs.declared.found.Found.{Found}
 use Rattle.post_tables.specs.Rows.{Rows, no_rows}
 use Rattle.callback_store.specs.Shape.{load_of}
@@ -15,14 +15,15 @@ use Rattle.site_commands.specs.Worked.{line_command}
 use Rattle.site_replies.specs.declared.reply.Refusal.TheVariants.{TooLarge}
 use Rattle.site_replies.specs.Reply.{ReplyData, refused}
 use Rattle.template_parts.specs.Pages as template
-use Rattle.site_program.specs.Requests.{Texts, settings_for, page_pass, Opened, opened_page, requested, request, found_by, options_of, templates_of, active_of}
+use Rattle.site_store.specs.Stored.{Texts, found_by, options_of, templates_of, active_of}
+use Rattle.site_program.specs.Requests.{settings_for, page_pass, Opened, opened_page, requested, request}
 use Rattle.site_program.specs.History.{Serves, site_after, replies_to}
 use Rattle.site_serving.specs.Served.{Replied, lines_in, AreCarriedOut}
 use Rattle.site_program.specs.State.{State, empty_site}
 use Rattle.site_program.specs.Step.{got, begun, opened_in, max_path, over_rows, carried_out, step}
-use Rattle.hook_machine.specs.Agreement.{are_among, AgreeOn}
-use Rattle.hook_machine.proofs.Seen.{known-same, agree-fewer}
-use Rattle.hook_machine.proofs.Isolated.{loaded-same, loaded-these}
+use Rattle.hook_meaning.specs.Agreement.{are_among, AgreeOn}
+use Rattle.hook_meaning.proofs.Seen.{known-same, agree-fewer}
+use Rattle.hook_meaning.proofs.Isolated.{loaded-same, loaded-these}
 use Rattle.site_program.specs.Through.{through, StaysAmong}
 use Rattle.site_edits.proofs.Known.{set_active-same, import-same}
 use Rattle.site_program.proofs.Rebuilding.{served-whole}

@@ -1,7 +1,7 @@
 -- What an edit does rests on the rows alone, and not on the limit on steps or on the open pages. No command changes the limit.
 use Rattle.std.proofs.Common.{◌≡◌, inl, inr, ℕ, ◌∙◌, List, Option, Some, None, true, false, sym, subst, ap}
 use Rattle.std.proofs.lemmas.Bool.{cases_Bool, and_left}
-use Rattle.hook_machine.specs.Meaning.{Engine}
+use Rattle.hook_meaning.specs.Meaning.{Engine}
 use Rattle.post_tables.specs.Rows.{Rows}
 use Rattle.site_commands.specs.Asked.{Asked}
 use Rattle.site_commands.specs.Asked as asked
@@ -56,8 +56,13 @@ carried_out-limit engine calls site command =
       | inr others ↦ ap (λ rows. rows.step_limit) (carried_out-keeps engine calls site command (and_left (is_edit command) _ others))
     ]
 
--- the rows after a line have the limit that the rows before it had
+-- the rows after a command have the limit that the rows before it had
+pub limit-stays : (engine : Engine) (calls : ℕ) (site new : State) (command : Option Asked) (reply : ReplyData)
+    → (new, reply) ≡ carried_out engine calls site command → new.rows.step_limit ≡ site.rows.step_limit
+limit-stays engine calls site new command reply done = ap (λ p. p.0.rows.step_limit) done ∙ carried_out-limit engine calls site command
+
+-- and so have those after a line
 pub step-limit : (engine : Engine) (calls : ℕ) (site new : State) (line : List ℕ) (reply : ReplyData) → (new, reply) ≡ step engine calls site line
     → new.rows.step_limit ≡ site.rows.step_limit
 unfolding step
-step-limit engine calls site new line reply done = ap (λ p. p.0.rows.step_limit) done ∙ carried_out-limit engine calls site (line_command line)
+step-limit engine calls site new line reply done = limit-stays engine calls site new (line_command line) reply done

@@ -1,6 +1,6 @@
 -- A log whose lines make the rows of a site does so again after the site has served.
 use Rattle.std.proofs.Common.{◌≡◌, ℕ, ◌∙◌, List, [], ◌∷◌, ◌++◌, Option, refl, sym, subst, ap}
-use Rattle.hook_machine.specs.Meaning.{Engine}
+use Rattle.hook_meaning.specs.Meaning.{Engine}
 use Rattle.post_tables.specs.Rows.{Rows}
 use Rattle.site_edits.proofs.Limits.{limited}
 use Rattle.site_program.specs.History.{Serves, history, site_after, rows_after}

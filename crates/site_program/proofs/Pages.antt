@@ -2,12 +2,12 @@
 use Rattle.std.proofs.Common.{◌≡◌, ◌≢◌, ◌≤◌, inl, inr, ℕ, Bool, true, List, ◌∙◌, Ok, Err, refl, sym, ap, length}
 use Rattle.std.proofs.lemmas.Bool.{cond_both, le-leb}
 use Rattle.std.specs.Prelude.{Result, IfOk, IfErr, false, ◌||◌, nat_le}
-use Rattle.hook_changes.specs.Texts.{Text}
-use Rattle.hook_machine.specs.World.{World, fresh, loaded}
-use Rattle.hook_machine.specs.declared.fault.RunFault.{RunFault}
-use Rattle.hook_machine.specs.declared.fault.RunFault.TheVariants as fault
-use Rattle.hook_machine.specs.Trace.{Outcome, Ended, Fault, outcome_of}
-use Rattle.hook_machine.specs.Meaning.{Engine}
+use Rattle.plain_data.specs.Texts.{Text}
+use Rattle.hook_meaning.specs.World.{World, fresh, loaded}
+use Rattle.hook_meaning.specs.declared.fault.RunFault.{RunFault}
+use Rattle.hook_meaning.specs.declared.fault.RunFault.TheVariants as fault
+use Rattle.hook_meaning.specs.Trace.{Outcome, Ended, Fault, outcome_of}
+use Rattle.hook_meaning.specs.Meaning.{Engine}
 use Rattle.site_records.specs.declared.found.Found.{Found}
 use Rattle.post_tables.specs.Rows.{Rows}
 use Rattle.template_parts.specs.Pages as template
@@ -23,7 +23,8 @@ use Rattle.site_edits.specs.Late.{is_done, rests_on_rows, may_be_late}
 use Rattle.post_tables.specs.declared.fault.StoreFault.{StoreFault}
 use Rattle.post_tables.specs.declared.fault.StoreFault.TheVariants as store
 use Rattle.site_program.specs.Step.{got, max_path}
-use Rattle.site_program.specs.Requests.{Texts, Opened, opened_page, settings_for, page_pass, page_of, options_of, templates_of, active_of, found_by, page_data}
+use Rattle.site_store.specs.Stored.{Texts, options_of, templates_of, active_of, found_by}
+use Rattle.site_program.specs.Requests.{Opened, opened_page, settings_for, page_pass, page_of, page_data}
 use Rattle.site_program.specs.Requests.{refusal_of, requested, request}
 use Rattle.site_program.specs.Site.{opened_as}
 

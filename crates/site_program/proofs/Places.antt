@@ -6,9 +6,9 @@ use Rattle.std.specs.List.{position_or_len}
 use Rattle.std.proofs.lemmas.Bool.{lt-ltb, le-ltb}
 use Rattle.std.proofs.lemmas.List.{map-set, set-set, set-get_or, length-map}
 use Rattle.std.proofs.Math.ListN.{get_or-map}
-use Rattle.hook_machine.specs.declared.fault.RunFault.{RunFault}
-use Rattle.hook_machine.specs.Trace.{Fault, outcome_of, turns_of}
-use Rattle.hook_machine.specs.Meaning.{Engine}
+use Rattle.hook_meaning.specs.declared.fault.RunFault.{RunFault}
+use Rattle.hook_meaning.specs.Trace.{Fault, outcome_of, turns_of}
+use Rattle.hook_meaning.specs.Meaning.{Engine}
 use Rattle.post_tables.specs.Rows.{Rows}
 use Rattle.template_parts.specs.Pages.{IsPage}
 use Rattle.template_parts.specs.declared.open_page.OpenPage.{OpenPage}

@@ -2,7 +2,7 @@
 use Rattle.std.proofs.Common.{◌≡◌, ℕ, ◌∙◌, List, Option, Some, None, false, subst, ap, refl, length}
 use Rattle.std.specs.Prelude.{◌&&◌, nat_le}
 use Rattle.std.proofs.lemmas.Bool.{and_right, cond_both}
-use Rattle.hook_machine.specs.Meaning.{Engine}
+use Rattle.hook_meaning.specs.Meaning.{Engine}
 use Rattle.post_tables.specs.Rows.{Rows}
 use Rattle.site_commands.specs.Asked.{Asked}
 use Rattle.site_commands.specs.Asked as asked
@@ -61,8 +61,10 @@ step-keeps engine calls site new line reply done is =
     ap (λ p. p.0.rows) done
     ∙ carried_out-keeps engine calls site (line_command line) (subst (λ r. (is_edit (line_command line) && is_done r) ≡ false) (ap (λ p. p.1) done) is)
 
--- so a refused one keeps them
-pub step-refused : (engine : Engine) (calls : ℕ) (site new : State) (line : List ℕ) (reply : ReplyData) (r : Refusal)
-    → (new, reply) ≡ step engine calls site line → reply ≡ refused r → new.rows ≡ site.rows
-step-refused engine calls site new line reply r done is =
-    step-keeps engine calls site new line reply done (and_right (is_edit (line_command line)) _ (ap is_done is))
+-- a command that is refused keeps them
+pub carried_out-refused : (engine : Engine) (calls : ℕ) (site new : State) (command : Option Asked) (reply : ReplyData) (r : Refusal)
+    → (new, reply) ≡ carried_out engine calls site command → reply ≡ refused r → new.rows ≡ site.rows
+carried_out-refused engine calls site new command reply r done is =
+    ap (λ p. p.0.rows) done
+    ∙ carried_out-keeps engine calls site command (subst (λ x. (is_edit command && is_done x) ≡ false) (ap (λ p. p.1) done)
+    (and_right (is_edit command) _ (ap is_done is)))

@@ -5,7 +5,7 @@ use Rattle.std.proofs.lemmas.Bool.{cond_both}
 use Rattle.std.proofs.lemmas.List.{get_or-set_other}
 use Rattle.std.proofs.lemmas.List.Elements.{All-head, All-tail}
 use Rattle.std.proofs.lemmas.List.Quantifiers.{position-Some}
-use Rattle.hook_machine.specs.Meaning.{Engine}
+use Rattle.hook_meaning.specs.Meaning.{Engine}
 use Rattle.site_commands.specs.Asked.{Asked}
 use Rattle.site_commands.specs.Asked as asked
 use Rattle.site_commands.specs.Worked.{line_command}

@@ -1,12 +1,11 @@
 -- What came of a command over a site: definitions for private clauses.
-use Rattle.std.specs.Prelude.{◌≡◌, true, Option, Result, Ok, Err, IfOk, IfErr, OnErr}
+use Rattle.std.specs.Prelude.{◌≡◌, true, Option, Result, IfOk, IfErr, OnErr}
 use Rattle.site_commands.specs.Asked.{Asked}
 use Rattle.site_replies.specs.declared.reply.SiteReply.{SiteReply}
 use Rattle.site_replies.specs.Reply.{ReplyData, reply_data}
 use Rattle.post_tables.specs.declared.fault.StoreFault.{StoreFault}
 use Rattle.post_tables.specs.declared.fault.StoreFault.TheVariants.{Store}
 use Rattle.site_program.specs.State.{State}
-use Rattle.site_serving.specs.declared.line_reply.LineReply.{LineReply}
 use Rattle.site_program.specs.Step.{IsLeftBy, place_given, may_be_late_at}
 
 -- the database refused in place of a reply that its refusal may replace, and nothing has changed
@@ -20,8 +19,3 @@ pub record CarriesOn (command : Option Asked) (before : State) (meant : State ×
   pub ok : IfOk result (λ reply. (after, reply_data reply) ≡ meant)
   pub err : OnErr result (IsLeftBy (place_given command) before after)
   pub late : IfErr result (λ fault. fault ≡ Store → IsLate command before meant after)
-
--- the reply alone
-abbrev pub reply_in : Result LineReply StoreFault → Result SiteReply StoreFault
-reply_in (Ok replied) = Ok replied.reply
-reply_in (Err fault) = Err fault

@@ -1,6 +1,6 @@
 -- A site as its history: the edits that were done, in order.
 use Rattle.std.specs.Prelude.{ℕ, Bool, ◌&&◌, List, Option}
-use Rattle.hook_machine.specs.Meaning.{Engine}
+use Rattle.hook_meaning.specs.Meaning.{Engine}
 use Rattle.post_tables.specs.Rows.{Rows}
 use Rattle.site_commands.specs.Worked.{line_command}
 use Rattle.site_replies.specs.Reply.{ReplyData}

@@ -1,6 +1,6 @@
 -- What serving an input over a site notes in a journal: as serving any lines does, with what a line means to a site.
 use Rattle.std.specs.Prelude.{ℕ, List, Option}
-use Rattle.ends.specs.declared.journal.Journal.{Ghosts}
+use Rattle.byte_io.specs.declared.journal.Journal.{Ghosts}
 use Rattle.site_replies.specs.Reply.{ReplyData}
 use Rattle.site_serving.specs.Journaled as serving
 use Rattle.site_program.specs.History.{is_kept}

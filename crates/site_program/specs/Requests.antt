@@ -1,19 +1,17 @@
 -- The reply to a request of a path.
-use Rattle.std.specs.Prelude.{◌≡◌, ℕ, ◌+◌, List, [], length, map, codes, Option, option_and_then, unwrap_or}
-use Rattle.std.specs.FinMap.{entries, keys}
-use Rattle.hook_changes.specs.Texts.{Text}
-use Rattle.hook_machine.specs.World.{World, fresh, loaded}
-use Rattle.hook_machine.specs.Trace.{Outcome, Ended, Fault, outcome_of, turns_of}
-use Rattle.hook_machine.specs.Meaning.{Engine}
-use Rattle.hook_machine.specs.declared.fault.RunFault.{RunFault}
-use Rattle.hook_machine.specs.declared.fault.RunFault.TheVariants as fault
+use Rattle.std.specs.Prelude.{◌≡◌, ℕ, ◌+◌, List, [], length, map, codes, unwrap_or}
+use Rattle.plain_data.specs.Texts.{Text}
+use Rattle.hook_meaning.specs.World.{World, fresh, loaded}
+use Rattle.hook_meaning.specs.Trace.{Outcome, Ended, Fault, outcome_of, turns_of}
+use Rattle.hook_meaning.specs.Meaning.{Engine}
+use Rattle.hook_meaning.specs.declared.fault.RunFault.{RunFault}
+use Rattle.hook_meaning.specs.declared.fault.RunFault.TheVariants as fault
 use Rattle.post_tables.specs.Rows.{Rows}
 use Rattle.site_records.specs.Texts.{text_named}
 use Rattle.site_records.specs.declared.found.Found.{Found}
 use Rattle.site_records.specs.declared.found.FoundKind.{FoundKind}
-use Rattle.permalink_query.specs.Paths.{query_of}
-use Rattle.permalink_query.specs.Found.{query_result}
-use Rattle.template_trees.specs.Trees.{stored_template, default_index}
+use Rattle.site_store.specs.Stored.{Texts, options_of, templates_of, active_of, found_by, template_named}
+use Rattle.template_trees.specs.Trees.{default_index}
 use Rattle.template_trees.specs.declared.tree.Template.{Template}
 use Rattle.template_parts.specs.Choice.{template_choice}
 use Rattle.template_parts.specs.Pages as template
@@ -31,28 +29,6 @@ refusal_of fault.OutOfMemory = refused OutOfMemory
 abbrev pub page_data : ℕ → Outcome (Unit {0}) → ReplyData
 page_data status (Ended world nothing) = page status world.output
 page_data status (Fault why) = refusal_of why
-
--- names with their texts
-abbrev pub Texts : Type 0
-Texts = List (Text × Text)
-
--- the options, the templates and the names of the active plugins, as a request finds them
-abbrev pub options_of : Rows → Texts
-options_of rows = entries rows.options
-
-abbrev pub templates_of : Rows → Texts
-templates_of rows = entries rows.templates
-
-abbrev pub active_of : Rows → List Text
-active_of rows = keys rows.active
-
--- what a path finds in a site
-abbrev pub found_by : Rows → Text → Found
-found_by rows path = query_result rows.posts (options_of rows) (query_of path)
-
--- the template of that name, if one is stored
-abbrev pub template_named : Text → Texts → Option Template
-template_named name templates = option_and_then (stored_template name) (text_named name templates)
 
 -- the template for what was found, if one is stored, and else the default (Theme Handbook, Template Hierarchy)
 abbrev pub template_for : FoundKind → Texts → Template

@@ -1,7 +1,7 @@
 -- What the site does at a line.
 use Rattle.std.specs.Prelude.{◌≡◌, ◌⊎◌, ℕ, ◌+◌, ◌-◌, ◌&&◌, Bool, true, false, nat_le, List, length, Option, None, Some, is_none, is_some, position}
 use Rattle.std.specs.Prelude.{if◌then◌else◌}
-use Rattle.hook_machine.specs.Meaning.{Engine}
+use Rattle.hook_meaning.specs.Meaning.{Engine}
 use Rattle.hook_changes.specs.declared.reply.Call.{Call}
 use Rattle.hook_changes.specs.declared.reply.Reply.{Reply}
 use Rattle.post_tables.specs.Rows.{Rows}

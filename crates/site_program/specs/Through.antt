@@ -1,11 +1,11 @@
 -- What a site goes through, line by line.
 use Rattle.std.specs.Prelude.{ℕ, IsTrue, List, [], ◌∷◌}
 use Rattle.std.specs.List.{AllByRecursion}
-use Rattle.hook_changes.specs.Texts.{Text}
+use Rattle.plain_data.specs.Texts.{Text}
 use Rattle.site_replies.specs.Reply.{ReplyData}
-use Rattle.site_program.specs.Requests.{active_of}
+use Rattle.site_store.specs.Stored.{active_of}
 use Rattle.site_program.specs.State.{State}
-use Rattle.hook_machine.specs.Agreement.{are_among}
+use Rattle.hook_meaning.specs.Agreement.{are_among}
 
 -- what is left after each line, and the reply to it
 abbrev pub through : {X : Type 0} → (X → List ℕ → X × ReplyData) → X → List (List ℕ) → List (X × ReplyData)

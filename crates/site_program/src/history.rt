@@ -1,7 +1,7 @@
 //! Laws of histories: a site as the edits that were done, under one engine and one number of calls.
 //! A law is a function without a body.
 ghost use Rattle.std.specs.Prelude.{◌≡◌, ◌≤◌, [], ◌∷◌, ◌++◌, List, ℕ, Option, Some, length};
-ghost use Rattle.hook_machine.specs.Meaning.{Engine};
+ghost use Rattle.hook_meaning.specs.Meaning.{Engine};
 ghost use Rattle.site_commands.specs.Asked.{get};
 ghost use Rattle.site_commands.specs.Worked.{line_command};
 ghost use Rattle.site_replies.specs.Reply.{ReplyData};

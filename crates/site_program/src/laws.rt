@@ -1,17 +1,17 @@
 //! Laws of sites. A law is a function without a body: what it ensures holds of all that it names.
 ghost use Rattle.std.specs.Prelude.{◌≡◌, ◌≢◌, ◌+◌, ◌≤◌, List, ℕ, All, Some, length};
-ghost use Rattle.hook_machine.specs.Agreement.{AgreeOn};
-ghost use Rattle.hook_machine.specs.Meaning.{Engine};
+ghost use Rattle.hook_meaning.specs.Agreement.{AgreeOn};
+ghost use Rattle.hook_meaning.specs.Meaning.{Engine};
 ghost use Rattle.hook_machine.specs.Outcomes.{engine_over};
-ghost use Rattle.hook_machine.specs.Throughout.{IsWithinCalls, IsWithinDepth};
-ghost use Rattle.hook_machine.specs.Trace.{turns_of};
-ghost use Rattle.hook_changes.specs.Texts.{Text};
+ghost use Rattle.hook_meaning.specs.Throughout.{IsWithinCalls, IsWithinDepth};
+ghost use Rattle.hook_meaning.specs.Trace.{turns_of};
+ghost use Rattle.plain_data.specs.Texts.{Text};
 ghost use Rattle.post_tables.specs.Rows.{Rows};
 ghost use Rattle.site_program.specs.History.{Serves};
 ghost use Rattle.site_serving.specs.Served.{AreCarriedOut, Replied, lines_in};
-ghost use Rattle.site_program.specs.Requests.{HasRunNothing, Opened, Texts, first_world, request};
+ghost use Rattle.site_program.specs.Requests.{HasRunNothing, Opened, first_world, request};
 ghost use Rattle.site_program.specs.Requests.{requested, work_of};
-ghost use Rattle.site_program.specs.Requests.{active_of};
+ghost use Rattle.site_store.specs.Stored.{Texts, active_of};
 ghost use Rattle.site_program.specs.Serving.{IsReplies};
 ghost use Rattle.site_program.specs.State.{State, empty_site, page_in};
 ghost use Rattle.site_program.specs.Step.{step, place_turned};

@@ -6,10 +6,8 @@
 //! the program that owns the site.
 #![tactic(auto)]
 
-mod changes;
 mod edits;
 mod history;
-mod kept_finds;
 mod laws;
 mod log_law;
 mod page;
@@ -18,11 +16,9 @@ mod settings;
 mod setup;
 mod site;
 mod state;
-mod stored;
-mod templates;
 mod watched;
 
-pub use ends::{EndFault, Journal, Message, Reading, Sink, Source, Writing};
+pub use byte_io::{EndFault, Journal, Message, Reading, Sink, Source, Writing};
 pub use history::{
     a_copy_agrees, history_goes_on_over_a_copy, history_rebuilds_the_site,
     kept_lines_are_enough_ever, replies_are_written, sites_of_one_history_agree,
@@ -32,7 +28,7 @@ pub use laws::{
     inactive_plugins_have_no_say_in_replies, open_pages_stay, site_pages_keep_to_their_bounds,
 };
 pub use log_law::the_log_is_the_site;
-pub use page_log::{PageEnd, PageLog, PageName, Told, Unwatched, Watch};
+pub use page_trace::{PageEnd, PageName, PageTrace, Told, Unwatched, Watch};
 pub use site::Site;
 pub use site_edits::StoreFault;
 pub use site_replies::{Refusal, ServeFault, SiteReply};

@@ -1,6 +1,6 @@
 //! A law: a log is the site. A law is a function without a body.
 ghost use Rattle.std.specs.Prelude.{◌≡◌, ◌++◌, List, ℕ, Option};
-ghost use Rattle.hook_machine.specs.Meaning.{Engine};
+ghost use Rattle.hook_meaning.specs.Meaning.{Engine};
 ghost use Rattle.site_program.specs.History.{Serves, history, rows_after};
 ghost use Rattle.site_serving.specs.Served.{Replied};
 ghost use Rattle.site_program.specs.State.{State};

@@ -1,29 +1,20 @@
 //! The pages of a site: those of requests, and those that are open.
 ghost use Rattle.std.specs.Prelude.{◌≡◌, ◌≢◌, IfOk, IfErr};
-ghost use Rattle.callback_store.specs.Shape.{shapes_of};
-ghost use Rattle.hook_machine.specs.World.{fresh, loaded};
-ghost use Rattle.hook_machine.specs.Outcomes.{engine_with};
-ghost use Rattle.hook_machine.specs.Runs.{world_of, IsReady};
-ghost use Rattle.hook_machine.specs.Runs as runs;
-ghost use Rattle.site_replies.specs.Reply.{reply_data};
+ghost use Rattle.site_replies.specs.Reply.{reply_data, refused};
 ghost use Rattle.post_tables.specs.Faults.{IsStoreReadFault};
 ghost use Rattle.site_edits.specs.Carried.{CarriesOut};
-ghost use Rattle.site_program.specs.Requests.{page_of, requested, refusal_of};
+ghost use Rattle.site_program.specs.Requests.{requested, refusal_of};
 
 use crate::settings::settings_for;
 use crate::setup::Setup;
 use crate::state::SiteState;
-use crate::stored::SiteStore;
-use crate::templates::Templates;
-use callback_store::{Plugins, Stated};
+use callback_store::Stated;
 use content_cache::PieceCache;
-use hook_changes::{Shared, SharedList, Text};
 use hook_machine::{KeptLoad, Run, RunFault};
-use page_log::{PageName, Watch};
+use page_trace::{PageName, Watch};
 use site_edits::StoreFault;
-use site_records::Found;
 use site_replies::{Refusal, SiteReply};
-use std::alloc::{AllocError, Global};
+use site_store::SiteStore;
 use template_parts::{OpenPage, Turned};
 
 // The most bytes that a path may have.
@@ -43,6 +34,7 @@ impl<'p, S: Stated> Setup<'p, S> {
         &self,
         stored: &mut SiteStore,
         path: &str,
+        load: &mut KeptLoad,
         cache: &mut PieceCache,
         watch: &mut V,
     ) -> Result<SiteReply, StoreFault>
@@ -54,7 +46,7 @@ impl<'p, S: Stated> Setup<'p, S> {
         if path.len() > MAX_PATH {
             return Ok(SiteReply::Refused(Refusal::TooLarge));
         }
-        let page = self.page_at(stored, path)?;
+        let page = self.page_at(stored, path, load)?;
         self.finish(page, path, cache, watch)
     }
 
@@ -79,7 +71,7 @@ impl<'p, S: Stated> Setup<'p, S> {
         let Some(place) = state.pages.free_place() else {
             return Ok(SiteReply::Refused(Refusal::TooManyPages));
         };
-        let page = self.page_at(&mut state.stored, path)?;
+        let page = self.page_at(&mut state.stored, path, &mut state.load)?;
         state.pages.put(place, page);
         watch.opened(place as u32 + 1, path);
         Ok(SiteReply::OkId(place as u32 + 1))
@@ -116,7 +108,12 @@ impl<'p, S: Stated> Setup<'p, S> {
     }
 
     /// Opens the page of a path that is not too long.
-    fn page_at(&self, stored: &mut SiteStore, path: &str) -> Result<OpenPage, StoreFault>
+    fn page_at(
+        &self,
+        stored: &mut SiteStore,
+        path: &str,
+        load: &mut KeptLoad,
+    ) -> Result<OpenPage, StoreFault>
         ensures ok { IfOk result (λ page. opened_as (engine_of S.says S.number self.now) page
             ≡ requested
             (engine_of S.says S.number self.now) (calls_of self.now) stored.old path.now) }
@@ -127,49 +124,12 @@ impl<'p, S: Stated> Setup<'p, S> {
         let found = stored.found(self.alloc, path, options.as_slice())?;
         let active = stored.active()?;
         let mut templates = stored.take_templates(self.alloc)?;
-        let page = self.page(found, options, &mut templates, active, &mut stored.load);
+        let kind = found.get().kind;
+        let settings = settings_for(self.alloc, kind, options.as_slice(), &mut templates);
         stored.keep_templates(templates);
-        Ok(page?)
-    }
-
-    /// Opens the page of a request, given what its path found.
-    fn page(
-        &self,
-        found: Shared<Found>,
-        options: SharedList<(Text, Text)>,
-        templates: &mut Templates,
-        active: SharedList<Text>,
-        kept: &mut KeptLoad,
-    ) -> Result<OpenPage, AllocError>
-        ensures ok { IfOk result (λ page. opened_as (engine_of S.says S.number self.now) page
-            ≡ page_of
-            (engine_of S.says S.number self.now) (calls_of self.now) found options templates.old
-            active) }
-        ensures same { templates.new ≡ templates.old }
-    {
-        let settings = settings_for(self.alloc, found.get().kind, options.as_slice(), templates)?;
-        let run = loaded_run(self.alloc, self.plugins, active, options, self.calls, kept)?;
+        let settings = settings?;
+        let run = Run::loaded(self.alloc, self.plugins, active, options, self.calls, load)?;
         Ok(OpenPage::begin(self.alloc, found, settings, run))
-    }
-
-    /// Prints a page to its end, and replies with it. A page that is watched is printed turn by
-    /// turn.
-    fn finish<V: Watch>(
-        &self,
-        page: OpenPage,
-        path: &str,
-        cache: &mut PieceCache,
-        watch: &mut V,
-    ) -> Result<SiteReply, StoreFault>
-        ensures ok { IfOk result (λ reply. reply_data reply
-            ≡ (opened_as (engine_of S.says S.number self.now) page).answer) }
-        ensures memory { IfErr result (λ fault. fault ≡ StoreFault.OutOfMemory) }
-        ensures cache { cache.new ≡ cache.old }
-    {
-        if watch.is_on() {
-            return self.finish_by_turns(page, PageName::Path(path), cache, watch);
-        }
-        self.finish_at_once(page, cache)
     }
 
     /// Prints a page to its end without stopping, and replies with it.
@@ -209,37 +169,25 @@ impl<'p, S: Stated> Setup<'p, S> {
     }
 }
 
+/// Returns the refusal of a page that ends by a fault.
+pub(crate) fn refusal_of(fault: RunFault) -> Refusal
+    ensures { refused result ≡ refusal_of fault }
+{
+    match fault {
+        RunFault::TooManyCalls => Refusal::TooManyCalls,
+        RunFault::TooDeep => Refusal::TooDeep,
+        RunFault::OutOfMemory => Refusal::OutOfMemory,
+    }
+}
+
 /// Replies with the refusal of a page, unless memory ran out.
 pub(crate) fn refused_by(fault: RunFault) -> Result<SiteReply, StoreFault>
     ensures ok { IfOk result (λ reply. (reply_data reply ≡ refusal_of fault)
         × (fault ≢ RunFault.OutOfMemory)) }
     ensures memory { IfErr result (λ why. why ≡ StoreFault.OutOfMemory) }
 {
-    match fault {
-        RunFault::TooManyCalls => Ok(SiteReply::Refused(Refusal::TooManyCalls)),
-        RunFault::TooDeep => Ok(SiteReply::Refused(Refusal::TooDeep)),
-        RunFault::OutOfMemory => Err(StoreFault::OutOfMemory),
-    }
-}
-
-/// Makes the run of a request, with the plugins loaded.
-fn loaded_run<'p, S: Stated>(
-    alloc: Global,
-    plugins: &'p Plugins<S>,
-    active: SharedList<Text>,
-    options: SharedList<(Text, Text)>,
-    calls: u32,
-    kept: &mut KeptLoad,
-) -> Result<Run<'p, S>, AllocError>
-    ensures loaded { IfOk result (λ run. world_of run
-        ≡ loaded (shapes_of S.number plugins.entry.now)
-        (fresh calls options active)) }
-    ensures ready { IfOk result (λ run. IsReady run) }
-    ensures engine { IfOk result (λ run. runs.engine_of S.says S.number run
-        ≡ engine_with S.says (shapes_of S.number plugins.entry.now)) }
-{
-    match Run::loaded(alloc, plugins, active, options, calls, kept) {
-        Ok(run) => Ok(run),
-        Err(_) => Err(AllocError),
+    match refusal_of(fault) {
+        Refusal::OutOfMemory => Err(StoreFault::OutOfMemory),
+        refusal => Ok(SiteReply::Refused(refusal)),
     }
 }

@@ -4,9 +4,9 @@ ghost use Rattle.site_serving.specs.Journaled.{IsSettled};
 ghost use Rattle.site_serving.specs.Serving.{is_read, is_write};
 
 use crate::site::Site;
+use byte_io::{Journal, Source};
 use callback_store::Stated;
-use ends::{Journal, Source};
-use page_log::{Unwatched, Watch};
+use page_trace::{Unwatched, Watch};
 use site_edits::StoreFault;
 use site_replies::{Refusal, ServeFault};
 use site_serving::{Commands, LineReply};
@@ -52,6 +52,7 @@ impl<'p, S: Stated> Commands for Site<'p, S> {
 
 impl<'p, S: Stated> Site<'p, S> {
     ghost use Rattle.std.specs.Prelude.{◌++◌, ℕ, List, Some, IfErr, IfSome};
+    ghost use Rattle.byte_io.specs.Journal.{IsFront};
     ghost use Rattle.site_serving.specs.Lines.{lines_of};
     ghost use Rattle.site_program.specs.Journaled.{IsNoted, KeepsAhead};
     ghost use Rattle.site_program.specs.Serving.{IsReplies, ServesAll, Stops};
@@ -105,7 +106,9 @@ impl<'p, S: Stated> Site<'p, S> {
         ensures settled { OnOk result (IsSettled W.Journal writer.old
             → IsSettled W.Journal writer.new) }
 
-        // At any return the log is not older than what was written.
+        // At any return what was written is a front of what was taken, and the log is not older.
+        ensures front { IsFront (W.written writer.old) (W.contents writer.old)
+            → IsFront (W.written writer.new) (W.contents writer.new) }
         ensures ahead { IsSettled W.Journal writer.old → KeepsAhead W.Journal
             (steps_of S.says S.number (setup_of self.old)) (state_of S.says S.number self.old)
             (R.remaining reader.old) writer.old writer.new (state_of S.says S.number self.new) }

@@ -4,9 +4,9 @@ ghost use Rattle.site_records.specs.Texts.{text_named};
 ghost use Rattle.template_parts.specs.Choice.{template_choice};
 ghost use Rattle.site_program.specs.Requests.{template_for, settings_for};
 
-use crate::templates::Templates;
-use hook_changes::{Shared, Text};
+use plain_data::{Shared, Text};
 use site_records::{FoundKind, text_named};
+use site_store::Templates;
 use std::alloc::{AllocError, Global};
 use template_parts::{Settings, choose};
 use template_trees::Template;

@@ -6,15 +6,16 @@ ghost use Rattle.site_replies.specs.Reply.{reply_data};
 use crate::edits::{is_done, is_edit};
 use crate::setup::Setup;
 use crate::state::SiteState;
-use crate::stored::SiteStore;
 use callback_store::{Plugins, Stated};
 use content_cache::PieceCache;
-use page_log::{Unwatched, Watch};
+use hook_machine::KeptLoad;
+use page_trace::{Unwatched, Watch};
 use post_tables::Tables;
 use site_commands::{Command, read_command, read_line};
 use site_edits::StoreFault;
 use site_replies::{Refusal, SiteReply};
 use site_serving::LineReply;
+use site_store::SiteStore;
 use std::alloc::Global;
 use template_parts::OpenPages;
 
@@ -75,6 +76,7 @@ impl<'p, S: Stated> Site<'p, S> {
             stored: SiteStore::new(alloc, tables),
             pages,
             cache,
+            load: KeptLoad::none(),
         };
         Ok(Site { setup, state })
     }
@@ -141,13 +143,13 @@ impl<'p, S: Stated> Setup<'p, S> {
     ghost use Rattle.site_replies.specs.Reply.{refused};
     ghost use Rattle.site_program.specs.Site.{engine_of, calls_of, seen_by};
     ghost use Rattle.site_program.specs.Step.{IsReply, steps_of, carried_out};
-    ghost use Rattle.site_program.specs.Carried.{CarriesOn, reply_in};
+    ghost use Rattle.site_program.specs.Carried.{CarriesOn};
     ghost use Rattle.site_program.specs.History.{is_kept};
     ghost use Rattle.site_commands.specs.Worked.{line_command};
 
     /// Carries out one line over a site's state, and says beside its reply whether the history has
     /// it.
-    #[tactic(auto, using(crate::proofs::Carrying::left_rows, crate::proofs::Carrying::left_limit))]
+    #[tactic(auto, unfolding(crate::specs::Step::step), using(crate::proofs::Carrying::left_rows))]
     pub(crate) fn command<V: Watch>(
         &self,
         state: &mut SiteState,
@@ -164,43 +166,23 @@ impl<'p, S: Stated> Setup<'p, S> {
         ensures limit { state.new.stored.step_limit ≡ state.old.stored.step_limit }
         ensures cache { state.new.cache ≡ state.old.cache }
     {
-        match self.try_command(state, line, watch) {
-            Ok(reply) => reply,
-            Err(StoreFault::OutOfMemory) => LineReply::refused(Refusal::OutOfMemory),
-            Err(StoreFault::Store) => LineReply::refused(Refusal::Store),
-        }
-    }
-
-    /// Carries out one line, unless an allocation fails or the database refuses.
-    #[tactic(auto, unfolding(crate::specs::Step::step))]
-    fn try_command<V: Watch>(
-        &self,
-        state: &mut SiteState,
-        line: &[u8],
-        watch: &mut V,
-    ) -> Result<LineReply, StoreFault>
-        ensures carried { CarriesOn (line_command line.now)
-            (seen_by S.says S.number self.now state.old)
-            (steps_of S.says S.number self.now (seen_by S.says S.number self.now state.old)
-            line.now)
-            (reply_in result) (seen_by S.says S.number self.now state.new) }
-        ensures kept { IfOk result (λ r. r.is_kept
-            ≡ is_kept (record { line = line.now; reply = reply_data r.reply })) }
-        ensures cache { state.new.cache ≡ state.old.cache }
-    {
-        let Some(tree) = read_line(self.alloc, line)? else {
-            return Ok(LineReply::refused(Refusal::BadCommand));
+        let Ok(read) = read_line(self.alloc, line) else {
+            return LineReply::refused(Refusal::OutOfMemory);
+        };
+        let Some(tree) = read else {
+            return LineReply::refused(Refusal::BadCommand);
         };
         let Some(command) = read_command(&tree) else {
-            return Ok(LineReply::refused(Refusal::BadCommand));
+            return LineReply::refused(Refusal::BadCommand);
         };
         let edits = is_edit(command);
         match self.carry_out(state, command, watch) {
-            Ok(reply) => Ok(LineReply {
+            Ok(reply) => LineReply {
                 is_kept: edits && is_done(&reply),
                 reply,
-            }),
-            Err(fault) => Err(fault),
+            },
+            Err(StoreFault::OutOfMemory) => LineReply::refused(Refusal::OutOfMemory),
+            Err(StoreFault::Store) => LineReply::refused(Refusal::Store),
         }
     }
 
@@ -241,7 +223,9 @@ impl<'p, S: Stated> Setup<'p, S> {
             Command::Deactivate { plugin } => stored.set_active(self.plugins, plugin, false),
             Command::Template { name, body } => stored.set_template(self.alloc, name, body),
             Command::Import { site } => stored.import(self.alloc, self.plugins, site),
-            Command::Get { path } => self.get(stored, path, &mut state.cache, watch),
+            Command::Get { path } => {
+                self.get(stored, path, &mut state.load, &mut state.cache, watch)
+            }
             Command::Begin { path } => self.begin(state, path, watch),
             Command::Turns { page, count } => self.turns(state, page, count, watch),
         }

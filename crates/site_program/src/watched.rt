@@ -4,24 +4,20 @@ ghost use Rattle.callback_store.specs.Shape.{owner};
 ghost use Rattle.site_replies.specs.Reply.{reply_data};
 ghost use Rattle.template_parts.specs.Open.{GoesOn};
 
-use crate::page::refused_by;
+use crate::page::{refusal_of, refused_by};
 use crate::setup::Setup;
 use callback_store::Stated;
 use content_cache::PieceCache;
-use hook_changes::CallbackId;
 use hook_machine::RunFault;
-use page_log::{PageEnd, PageName, Told, Watch};
+use page_trace::{PageEnd, PageName, Told, Watch};
+use plain_data::CallbackId;
 use site_edits::StoreFault;
-use site_replies::{Refusal, SiteReply};
+use site_replies::SiteReply;
 use template_parts::{OpenPage, Turned};
 
 /// Returns the end of a page that a fault refuses.
 fn refused_end(fault: RunFault) -> PageEnd {
-    let refusal = match fault {
-        RunFault::TooManyCalls => Refusal::TooManyCalls,
-        RunFault::TooDeep => Refusal::TooDeep,
-        RunFault::OutOfMemory => Refusal::OutOfMemory,
-    };
+    let refusal = refusal_of(fault);
     PageEnd::Refused {
         number: refusal.number(),
         name: refusal.name(),
@@ -81,28 +77,6 @@ impl<'p, S: Stated> Setup<'p, S> {
         watch.invoked(name, &told);
     }
 
-    /// Tells what came of a turn of a page that had made some invocations before.
-    fn tell<V: Watch>(
-        &self,
-        turned: &Result<Turned, RunFault>,
-        made: u32,
-        name: PageName<'_>,
-        posts: &[Option<u32>],
-        watch: &mut V,
-    ) {
-        match turned {
-            Ok(Turned::Open(page)) => self.tell_invocation(page, name, posts, watch),
-            Ok(Turned::Closed(status, body)) => {
-                let end = PageEnd::Printed {
-                    status: *status,
-                    bytes: body.len(),
-                };
-                watch.ended(name, end, made);
-            }
-            Err(fault) => watch.ended(name, refused_end(*fault), made),
-        }
-    }
-
     /// Makes one turn of a page, and tells what came of it.
     fn turn_watched<V: Watch>(
         &self,
@@ -117,7 +91,17 @@ impl<'p, S: Stated> Setup<'p, S> {
     {
         let made = self.calls.saturating_sub(page.calls_left());
         let turned = page.turns(self.plugins, 1, cache);
-        self.tell(&turned, made, name, posts, watch);
+        match &turned {
+            Ok(Turned::Open(page)) => self.tell_invocation(page, name, posts, watch),
+            Ok(Turned::Closed(status, body)) => {
+                let end = PageEnd::Printed {
+                    status: *status,
+                    bytes: body.len(),
+                };
+                watch.ended(name, end, made);
+            }
+            Err(fault) => watch.ended(name, refused_end(*fault), made),
+        }
         turned
     }
 
@@ -151,11 +135,12 @@ impl<'p, S: Stated> Setup<'p, S> {
         Ok(Turned::Open(page))
     }
 
-    /// Prints a page to its end, turn by turn, and replies with it.
-    pub(crate) fn finish_by_turns<V: Watch>(
+    /// Prints a page to its end, and replies with it. A page that is watched is printed turn by
+    /// turn.
+    pub(crate) fn finish<V: Watch>(
         &self,
         page: OpenPage,
-        name: PageName<'_>,
+        path: &str,
         cache: &mut PieceCache,
         watch: &mut V,
     ) -> Result<SiteReply, StoreFault>
@@ -164,7 +149,10 @@ impl<'p, S: Stated> Setup<'p, S> {
         ensures memory { IfErr result (λ fault. fault ≡ StoreFault.OutOfMemory) }
         ensures cache { cache.new ≡ cache.old }
     {
-        match self.turns_watched(page, name, u32::MAX, cache, watch) {
+        if !watch.is_on() {
+            return self.finish_at_once(page, cache);
+        }
+        match self.turns_watched(page, PageName::Path(path), u32::MAX, cache, watch) {
             Ok(Turned::Closed(status, body)) => Ok(SiteReply::Page { status, body }),
             // No page has so many turns.
             Ok(Turned::Open(page)) => self.finish_at_once(page, cache),

@@ -1,6 +1,6 @@
 //! What a site has for a query.
 use crate::post::Post;
-use hook_changes::Listed;
+use plain_data::Listed;
 
 /// The kind of what is found, by which its template is chosen (Theme Handbook, Template Hierarchy).
 #[derive(Clone, Copy, PartialEq, Eq)]

@@ -1,6 +1,6 @@
 //! Posts, and the records of a whole site.
 use crate::date::PostDate;
-use hook_changes::{Listed, Text};
+use plain_data::{Listed, Text};
 
 /// The largest ID that a post can have: clients with signed 32-bit numbers can name no larger one.
 pub const MAX_ID: u32 = 2_147_483_647;

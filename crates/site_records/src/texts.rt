@@ -2,7 +2,7 @@
 ghost use Rattle.std.specs.Prelude.{◌≡◌, option_map};
 ghost use Rattle.site_records.specs.Texts.{text_named};
 
-use hook_changes::Text;
+use plain_data::Text;
 
 /// Returns the first text of that name, as of an option or a template (get_option).
 pub fn text_named<'t>(texts: &'t [(Text, Text)], name: &str) -> Option<&'t str>

@@ -6,9 +6,9 @@ use Rattle.std.proofs.lemmas.List.{length-map, nil_from_length}
 use Rattle.std.proofs.lemmas.List.Elements.{All-push}
 use Rattle.std.proofs.KnownBytes.{Appends-trans, Consumes-trans, Consumes-kept}
 use Rattle.std.specs.Io.KnownBytes.{Appends, Consumes, Keeps, IsAtEnd}
-use Rattle.ends.specs.Known.{AppendsFront}
-use Rattle.ends.specs.Journal.{Grows}
-use Rattle.ends.specs.declared.journal.Journal.{Ghosts}
+use Rattle.byte_io.specs.Known.{AppendsFront}
+use Rattle.byte_io.specs.Journal.{Grows, IsFront}
+use Rattle.byte_io.specs.declared.journal.Journal.{Ghosts}
 use Rattle.site_replies.specs.Reply.{ReplyData, bytes_of}
 use Rattle.site_replies.specs.declared.fault.ServeFault.{ServeFault}
 use Rattle.site_replies.specs.declared.fault.ServeFault.TheVariants as fault_of
@@ -164,7 +164,7 @@ module _ {J : Type 0} (g : Ghosts J) (keeps : Replied → Bool) {X : Type 0} (re
             (Appends-trans _ _ _ _ _ p.taken h.taken);
         noted = subst (Grows (g.noted a) (g.noted c)) (sym (history-append keeps p.replied (r ∷ [])))
             (Grows-trans _ _ _ _ _ p.noted (Grows-same _ _ _ _ h.enters.grows h.enters.noted));
-        out = Outgoing-trans g keeps a b c p.replied (r ∷ []) p.noted p.taken p.front p.stays p.out
+        out = Outgoing-trans g keeps a b c p.replied (r ∷ []) p.noted p.taken p.stays p.out
             (Outgoing-one g keeps replies {E = E} mid after held b c (Ok x) h);
       }
 
@@ -254,7 +254,7 @@ module _ {J : Type 0} (g : Ghosts J) (keeps : Replied → Bool) {X : Type 0} (re
         between = g.contents b;
         taken = p.taken;
         part = h.part;
-        out = Outgoing-trans g keeps a b c p.replied (r ∷ []) p.noted p.taken p.front p.stays p.out
+        out = Outgoing-trans g keeps a b c p.replied (r ∷ []) p.noted p.taken p.stays p.out
             (Outgoing-one g keeps replies {E = E} mid after held b c (Err e) h);
       }
 
@@ -360,6 +360,16 @@ module _ {J : Type 0} (g : Ghosts J) (keeps : Replied → Bool) {X : Type 0} (re
       let h = halts (λ e. absurd (cc)) in KeepsAhead-records site after max_lines room stretch h.0 given left a b settled read h.1
   KeepsAhead-stretch site after room stretch given left a b fault_of.OutOfMemory settled read fails halts =
       let h = halts (λ e. absurd (cc)) in KeepsAhead-records site after max_lines room stretch h.0 given left a b settled read h.1
+
+  -- what was written is a front of what was taken also after a fault in a stretch of what was read
+  pub front-stretch : (site after : X) (room : ℕ) (stretch : List ℕ) (a b : J) (fault : ServeFault)
+      → (fault ≡ fault_of.Write → Fails g keeps replies site max_lines stretch a b after)
+      → (fault ≢ fault_of.Write → Halts g keeps replies site max_lines stretch a b after room fault)
+      → IsFront (g.written a) (g.contents a) → IsFront (g.written b) (g.contents b)
+  front-stretch site after room stretch a b fault_of.Write fails halts = (fails refl).out.front
+  front-stretch site after room stretch a b fault_of.Read fails halts = absurd (halts (λ e. absurd (cc))).2
+  front-stretch site after room stretch a b fault_of.TooMuchInput fails halts = (halts (λ e. absurd (cc))).1.out.front
+  front-stretch site after room stretch a b fault_of.OutOfMemory fails halts = (halts (λ e. absurd (cc))).1.out.front
 
   -- memory ran out at the first line of the rest, and nothing has changed since
   pub halts_here : (site mid after : X) (limit room : ℕ) (stretch rest : List ℕ) (a b c : J) (fault : ServeFault) → after ≡ mid → c ≡ b

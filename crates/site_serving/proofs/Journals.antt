@@ -5,9 +5,9 @@ use Rattle.std.specs.Prelude.{OnOk, OnErr}
 use Rattle.std.specs.Io.KnownBytes.{Appends, append_known}
 use Rattle.std.proofs.KnownBytes.{Appends-trans, Appends-nil}
 use Rattle.std.proofs.lemmas.List.{append_cancel_left}
-use Rattle.ends.specs.Known.{AppendsFront}
-use Rattle.ends.specs.Journal.{Grows, IsFront}
-use Rattle.ends.specs.declared.journal.Journal.{Ghosts}
+use Rattle.byte_io.specs.Known.{AppendsFront}
+use Rattle.byte_io.specs.Journal.{Grows, IsFront}
+use Rattle.byte_io.specs.declared.journal.Journal.{Ghosts}
 use Rattle.site_replies.specs.Reply.{ReplyData}
 use Rattle.site_serving.specs.Served.{Replied, written_for, history_of}
 use Rattle.site_serving.specs.Journaled.{IsSettled, IsQuiet, LetsOut, IsAhead, Enters, GoesAhead, Outgoing, noted_of}
@@ -161,30 +161,33 @@ module _ {J : Type 0} (g : Ghosts J) where
         → Grows (g.noted old) meant (history_of keeps replied)
         → (IsFront (g.written old) (g.contents old) → IsFront (g.written new) (append_known (g.contents old) (written_for replied)))
         → Outgoing g keeps old new replied
-    Outgoing-noted meant old new replied out grows front = record {
+    Outgoing-noted meant old new replied out grows within = record {
+      front = out.front;
       writes = out.writes;
       ahead = λ up held h.
           elim (out.commits held h) [
             | inl was ↦ elim (out.first up) [
               | inl same ↦ inl (was, same)
-              | inr all ↦ goes_all meant old new replied held grows (all held h) front
+              | inr all ↦ goes_all meant old new replied held grows (all held h) within
             ]
-            | inr is ↦ goes_all meant old new replied held grows is front
+            | inr is ↦ goes_all meant old new replied held grows is within
           ];
     }
 
-    -- nothing was let out at lines
-    pub Outgoing-quiet : (old new : J) (replied : List Replied) → IsQuiet g old new → Outgoing g keeps old new replied
-    Outgoing-quiet old new replied quiet = record {
-      writes = ([], rw quiet.same (Appends-nil (g.written old)));
-      ahead = λ up held h. inl (quiet.held held h, quiet.same);
+    -- nothing was let out
+    pub Outgoing-none : (j : J) (replied : List Replied) → Outgoing g keeps j j replied
+    Outgoing-none j replied = record {
+      front = λ f. f;
+      writes = ([], Appends-nil (g.written j));
+      ahead = λ up held h. inl (h, refl);
     }
 
     -- one stretch after another
     pub Outgoing-trans : (a b c : J) (before after : List Replied) → Grows (g.noted a) (g.noted b) (history_of keeps before)
-        → Appends (g.contents a) (g.contents b) (written_for before) → (IsFront (g.written a) (g.contents a) → IsFront (g.written b) (g.contents b))
-        → (g.is_open a → g.is_open b) → Outgoing g keeps a b before → Outgoing g keeps b c after → Outgoing g keeps a c (before ++ after)
-    Outgoing-trans a b c before after grows taken front stays first then = record {
+        → Appends (g.contents a) (g.contents b) (written_for before) → (g.is_open a → g.is_open b) → Outgoing g keeps a b before
+        → Outgoing g keeps b c after → Outgoing g keeps a c (before ++ after)
+    Outgoing-trans a b c before after grows taken stays first then = record {
+      front = λ f. then.front (first.front f);
       writes = (first.writes.0 ++ then.writes.0, Appends-trans _ _ _ _ _ first.writes.1 then.writes.1);
       ahead = λ up held h.
           elim (then.ahead (stays up) held h) [
@@ -204,7 +207,7 @@ module _ {J : Type 0} (g : Ghosts J) where
               append_assoc before some.0 some.1 ∙ ap (λ l. before ++ l) some.2,
               subst (Grows (g.noted a) (Some held)) (sym (history-append keeps before some.0)) (Grows-trans _ _ _ _ _ grows some.3),
               λ f. subst (λ bytes. IsFront (g.written c) (append_known (g.contents a) bytes)) (sym (written-append before some.0))
-                  (IsFront-after _ _ _ _ _ (some.4 (front f)) taken),
+                  (IsFront-after _ _ _ _ _ (some.4 (first.front f)) taken),
             )
           ];
     }

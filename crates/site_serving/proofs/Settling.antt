@@ -1,8 +1,8 @@
 -- Lemmas on letting out what waits after a chunk.
 use Rattle.std.proofs.Common.{◌≡◌, ◌≢◌, ◌⊎◌, inl, inr, ℕ, Bool, List, [], Result, Ok, Err, refl, sym, subst}
 use Rattle.std.specs.Prelude.{IfErr, OnOk, IsErrOf}
-use Rattle.ends.specs.Journal.{Grows}
-use Rattle.ends.specs.declared.journal.Journal.{Ghosts}
+use Rattle.byte_io.specs.Journal.{Grows}
+use Rattle.byte_io.specs.declared.journal.Journal.{Ghosts}
 use Rattle.site_replies.specs.Reply.{ReplyData}
 use Rattle.site_replies.specs.declared.fault.ServeFault.{ServeFault}
 use Rattle.site_replies.specs.declared.fault.ServeFault.TheVariants as fault_of

@@ -6,9 +6,9 @@ use Rattle.std.specs.Io.KnownBytes.{Appends}
 use Rattle.std.proofs.KnownBytes.{Appends-trans, Appends-nil}
 use Rattle.std.proofs.lemmas.Grind.{flat_map-append}
 use Rattle.std.proofs.lemmas.List.Elements.{All-append, All-nil, All-push, All-pop}
-use Rattle.ends.specs.Known.{AppendsFront}
-use Rattle.ends.specs.Journal.{Grows}
-use Rattle.ends.specs.declared.journal.Journal.{Ghosts}
+use Rattle.byte_io.specs.Known.{AppendsFront}
+use Rattle.byte_io.specs.Journal.{Grows}
+use Rattle.byte_io.specs.declared.journal.Journal.{Ghosts}
 use Rattle.site_replies.specs.Reply.{ReplyData, bytes_of}
 use Rattle.site_serving.specs.Served.{Replied, Serves, lines_in, written_for}
 use Rattle.site_serving.specs.Journaled.{LetsOut, Enters, Outgoing}
@@ -17,7 +17,7 @@ use Rattle.site_replies.specs.declared.fault.ServeFault.{ServeFault}
 use Rattle.site_serving.specs.Stretches.{Handles, Records, Fails, Halts}
 use Rattle.site_serving.proofs.Histories.{Serves-append, Serves-split, history-append, lines-append, written-append}
 use Rattle.site_serving.proofs.Journals.{Grows-nil, Grows-trans, Grows-same, on_all, IsFront-taken, IsFront-part}
-use Rattle.site_serving.proofs.Journals.{LetsOut-trans, Outgoing-noted, Outgoing-quiet, Outgoing-trans}
+use Rattle.site_serving.proofs.Journals.{LetsOut-trans, Outgoing-none, Outgoing-noted, Outgoing-trans}
 use Rattle.site_serving.proofs.LineLists.{lines_of-ended, lines_of-line}
 
 -- a list that is not empty ends in an item
@@ -70,9 +70,8 @@ module _ {J : Type 0} (g : Ghosts J) (keeps : Replied → Bool) {X : Type 0} (re
     count = omega arith;
     taken = Appends-nil (g.contents j);
     noted = Grows-nil (g.noted j);
-    front = λ f. f;
     stays = λ up. up;
-    out = Outgoing-quiet g keeps j j [] (record { same = refl; held = λ held h. h });
+    out = Outgoing-none g keeps j [];
   }
 
   -- a line was handled
@@ -91,7 +90,6 @@ module _ {J : Type 0} (g : Ghosts J) (keeps : Replied → Bool) {X : Type 0} (re
         count = omega (arith, room);
         taken = taken;
         noted = Grows-same _ _ _ _ h.enters.grows h.enters.noted;
-        front = h.enters.out.front;
         stays = h.enters.stays;
         out = Outgoing-noted g keeps h.enters.meant old new (r ∷ []) h.enters.out h.enters.grows (λ f. IsFront-taken _ _ _ _ (h.enters.out.front f) taken);
       }
@@ -107,7 +105,6 @@ module _ {J : Type 0} (g : Ghosts J) (keeps : Replied → Bool) {X : Type 0} (re
     count = omega arith;
     taken = rw same (Appends-nil (g.contents old));
     noted = noted;
-    front = out.front;
     stays = stays;
     out = Outgoing-noted g keeps (g.noted old) old new [] out (Grows-nil (g.noted old))
         (λ f. IsFront-taken _ _ _ _ (out.front f) (rw same (Appends-nil (g.contents old))));
@@ -124,9 +121,8 @@ module _ {J : Type 0} (g : Ghosts J) (keeps : Replied → Bool) {X : Type 0} (re
     count = let before = p.count in let after = q.count in simp length-append (omega arith);
     taken = subst (Appends (g.contents a) (g.contents c)) (sym (written-append p.replied q.replied)) (Appends-trans _ _ _ _ _ p.taken q.taken);
     noted = subst (Grows (g.noted a) (g.noted c)) (sym (history-append keeps p.replied q.replied)) (Grows-trans _ _ _ _ _ p.noted q.noted);
-    front = λ f. q.front (p.front f);
     stays = λ up. q.stays (p.stays up);
-    out = Outgoing-trans g keeps a b c p.replied q.replied p.noted p.taken p.front p.stays p.out q.out;
+    out = Outgoing-trans g keeps a b c p.replied q.replied p.noted p.taken p.stays p.out q.out;
   }
 
   -- what follows the last newline is held
@@ -198,7 +194,7 @@ module _ {J : Type 0} (g : Ghosts J) (keeps : Replied → Bool) {X : Type 0} (re
         between = g.contents b;
         taken = p.taken;
         part = h.part;
-        out = Outgoing-trans g keeps a b c p.replied (r ∷ []) p.noted p.taken p.front p.stays p.out
+        out = Outgoing-trans g keeps a b c p.replied (r ∷ []) p.noted p.taken p.stays p.out
             (Outgoing-one {E = E} two three (held ++ part) b c (Err e) h);
       }
 
@@ -226,7 +222,7 @@ module _ {J : Type 0} (g : Ghosts J) (keeps : Replied → Bool) {X : Type 0} (re
     taken = subst (Appends (g.contents a) q.between) (sym (written-append p.replied q.done)) (Appends-trans _ _ _ _ _ p.taken q.taken);
     part = q.part;
     out = subst (Outgoing g keeps a c) (sym (append_assoc p.replied q.done (q.last ∷ [])))
-        (Outgoing-trans g keeps a b c p.replied (q.done ++ q.last ∷ []) p.noted p.taken p.front p.stays p.out q.out);
+        (Outgoing-trans g keeps a b c p.replied (q.done ++ q.last ∷ []) p.noted p.taken p.stays p.out q.out);
   }
 
   -- if a line was served, the last one may be the one whose reply was not written, although all of it was taken
@@ -263,7 +259,7 @@ module _ {J : Type 0} (g : Ghosts J) (keeps : Replied → Bool) {X : Type 0} (re
             let then = Outgoing-noted g keeps (g.noted b) b c [] out (Grows-nil (g.noted b))
             (λ f. IsFront-taken _ _ _ _ (out.front f) (rw contents (Appends-nil (g.contents b)))) in
             subst (Outgoing g keeps a c) (append-nil p.replied ∙ sym l.whole)
-            (Outgoing-trans g keeps a b c p.replied [] p.noted p.taken p.front p.stays p.out then);
+            (Outgoing-trans g keeps a b c p.replied [] p.noted p.taken p.stays p.out then);
       }
 
   -- ---- the last line, which has no newline, and what then waits

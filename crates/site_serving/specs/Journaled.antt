@@ -1,10 +1,10 @@
 -- What serving notes in a journal, and what it lets out of it.
 use Rattle.std.specs.Prelude.{◌≡◌, ◌⊎◌, Bool, true, false, ℕ, List, [], ◌∷◌, ◌++◌, Option, Some, Result, OnOk, IfSome}
 use Rattle.std.specs.Io.KnownBytes.{Appends, append_known}
-use Rattle.ends.specs.Known.{AppendsFront}
-use Rattle.ends.specs.Journal.{Grows, IsFront}
-use Rattle.ends.specs.Journal as ends
-use Rattle.ends.specs.declared.journal.Journal.{Ghosts}
+use Rattle.byte_io.specs.Known.{AppendsFront}
+use Rattle.byte_io.specs.Journal.{Grows, IsFront}
+use Rattle.byte_io.specs.Journal as journals
+use Rattle.byte_io.specs.declared.journal.Journal.{Ghosts}
 use Rattle.site_replies.specs.Reply.{ReplyData}
 use Rattle.site_serving.specs.Served.{Replied, Serves, lines_in, written_for, history_of}
 use Rattle.site_serving.specs.Lines.{lines_of}
@@ -17,13 +17,13 @@ noted_of false line = []
 module _ {J : Type 0} (g : Ghosts J) where
   -- nothing waits in an open journal: all replies that were taken are written, and all lines that were noted are committed
   abbrev pub IsSettled : J → Type 0
-  IsSettled = ends.IsSettled g.written g.contents g.is_open g.may_hold g.noted
+  IsSettled = journals.IsSettled g.written g.contents g.is_open g.may_hold g.noted
 
   abbrev pub IsQuiet : J → J → Type 0
-  IsQuiet = ends.IsQuiet g.written g.contents g.is_open g.may_hold
+  IsQuiet = journals.IsQuiet g.written g.contents g.is_open g.may_hold
 
   abbrev pub LetsOut : Option (List (List ℕ)) → J → J → Type 0
-  LetsOut = ends.LetsOut g.written g.contents g.is_open g.may_hold
+  LetsOut = journals.LetsOut g.written g.contents g.is_open g.may_hold
 
   -- the lines were noted and a reply taken after them, or a call failed on the way: for private clauses
   pub record Enters {E : Type 0} (more : List (List ℕ)) (old new : J) (result : Result (Unit {0}) E) : Type 0 where
@@ -38,10 +38,13 @@ module _ {J : Type 0} (g : Ghosts J) where
     -- The log holds what was noted before and then the edits that were done at some first lines, and no others; and what
     -- was written is a front of the replies to these very lines.
     pub record IsAhead (old new : J) (replied : List Replied) (held : List (List ℕ)) : Type 0 where
+      -- the first lines that were served, and those after them
       pub front : List Replied
       pub back : List Replied
       pub whole : front ++ back ≡ replied
+      -- the log holds what was noted before, and then the edits that were done at the first lines
       pub edits : Grows (g.noted old) (Some held) (history_of keeps front)
+      -- what was written is the beginning of the replies to them
       pub written : AppendsFront (g.written old) (g.written new) (written_for front)
 
     -- The log holds what it held and nothing was written; or it holds what was noted before and then the edits that were done
@@ -52,8 +55,9 @@ module _ {J : Type 0} (g : Ghosts J) where
         ⊎ ((front : List Replied) × (back : List Replied) × (front ++ back ≡ replied) × Grows (g.noted old) (Some held) (history_of keeps front)
         × (IsFront (g.written old) (g.contents old) → IsFront (g.written new) (append_known (g.contents old) (written_for front))))
 
-    -- what was let out of an open journal while some lines were served
+    -- what was let out of an open journal while some lines were served; what was written stays a front of what was taken
     pub record Outgoing (old new : J) (replied : List Replied) : Type 0 where
+      pub front : IsFront (g.written old) (g.contents old) → IsFront (g.written new) (g.contents new)
       pub writes : (more : List ℕ) × Appends (g.written old) (g.written new) more
       pub ahead : g.is_open old → (held : List (List ℕ)) → g.may_hold new held → GoesAhead old new replied held
 

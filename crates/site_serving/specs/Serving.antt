@@ -1,7 +1,7 @@
 -- What serving an input does, and which replies the writer takes.
 use Rattle.std.specs.Prelude.{◌≡◌, ◌⊎◌, ℕ, ◌<◌, ◌≤◌, List, [], ◌∷◌, ◌++◌, length, Option, Result, Ok, Err, Bool, true, false, IfSome, All, flat_map}
 use Rattle.std.specs.Io.KnownBytes.{Appends, Consumes, IsAtEnd}
-use Rattle.ends.specs.Known.{AppendsFront}
+use Rattle.byte_io.specs.Known.{AppendsFront}
 use Rattle.site_replies.specs.Reply.{ReplyData, bytes_of}
 use Rattle.site_serving.specs.Lines.{lines_of, max_lines, max_line, IsLine, with_newline}
 use Rattle.site_replies.specs.declared.fault.ServeFault.{ServeFault}

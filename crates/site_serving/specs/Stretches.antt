@@ -1,9 +1,9 @@
 -- What serving the lines in a stretch of the input does: definitions for private clauses.
 use Rattle.std.specs.Prelude.{◌≡◌, ◌⊎◌, ℕ, ◌+◌, ◌<◌, Bool, List, [], ◌∷◌, ◌++◌, length, Option, Result, OnOk, OnErr, All, flat_map}
 use Rattle.std.specs.Io.KnownBytes.{Appends}
-use Rattle.ends.specs.Known.{AppendsFront}
-use Rattle.ends.specs.Journal.{Grows, IsFront}
-use Rattle.ends.specs.declared.journal.Journal as journal
+use Rattle.byte_io.specs.Known.{AppendsFront}
+use Rattle.byte_io.specs.Journal.{Grows}
+use Rattle.byte_io.specs.declared.journal.Journal as journal
 use Rattle.site_replies.specs.Reply.{ReplyData, bytes_of}
 use Rattle.site_replies.specs.declared.fault.ServeFault.{ServeFault}
 use Rattle.site_replies.specs.declared.fault.ServeFault.TheVariants as fault
@@ -47,7 +47,6 @@ module _ {J : Type 0} (g : journal.Ghosts J) (keeps : Replied → Bool) {X : Typ
     pub count : length replied + left ≡ limit
     pub taken : Appends (g.contents old) (g.contents new) (written_for replied)
     pub noted : Grows (g.noted old) (g.noted new) (history_of keeps replied)
-    pub front : IsFront (g.written old) (g.contents old) → IsFront (g.written new) (g.contents new)
     pub stays : g.is_open old → g.is_open new
     pub out : Outgoing g keeps old new replied
 

@@ -6,7 +6,7 @@ ghost use Rattle.site_replies.specs.Reply.{ReplyData, reply_data};
 ghost use Rattle.site_serving.specs.Served.{IsCarriedOut, Replied};
 
 use crate::line_reply::LineReply;
-use page_log::Watch;
+use page_trace::Watch;
 use site_replies::Refusal;
 
 /// What carries out lines, each of which gets one reply, and finds what the lines before it have

@@ -21,8 +21,8 @@ ghost use Rattle.std.specs.Prelude.{
   IsErrOf,
 };
 ghost use Rattle.std.specs.Io.KnownBytes.{Appends};
-ghost use Rattle.ends.specs.Journal.{Grows};
-ghost use Rattle.ends.specs.Known.{AppendsFront};
+ghost use Rattle.byte_io.specs.Journal.{Grows, IsFront};
+ghost use Rattle.byte_io.specs.Known.{AppendsFront};
 ghost use Rattle.site_replies.specs.Reply.{bytes_of, reply_data};
 ghost use Rattle.site_serving.specs.Journaled.{
   Enters,
@@ -38,9 +38,9 @@ ghost use Rattle.site_serving.specs.Stretches.{FailsBy, HaltsBy, HandlesBy, Reco
 
 use crate::commands::Commands;
 use crate::line_reply::LineReply;
-use ends::{EndFault, Journal, Source};
+use byte_io::{EndFault, Journal, Source};
 use memchr::memchr;
-use page_log::Watch;
+use page_trace::Watch;
 use site_replies::ServeFault;
 use std::alloc::Global;
 
@@ -102,7 +102,9 @@ pub fn serve<C: Commands, R: Source, W: Journal, V: Watch>(
     ensures settled { OnOk result (IsSettled W.Journal writer.old
         → IsSettled W.Journal writer.new) }
 
-    // At any return the log is not older than what was written.
+    // At any return what was written is a front of what was taken, and the log is not older.
+    ensures front { IsFront (W.written writer.old) (W.contents writer.old)
+        → IsFront (W.written writer.new) (W.contents writer.new) }
     ensures ahead { IsSettled W.Journal writer.old
         → KeepsAhead W.Journal C.keeps (C.replies (C.fixed commands.old)) (C.state commands.old)
         (R.remaining reader.old) writer.old writer.new (C.state commands.new) }

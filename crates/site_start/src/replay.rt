@@ -10,7 +10,7 @@ ghost use Rattle.site_start.specs.declared.fault.StartFault.TheVariants.{OtherPr
 
 use crate::fault::StartFault;
 use command_log::{CommandLog, LogFault, LogPlace};
-use page_log::Unwatched;
+use page_trace::Unwatched;
 use site_replies::{Refusal, SiteReply};
 use site_serving::Commands;
 use sqlite_trees::store::Alter;

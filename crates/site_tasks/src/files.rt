@@ -2,8 +2,8 @@
 ghost use Rattle.std.specs.Prelude.{◌≡◌, IfOk};
 
 use crate::status::{failed, failed_at};
+use byte_io::Journal;
 use command_log::CommandLog;
-use ends::Journal;
 use site_journal::{LogJournal, Steady};
 use site_replies::ServeFault;
 use site_serving::Commands;

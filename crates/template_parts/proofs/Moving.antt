@@ -5,16 +5,16 @@ use Rattle.hook_changes.specs.declared.reply.Call.{Call}
 use Rattle.hook_changes.specs.declared.reply.Reply.{Reply}
 use Rattle.site_records.specs.declared.post.Post.{Post}
 use Rattle.template_trees.specs.declared.tree.Item.{Item}
-use Rattle.hook_changes.specs.Texts.{Text}
-use Rattle.hook_machine.specs.World.{World}
-use Rattle.hook_machine.specs.declared.fault.RunFault.{RunFault}
-use Rattle.hook_machine.specs.declared.fault.RunFault.TheVariants.{TooManyCalls, TooDeep, OutOfMemory}
+use Rattle.plain_data.specs.Texts.{Text}
+use Rattle.hook_meaning.specs.World.{World}
+use Rattle.hook_meaning.specs.declared.fault.RunFault.{RunFault}
+use Rattle.hook_meaning.specs.declared.fault.RunFault.TheVariants.{TooManyCalls, TooDeep, OutOfMemory}
 use Rattle.hook_machine.specs.declared.run.jobs.Turn as result
 use Rattle.hook_machine.specs.declared.run.jobs.Turn.TheVariants as turn
 use Rattle.hook_machine.specs.declared.run.jobs.Job.TheVariants.{Filters, Action}
-use Rattle.hook_machine.specs.Trace.{Trace, Done, Turn, outcome_of, and_then}
-use Rattle.hook_machine.specs.Meaning.{Engine, filtered, acted, invoke}
-use Rattle.hook_machine.proofs.Ending.{filter_unhooked}
+use Rattle.hook_meaning.specs.Trace.{Trace, Done, Turn, outcome_of, and_then}
+use Rattle.hook_meaning.specs.Meaning.{Engine, filtered, acted, invoke}
+use Rattle.hook_meaning.proofs.Ending.{filter_unhooked}
 use Rattle.hook_registry.specs.Table.{has}
 use Rattle.hook_machine.specs.Jobs.{job_left}
 use Rattle.hook_machine.specs.declared.run.Run.{Run}
@@ -30,8 +30,8 @@ use Rattle.template_parts.specs.declared.item.Hand.TheVariants.{Printed, Dropped
 use Rattle.template_parts.specs.declared.steps.Step.{Step}
 use Rattle.template_parts.specs.Pages.{Work, Placed, IsPage, IsRefusedBy, print_text, over, each, placed_pass, shown_pass, action_pass, item_pass, page_items}
 use Rattle.template_parts.specs.Pages.{page_pass}
-use Rattle.hook_changes.specs.Names.{core_name}
-use Rattle.hook_changes.specs.declared.core_hooks.CoreHook.{CoreHook}
+use Rattle.plain_data.specs.Names.{core_name}
+use Rattle.plain_data.specs.declared.core_hooks.CoreHook.{CoreHook}
 use Rattle.template_parts.specs.declared.place.TreePlace.{TreePlace}
 use Rattle.template_parts.specs.declared.place.ItemPlace.TheVariants as place
 use Rattle.template_parts.specs.Places.{stored_item, item_at, post_at, step_items, items_left}

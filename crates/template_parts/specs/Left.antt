@@ -4,14 +4,14 @@ use Rattle.hook_changes.specs.declared.reply.Call.{Call}
 use Rattle.hook_changes.specs.declared.reply.Reply.{Reply}
 use Rattle.site_records.specs.declared.post.Post.{Post}
 use Rattle.template_trees.specs.declared.tree.Item.{Item}
-use Rattle.hook_changes.specs.Texts.{Text}
-use Rattle.hook_machine.specs.World.{World}
-use Rattle.hook_machine.specs.declared.fault.RunFault.{RunFault}
-use Rattle.hook_machine.specs.declared.fault.RunFault.TheVariants.{OutOfMemory}
+use Rattle.plain_data.specs.Texts.{Text}
+use Rattle.hook_meaning.specs.World.{World}
+use Rattle.hook_meaning.specs.declared.fault.RunFault.{RunFault}
+use Rattle.hook_meaning.specs.declared.fault.RunFault.TheVariants.{OutOfMemory}
 use Rattle.hook_machine.specs.declared.run.frames.Pace.{Pace}
 use Rattle.hook_machine.specs.declared.run.Run.{Run}
-use Rattle.hook_machine.specs.Trace.{Trace, Done, Turn, and_then}
-use Rattle.hook_machine.specs.Meaning.{Engine}
+use Rattle.hook_meaning.specs.Trace.{Trace, Done, Turn, and_then}
+use Rattle.hook_meaning.specs.Meaning.{Engine}
 use Rattle.hook_machine.specs.Moves.{Leads, LeadsOn}
 use Rattle.hook_machine.specs.Runs.{world_of, fault_of, engine_of, left_of, IsIdle, IsReady}
 use Rattle.page_escapes.specs.Escapes.{ends_escaped, html_escaped}

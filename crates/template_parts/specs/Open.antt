@@ -1,9 +1,9 @@
 -- A page that is put aside as contracts see it.
 use Rattle.std.specs.Prelude.{◌≡◌, ◌≢◌, ℕ, Result, Ok, Err}
-use Rattle.hook_machine.specs.declared.fault.RunFault.{RunFault}
-use Rattle.hook_machine.specs.declared.fault.RunFault.TheVariants.{OutOfMemory}
-use Rattle.hook_machine.specs.Trace.{Fault, outcome_of}
-use Rattle.hook_machine.specs.Meaning.{Engine}
+use Rattle.hook_meaning.specs.declared.fault.RunFault.{RunFault}
+use Rattle.hook_meaning.specs.declared.fault.RunFault.TheVariants.{OutOfMemory}
+use Rattle.hook_meaning.specs.Trace.{Fault, outcome_of}
+use Rattle.hook_meaning.specs.Meaning.{Engine}
 use Rattle.hook_machine.specs.Runs.{paused_world, paused_left}
 use Rattle.template_parts.specs.declared.open_page.OpenPage.{OpenPage}
 use Rattle.template_parts.specs.declared.open_page.Turned.{Turned}

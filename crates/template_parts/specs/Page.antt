@@ -1,12 +1,12 @@
 -- A page as contracts see it: what was found, the site's settings, and what it has still to do.
 use Rattle.std.specs.Prelude.{◌≡◌, ◌≢◌, ℕ, ◌+◌, ◌<◌, length, Option, None, Result, Ok, Err, ⊤}
-use Rattle.hook_changes.specs.Texts.{Text}
-use Rattle.hook_machine.specs.World.{World}
+use Rattle.plain_data.specs.Texts.{Text}
+use Rattle.hook_meaning.specs.World.{World}
 use Rattle.hook_machine.specs.declared.run.Run.{Run}
-use Rattle.hook_machine.specs.declared.fault.RunFault.{RunFault}
-use Rattle.hook_machine.specs.declared.fault.RunFault.TheVariants.{OutOfMemory}
-use Rattle.hook_machine.specs.Trace.{Done, Refused, Turn, Fault, outcome_of, turns_of}
-use Rattle.hook_machine.specs.Meaning.{Engine}
+use Rattle.hook_meaning.specs.declared.fault.RunFault.{RunFault}
+use Rattle.hook_meaning.specs.declared.fault.RunFault.TheVariants.{OutOfMemory}
+use Rattle.hook_meaning.specs.Trace.{Done, Refused, Turn, Fault, outcome_of, turns_of}
+use Rattle.hook_meaning.specs.Meaning.{Engine}
 use Rattle.hook_machine.specs.Outcomes.{UnlessOutOfMemory}
 use Rattle.hook_machine.specs.declared.run.frames.Pace.{Pace}
 use Rattle.hook_machine.specs.Moves.{Leads}

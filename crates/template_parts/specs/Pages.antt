@@ -3,12 +3,12 @@ use Rattle.std.specs.Prelude.{◌≡◌, ◌≢◌, List, [], ◌∷◌, ◌++�
 use Rattle.site_records.specs.declared.post.Post.{Post}
 use Rattle.site_records.specs.declared.post.PostKind.{PostKind}
 use Rattle.site_records.specs.declared.post.PostKind.TheVariants as kind
-use Rattle.hook_changes.specs.Texts.{Text}
-use Rattle.hook_machine.specs.World.{World}
-use Rattle.hook_machine.specs.declared.fault.RunFault.{RunFault}
-use Rattle.hook_machine.specs.declared.fault.RunFault.TheVariants as fault
-use Rattle.hook_machine.specs.Trace.{Trace, Done, Ended, Fault, outcome_of, and_then}
-use Rattle.hook_machine.specs.Meaning.{Engine, filtered, acted}
+use Rattle.plain_data.specs.Texts.{Text}
+use Rattle.hook_meaning.specs.World.{World}
+use Rattle.hook_meaning.specs.declared.fault.RunFault.{RunFault}
+use Rattle.hook_meaning.specs.declared.fault.RunFault.TheVariants as fault
+use Rattle.hook_meaning.specs.Trace.{Trace, Done, Ended, Fault, outcome_of, and_then}
+use Rattle.hook_meaning.specs.Meaning.{Engine, filtered, acted}
 use Rattle.page_escapes.specs.Escapes.{ends_escaped, html_escaped}
 use Rattle.template_trees.specs.declared.tree.Tag.{Tag}
 use Rattle.template_trees.specs.declared.tree.Tag.TheVariants as tag

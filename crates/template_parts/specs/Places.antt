@@ -1,8 +1,8 @@
 -- Where the items of a page are.
 use Rattle.std.specs.Prelude.{ℕ, List, flat_map, slice_get, Option, None, Some, option_and_then, option_to_list}
-use Rattle.hook_changes.specs.Names.{core_name}
+use Rattle.plain_data.specs.Names.{core_name}
 use Rattle.site_records.specs.declared.post.Post.{Post}
-use Rattle.hook_changes.specs.Texts.{Text}
+use Rattle.plain_data.specs.Texts.{Text}
 use Rattle.template_trees.specs.declared.tree.Part.{Part}
 use Rattle.template_trees.specs.declared.tree.Part.TheVariants as part
 use Rattle.template_trees.specs.declared.tree.Item.{Item}

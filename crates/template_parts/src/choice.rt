@@ -3,7 +3,7 @@ ghost use Rattle.std.specs.Prelude.{◌≡◌, map, bytes_eq};
 ghost use Rattle.std.specs.List.{list_any};
 ghost use Rattle.template_parts.specs.Choice.{candidates, template_choice};
 
-use hook_changes::Text;
+use plain_data::Text;
 use site_records::FoundKind;
 
 /// Chooses the template for what was found: the first of those for its kind that is stored, or

@@ -1,6 +1,6 @@
 //! Beginning an item of a page, and handing on the result of its job.
 ghost use Rattle.std.specs.Prelude.{◌≡◌, [], ◌∷◌, IfOk, option_map, decimal};
-ghost use Rattle.hook_changes.specs.Names.{core_name};
+ghost use Rattle.plain_data.specs.Names.{core_name};
 ghost use Rattle.hook_machine.specs.Runs.{IsReady};
 ghost use Rattle.template_parts.specs.Pages.{print_text, permalink, shown_pass, title_pass};
 ghost use Rattle.template_parts.specs.Pages.{content_pass, action_pass};
@@ -9,10 +9,10 @@ ghost use Rattle.template_parts.specs.Left.{shown_as, handed_on, Begins, BeginsB
 
 use crate::settings::Settings;
 use callback_store::Stated;
-use hook_changes::{CoreHook, Listed, Text};
 use hook_machine::{Job, Pace, Run, RunFault};
 use itoa::Buffer;
 use page_escapes::{escape_ends, escape_html, has_no_end, has_no_mark, into_escaped_html};
+use plain_data::{CoreHook, Listed, Text};
 use site_records::{Post, PostKind};
 use std::alloc::{AllocError, Global};
 use template_trees::{Item, PostTag, Tag};

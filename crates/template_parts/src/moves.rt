@@ -11,8 +11,8 @@ use crate::settings::Settings;
 use crate::steps::Step;
 use callback_store::Stated;
 use content_cache::PieceCache;
-use hook_changes::Text;
 use hook_machine::{Left, Pace, Run, RunFault, Turn};
+use plain_data::Text;
 use site_records::Post;
 use std::alloc::Global;
 

@@ -1,6 +1,6 @@
 //! Pages that are put aside between their turns.
 ghost use Rattle.std.specs.Prelude.{◌≡◌, None, IfOk, IfErr};
-ghost use Rattle.hook_machine.specs.Meaning.{Engine};
+ghost use Rattle.hook_meaning.specs.Meaning.{Engine};
 ghost use Rattle.hook_machine.specs.Outcomes.{engine_over};
 ghost use Rattle.hook_machine.specs.Runs.{world_of, IsReady, IsPausedIdle};
 ghost use Rattle.template_parts.specs.Left.{hand_in};
@@ -11,8 +11,8 @@ use crate::page::{Page, PageTurn};
 use crate::settings::Settings;
 use callback_store::{Plugins, Stated};
 use content_cache::PieceCache;
-use hook_changes::Shared;
 use hook_machine::{PausedRun, Run, RunFault};
+use plain_data::Shared;
 use site_records::Found;
 use std::alloc::Global;
 

@@ -1,9 +1,9 @@
 //! The page of a request.
 ghost use Rattle.std.specs.Prelude.{◌≡◌, None, Err, IfOk, IfErr, IfSome, OnOk};
-ghost use Rattle.hook_changes.specs.Texts.{Text};
-ghost use Rattle.hook_machine.specs.World.{World};
-ghost use Rattle.hook_machine.specs.Trace.{Trace};
-ghost use Rattle.hook_machine.specs.Meaning.{Engine};
+ghost use Rattle.plain_data.specs.Texts.{Text};
+ghost use Rattle.hook_meaning.specs.World.{World};
+ghost use Rattle.hook_meaning.specs.Trace.{Trace};
+ghost use Rattle.hook_meaning.specs.Meaning.{Engine};
 ghost use Rattle.hook_machine.specs.Runs.{world_of, fault_of, engine_of, CanBegin, IsIdle};
 ghost use Rattle.template_parts.specs.Pages.{page_pass, IsPage, IsRefusedBy};
 ghost use Rattle.template_parts.specs.Left.{ahead_of, left_at, hand_in};
@@ -14,8 +14,8 @@ use crate::settings::Settings;
 use crate::steps::steps_of_page;
 use callback_store::{Plugins, Stated};
 use content_cache::PieceCache;
-use hook_changes::Shared;
 use hook_machine::{Pace, Run, RunFault};
+use plain_data::Shared;
 use site_records::{Found, Post};
 use std::alloc::{AllocError, Global};
 

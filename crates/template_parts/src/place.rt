@@ -4,7 +4,7 @@ ghost use Rattle.template_parts.specs.Places.{node_item, element_item};
 ghost use Rattle.template_parts.specs.Places.{elements_in, template_of, stored_item};
 
 use crate::settings::Settings;
-use hook_changes::{CoreHook, Listed, Shared};
+use plain_data::{CoreHook, Listed, Shared};
 use template_trees::{Element, Item, Node, Part, Template};
 
 /// One of a loop's two bodies.

@@ -1,5 +1,5 @@
 //! What a site says of its pages.
-use hook_changes::{Shared, Text};
+use plain_data::{Shared, Text};
 use template_trees::Template;
 
 /// What a page needs from its site, apart from the posts that were found.

@@ -9,8 +9,8 @@ ghost use Rattle.template_parts.specs.Places.{items_of, items_left, post_at};
 
 use crate::place::{ItemPlace, Side, TreePlace, template_of};
 use crate::settings::Settings;
-use hook_changes::{CoreHook, Shared};
 use hook_machine::Left;
+use plain_data::{CoreHook, Shared};
 use site_records::Post;
 use std::alloc::{AllocError, Global};
 use template_trees::{Element, Node, Part, Template};

@@ -21,7 +21,8 @@ fn post_id(posts: &[Post], step: Step) -> Option<u32>
 }
 
 impl OpenPage {
-    /// Returns the invocation that the last turn made. There is none before the first turn.
+    /// Returns the invocation that is the innermost frame of the page's run, if there is one. There
+    /// is none before the first turn.
     pub fn invocation(&self) -> Option<Invocation<'_>>
         ensures { option_map made_as result ≡ made_of self.entry.now }
     {

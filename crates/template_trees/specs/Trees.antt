@@ -10,7 +10,7 @@ use Rattle.serde_json.specs.Data as json
 use Rattle.serde_json.specs.Events.{members_len}
 use Rattle.serde_json.specs.Find.{get, as_str, as_array, as_object}
 use Rattle.serde_json.specs.Read.{read}
-use Rattle.hook_changes.specs.Names.{is_hook_name}
+use Rattle.plain_data.specs.Names.{is_hook_name}
 use Rattle.template_trees.specs.declared.fault.TemplateFault.{TemplateFault}
 use Rattle.template_trees.specs.declared.fault.TemplateFault.TheVariants.{BadTemplate, TooLarge}
 use Rattle.template_trees.specs.declared.tree.Tag.{Tag}

@@ -7,7 +7,7 @@ ghost use Rattle.template_trees.specs.declared.tree.Element.{Element};
 ghost use Rattle.template_trees.specs.Trees.{default_index};
 
 use crate::tree::{Element, Item, Node, PostTag, Tag, Template};
-use hook_changes::{Listed, Text};
+use plain_data::{Listed, Text};
 use std::alloc::{AllocError, Global};
 
 /// Makes the template `index` of a site that has stored none: between `wp_head` and `wp_footer`

@@ -21,7 +21,7 @@ use crate::fault::TemplateFault;
 use crate::names::{is_part_name, is_template_name, part_named, tag_named};
 use crate::size::fits;
 use crate::tree::{Element, Item, Node, Template};
-use hook_changes::{Listed, Text, is_hook_name};
+use plain_data::{Listed, Text, is_hook_name};
 use serde_json::Value;
 use std::alloc::{AllocError, Global};
 

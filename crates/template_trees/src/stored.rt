@@ -9,7 +9,7 @@ ghost use Rattle.template_trees.specs.Trees.{template_of, stored_template};
 use crate::fault::TemplateFault;
 use crate::read::read_template;
 use crate::tree::Template;
-use hook_changes::Text;
+use plain_data::Text;
 use serde_json::Value;
 use std::alloc::{AllocError, Global};
 

@@ -1,5 +1,5 @@
 //! The tree of a template.
-use hook_changes::{Listed, Text};
+use plain_data::{Listed, Text};
 
 /// A template tag: a page prints something in its place (Theme Handbook, Template Tags).
 #[derive(Clone, Copy, PartialEq, Eq)]

@@ -5,21 +5,22 @@
 ghost use Rattle.std.specs.Prelude.{◌≡◌, ◌⊎◌, ◌+◌, ◌<◌, ◌≤◌, ◌∷◌, IfErr, OnOk};
 ghost use Rattle.hook_changes.specs.declared.reply.Then.TheVariants as next;
 ghost use Rattle.hook_changes.specs.declared.reply.Ask.TheVariants.{Apply, Act, Shortcodes};
-ghost use Rattle.hook_machine.specs.declared.fault.RunFault.TheVariants.{TooDeep, OutOfMemory};
+ghost use Rattle.hook_meaning.specs.declared.fault.RunFault.TheVariants.{TooDeep, OutOfMemory};
 ghost use Rattle.hook_machine.specs.declared.run.frames.Pending.TheVariants.{Next, Core};
-ghost use Rattle.hook_machine.specs.Meaning.{invoke};
+ghost use Rattle.hook_meaning.specs.Meaning.{invoke};
 ghost use Rattle.hook_machine.specs.Outcomes.{engine_over};
 ghost use Rattle.hook_machine.specs.Rest.{pending_left, pending_handed, with_answer};
 ghost use Rattle.hook_machine.specs.Moves.{Does, AddsWeight};
 
-use crate::fault::RunFault;
-use crate::run::frames::{Frame, Invoked, Move, Pace, Pending, Stack};
+use crate::run::frames::{Frame, Invoked, Move, Pace, Pending};
 use crate::run::passes::{begin_action, begin_filter, invoke_turn};
+use crate::run::stack::Stack;
 use crate::run::texts::begin_text;
 use crate::state::State;
 use callback_store::{Plugins, Stated};
 use content_cache::PieceCache;
 use hook_changes::{Answer, Ask, Listed, Text, Then};
+use hook_meaning::RunFault;
 
 /// Invokes a callback again, with one more answer.
 fn invoke_again<S: Stated>(
@@ -215,7 +216,7 @@ fn follow_turn<S: Stated>(
 {
     match next {
         Then::Answer(text) => {
-            state.keep_spare(invoked);
+            stack.keep_spare(invoked);
             Ok(Move::Handed(text))
         }
         Then::Ask(ask) => ask_turn(plugins, state, stack, invoked, ask, cache, pace),
@@ -273,7 +274,7 @@ pub fn waiting_turn<S: Stated>(
         }
         Pending::ForCore => {
             state.rise();
-            state.keep_spare(invoked);
+            stack.keep_spare(invoked);
             Ok(Move::Handed(text))
         }
         _ => Ok(Move::Handed(text)),

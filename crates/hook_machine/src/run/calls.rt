@@ -1,26 +1,18 @@
 //! The calls of callbacks: what a pass or a shortcode hands over, and what is stated in reply.
 ghost use Rattle.std.specs.Prelude.{◌≡◌, ℕ, List, [], ◌++◌, ◌∷◌, IfOk, IsTrue, OnOk, length, take};
 ghost use Rattle.shortcode_atts.specs.Attributes.{attributes, no_attributes};
-ghost use Rattle.hook_machine.specs.declared.run.calls.PassKind.TheVariants.{Filter, Action};
+ghost use Rattle.hook_meaning.specs.declared.pass_kind.PassKind.TheVariants.{Filter, Action};
 ghost use Rattle.hook_machine.specs.Calls.{shortcode_call};
-ghost use Rattle.hook_machine.specs.Meaning.{value_after, hook_call, arguments, first_or_empty};
-ghost use Rattle.hook_machine.specs.Meaning.{reply_to_call};
+ghost use Rattle.hook_meaning.specs.Meaning.{value_after, hook_call, arguments, first_or_empty};
+ghost use Rattle.hook_meaning.specs.Meaning.{reply_to_call};
 ghost use Rattle.hook_machine.specs.Outcomes.{engine_over};
 
 use callback_store::{Plugins, Stated};
 use hook_changes::{Answer, Call, CallbackId, Listed, Reply, Text, Then};
+use hook_meaning::PassKind;
 use shortcode_atts::{Atts, parse};
 use std::alloc::{AllocError, Global};
 use std::mem;
-
-/// What kind of pass it is.
-#[derive(Clone, Copy)]
-pub enum PassKind {
-    /// Each callback is given the value first, and its answer is the next value.
-    Filter,
-    /// Each callback is given the arguments alone, and its answer is dropped.
-    Action,
-}
 
 /// Appends copies of texts.
 fn with_copies(given: Vec<Text>, texts: &[Text]) -> Result<Vec<Text>, AllocError>
@@ -31,13 +23,6 @@ fn with_copies(given: Vec<Text>, texts: &[Text]) -> Result<Vec<Text>, AllocError
         all.push(text.clone()?)?;
     }
     Ok(all)
-}
-
-/// Copies texts.
-pub fn copies(alloc: Global, texts: &[Text]) -> Result<Vec<Text>, AllocError>
-    ensures { IfOk result (λ copies. copies.items ≡ texts.now) }
-{
-    Vec::from_clones(alloc, texts)
 }
 
 /// Appends a filter's first arguments: the value, and then copies of the others, `accepted` in all

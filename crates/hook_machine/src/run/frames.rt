@@ -5,15 +5,15 @@ ghost use Rattle.std.specs.Prelude.{List, ℕ};
 ghost use Rattle.shortcode_atts.specs.Attributes.{attributes};
 ghost use Rattle.call_plans.specs.Position.{next_entry};
 ghost use Rattle.hook_machine.specs.Calls.{shortcode_call};
-ghost use Rattle.hook_machine.specs.Meaning.{value_after, hook_call, arguments, first_or_empty};
+ghost use Rattle.hook_meaning.specs.Meaning.{value_after, hook_call, arguments, first_or_empty};
 ghost use Rattle.hook_machine.specs.declared.run.frames.Pending.TheVariants.{Core, ForNothing};
 
-use crate::run::calls::{PassKind, add_answer, fill, fill_handler, take_first_argument};
-use crate::run::left::Left;
+use crate::run::calls::{add_answer, fill, fill_handler, take_first_argument};
 use crate::run::texts::TextPass;
 use crate::state::State;
 use call_plans::Position;
 use hook_changes::{Answer, Call, CallbackId, Listed, Text, Then};
+use hook_meaning::PassKind;
 use hook_registry::{Entry, Priority};
 use std::alloc::{AllocError, Global};
 use std::marker::Model;
@@ -298,9 +298,6 @@ pub enum Frame {
     Invocation(Invoked),
     Shortcodes(TextPass),
 }
-
-/// The frames of a stopped run, the innermost first.
-pub type Stack = Left<Frame>;
 
 /// Whether a run stops after each invocation.
 #[derive(Clone, Copy)]

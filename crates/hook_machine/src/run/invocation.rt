@@ -1,34 +1,36 @@
-//! The invocation that a stopped run's last turn made.
+//! The invocation that is a stopped run's innermost frame. That the run's last turn made it, no
+//! clause says.
 ghost use Rattle.std.specs.Prelude.{◌≡◌, IfOk, IfSome, option_map, slice_get};
 ghost use Rattle.std.specs.Option.{option_copied};
 ghost use Rattle.hook_machine.specs.Invocations.{made_as, last_made, reached_by, invoked_in};
 ghost use Rattle.hook_machine.specs.Invocations.{reply_made, GoesOnWith};
-ghost use Rattle.hook_machine.specs.Meaning.{Engine};
+ghost use Rattle.hook_meaning.specs.Meaning.{Engine};
 ghost use Rattle.hook_machine.specs.Outcomes.{engine_over};
 ghost use Rattle.hook_machine.specs.Runs.{paused_world};
 
 use crate::run::calls::reply_of;
-use crate::run::frames::{Frame, Invoked, Stack};
+use crate::run::frames::{Frame, Invoked};
 use crate::run::paused::PausedRun;
+use crate::run::stack::Stack;
 use callback_store::{Plugins, Stated};
 use hook_changes::{Call, CallbackId, Reply};
 use hook_registry::Priority;
 use std::alloc::{AllocError, Global};
 
-/// The invocation that the last turn of a run made: the callback, and what it was called with.
+/// An invocation that is the innermost frame of a run: its callback, and its call.
 #[derive(Drop)]
 pub struct Invocation<'r> {
     pub callback: CallbackId,
     pub call: &'r Call,
     /// The priority that its pass has reached; a shortcode's handler has none.
     pub priority: Option<Priority>,
-    /// How deep in asks it was made, 0 to 32.
+    /// How deep in asks the run is, 0 to 32.
     pub depth: u32,
 }
 
 impl<'r> Invocation<'r> {
-    /// Calls the callback once more and returns its reply, which is the one it gave: the same call
-    /// has the same reply. Core's callback 0 has no reply.
+    /// Calls the callback and returns its reply, which is the one that is stated for it and this
+    /// call. Core's callback 0 has no reply.
     pub fn reply<S: Stated>(
         &self,
         plugins: &Plugins<S>,
@@ -65,8 +67,8 @@ fn innermost(stack: &Stack) -> Option<&Invoked>
 }
 
 impl PausedRun {
-    /// Returns the invocation that the last turn made. There is none before the first turn of a
-    /// job, and none after its last.
+    /// Returns the invocation that is the innermost frame. There is none before the first turn of a
+    /// job, and none if the innermost frame is no invocation, as after the last turn.
     pub fn invocation(&self) -> Option<Invocation<'_>>
         ensures made { option_map made_as result ≡ last_made self.entry.now }
         ensures left { (engine : Engine) → IfSome result (λ i.

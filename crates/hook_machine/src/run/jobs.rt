@@ -1,22 +1,23 @@
 //! Jobs of a run, from their begin to their end: the innermost frame goes on, and its result is
 //! handed from frame to frame, until a callback was invoked at which the run stops, or nothing is
 //! left.
-ghost use Rattle.std.specs.Prelude.{◌≡◌, ◌∷◌, [], OnOk};
-ghost use Rattle.hook_machine.specs.Outcomes.{RunsAs, engine_over};
+ghost use Rattle.std.specs.Prelude.{◌≡◌, ◌∷◌};
+ghost use Rattle.hook_machine.specs.Outcomes.{engine_over};
 ghost use Rattle.hook_machine.specs.Rest.{rest, rest_with};
 ghost use Rattle.hook_machine.specs.Jobs.{job_left, left_from};
 ghost use Rattle.hook_machine.specs.Moves.{Does, Moves, AddsWeight, room_of, still_left, TurnsBy};
 ghost use Rattle.hook_machine.specs.Moves.{IsOver};
 
-use crate::fault::RunFault;
 use crate::run::asks::{invocation_turn, waiting_turn};
-use crate::run::frames::{Frame, Move, Pace, Stack};
+use crate::run::frames::{Frame, Move, Pace};
 use crate::run::passes::{begin_action, begin_filter, pass_turn};
+use crate::run::stack::Stack;
 use crate::run::texts::{begin_text, shown_turn, text_turn};
 use crate::state::State;
 use callback_store::{Plugins, Stated};
 use content_cache::PieceCache;
 use hook_changes::{Listed, Text};
+use hook_meaning::RunFault;
 
 /// What a turn of a run came to.
 #[derive(Drop)]
@@ -182,44 +183,4 @@ pub fn next_turn<S: Stated>(
 {
     let moved = move_on(plugins, state, stack, job, cache, pace)?;
     hand_on(plugins, state, stack, moved, pace)
-}
-
-/// Goes on to the end, without stopping where it needn't.
-pub fn all_turns<S: Stated>(
-    plugins: &Plugins<S>,
-    state: &mut State,
-    stack: &mut Stack,
-    job: Option<Job>,
-    cache: &mut PieceCache,
-) -> Result<Text, RunFault>
-    ensures ends { RunsAs
-        (left_from (engine_over S.says S.number plugins.now) state.old job stack.old) result
-        state.new }
-    ensures over { OnOk result (stack.new ≡ []) }
-    ensures cache { cache.new ≡ cache.old }
-{
-    let mut turned = next_turn(plugins, state, stack, job, cache, Pace::Through)?;
-    'turns: loop {
-        match turned {
-            Turn::Done(text) => return Ok(text),
-            Turn::More => turned = next_turn(plugins, state, stack, None, cache, Pace::Through)?,
-        }
-    }
-}
-
-/// Runs a job to its end.
-pub fn run_job<S: Stated>(
-    plugins: &Plugins<S>,
-    state: &mut State,
-    stack: &mut Stack,
-    job: Job,
-    cache: &mut PieceCache,
-) -> Result<Text, RunFault>
-    requires { stack.old ≡ [] }
-    ensures ends { RunsAs (job_left (engine_over S.says S.number plugins.now) state.old job) result
-        state.new }
-    ensures over { OnOk result (stack.new ≡ []) }
-    ensures cache { cache.new ≡ cache.old }
-{
-    all_turns(plugins, state, stack, Some(job), cache)
 }

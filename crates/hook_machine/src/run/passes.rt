@@ -8,23 +8,24 @@
 //! often a result is handed on, so `jobs` comes to an end.
 ghost use Rattle.std.specs.Prelude.{◌≡◌, ◌<◌, ℕ, List, IfOk, IfErr, IsTrue, OnOk, take};
 ghost use Rattle.hook_machine.specs.declared.run.frames.Pace.TheVariants.{Through};
-ghost use Rattle.hook_machine.specs.World.{World};
-ghost use Rattle.hook_machine.specs.Meaning.{Engine, pass, filter_pass, action_pass, invoke};
-ghost use Rattle.hook_machine.specs.Meaning.{hook_call, arguments, value_after};
+ghost use Rattle.hook_meaning.specs.World.{World};
+ghost use Rattle.hook_meaning.specs.Meaning.{Engine, pass, filter_pass, action_pass, invoke};
+ghost use Rattle.hook_meaning.specs.Meaning.{hook_call, arguments, value_after};
 ghost use Rattle.hook_machine.specs.Outcomes.{engine_over};
 ghost use Rattle.hook_machine.specs.PassedOver.{left_by_core};
 ghost use Rattle.hook_machine.specs.Rest.{after_call, pass_left, pending_left};
 ghost use Rattle.hook_machine.specs.Moves.{Does, AddsWeight, Invokes, MayAnswer, went_left};
 
-use crate::fault::RunFault;
-use crate::run::calls::{PassKind, reply_of};
-use crate::run::frames::{Frame, HookPass, Invoked, Move, Pace, PassParts, Pending, Stack, Went};
+use crate::run::calls::reply_of;
+use crate::run::frames::{Frame, HookPass, Invoked, Move, Pace, PassParts, Pending, Went};
+use crate::run::stack::Stack;
 use crate::state::State;
 use call_plans::Position;
 use callback_store::{Plugins, Stated};
 use hook_changes::{HookName, Listed, Text, Then};
+use hook_meaning::{PassKind, RunFault};
 use hook_registry::Entry;
-use std::alloc::AllocError;
+use std::alloc::{AllocError, Global};
 
 /// Calls the callback, carries the echo and the changes of its reply out, and returns what its
 /// invocation is to do next. Core's own callback has no reply.
@@ -101,7 +102,7 @@ pub fn invoke_turn<S: Stated>(
     let went = invoke(plugins, state, invoked, pace)?;
     match went {
         Went::Answered(invoked, text) => {
-            state.keep_spare(invoked);
+            stack.keep_spare(invoked);
             Ok(Move::Handed(text))
         }
         Went::Waits(invoked) => {
@@ -113,7 +114,8 @@ pub fn invoke_turn<S: Stated>(
 
 /// Makes the invocation of a pass's next callback. A filter's value moves into its call.
 fn next_invocation(
-    state: &mut State,
+    alloc: Global,
+    stack: &mut Stack,
     pass: &mut HookPass,
     entry: Entry,
 ) -> Result<Invoked, AllocError>
@@ -124,10 +126,10 @@ fn next_invocation(
     ensures kept { OnOk result ((answer : List ℕ)
         → value_after pass.old.kind pass.new.value answer
         ≡ value_after pass.old.kind pass.old.value answer) }
-    ensures state { state.new ≡ state.old }
+    ensures stack { stack.new ≡ stack.old }
 {
-    let mut invoked = state.spare()?;
-    pass.fill(state.alloc(), &mut invoked, entry)?;
+    let mut invoked = stack.spare(alloc)?;
+    pass.fill(alloc, &mut invoked, entry)?;
     Ok(invoked)
 }
 
@@ -151,15 +153,15 @@ pub fn pass_turn<S: Stated>(
             None => {
                 state.leave();
                 let value = pass.take_value(state.alloc());
-                state.keep_pass(pass);
+                stack.keep_pass(pass);
                 return Ok(Move::Handed(value));
             }
             Some(entry) => {
-                let invoked = next_invocation(state, &mut pass, entry)?;
+                let invoked = next_invocation(state.alloc(), stack, &mut pass, entry)?;
                 let went = invoke(plugins, state, invoked, pace)?;
                 match went {
                     Went::Answered(invoked, answer) => {
-                        state.keep_spare(invoked);
+                        stack.keep_spare(invoked);
                         answered = answered.wrapping_add(1);
                         pass.hand_in_turn(answer, answered)?;
                     }
@@ -197,7 +199,7 @@ pub fn begin_pass<S: Stated>(
         value,
         position: Position::start(hook),
     };
-    let pass = state.new_pass(parts)?;
+    let pass = stack.new_pass(state.alloc(), parts)?;
     pass_turn(plugins, state, stack, pass, pace)
 }
 

@@ -1,8 +1,8 @@
 //! A run that is put aside.
 ghost use Rattle.std.specs.Prelude.{◌≡◌};
 
-use crate::run::frames::Stack;
 use crate::run::jobs::Job;
+use crate::run::stack::Stack;
 use crate::state::State;
 
 /// A run that is put aside between two turns, without a fault: all that it owns. It doesn't borrow

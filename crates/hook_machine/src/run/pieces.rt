@@ -2,15 +2,16 @@
 //! is handled.
 ghost use Rattle.std.specs.Prelude.{◌≡◌, ◌<◌, ◌&&◌, IfOk};
 ghost use Rattle.shortcode_scan.specs.Spans.{HasSpansOf, IsSpanOf, inner_span};
-ghost use Rattle.hook_machine.specs.Meaning.{Invocation, handler_call, piece_pass};
+ghost use Rattle.hook_meaning.specs.Meaning.{Invocation, handler_call, piece_pass};
 ghost use Rattle.hook_machine.specs.declared.run.pieces.Work.TheVariants.{Shown};
 ghost use Rattle.hook_machine.specs.Works.{work_pass, LiesIn};
 
 use crate::run::frames::Invoked;
+use crate::run::stack::Stack;
 use crate::state::State;
 use hook_changes::CallbackId;
 use shortcode_scan::{Piece, Span, text_at};
-use std::alloc::AllocError;
+use std::alloc::{AllocError, Global};
 
 /// A match that has a handler: the stretch of its name, and its extra brackets.
 #[derive(Clone, Copy)]
@@ -31,7 +32,8 @@ pub enum Work {
 
 /// Makes the invocation of a shortcode's handler.
 fn invocation_of_handler(
-    state: &mut State,
+    alloc: Global,
+    stack: &mut Stack,
     handler: CallbackId,
     text: &str,
     name: Span,
@@ -43,13 +45,13 @@ fn invocation_of_handler(
     requires content { IsSpanOf text.now content }
     ensures callback { IfOk result (λ invoked. invoked.callback ≡ handler) }
     ensures call { IfOk result (λ invoked. invoked.call ≡ handler_call text.now name atts content) }
-    ensures state { state.new ≡ state.old }
+    ensures stack { stack.new ≡ stack.old }
 {
-    let mut invoked = state.spare()?;
+    let mut invoked = stack.spare(alloc)?;
     let tag = text_at(text, name);
     let atts = text_at(text, atts);
     let content = text_at(text, content);
-    invoked.set_handler_call(state.alloc(), handler, tag, atts, content)?;
+    invoked.set_handler_call(alloc, handler, tag, atts, content)?;
     Ok(invoked)
 }
 
@@ -72,12 +74,18 @@ fn without_brackets(whole: Span) -> Span
 }
 
 /// Returns what is to be done for a piece, by the handler that its tag has now.
-pub fn work_of_piece(state: &mut State, text: &str, piece: &Piece) -> Result<Work, AllocError>
+pub fn work_of_piece(
+    state: &mut State,
+    stack: &mut Stack,
+    text: &str,
+    piece: &Piece,
+) -> Result<Work, AllocError>
     requires { HasSpansOf text.now piece.now }
     ensures work { IfOk result (λ work. (invocation : Invocation) →
         piece_pass invocation text.now state.old piece.now
         ≡ work_pass invocation text.now state.old work) }
     ensures state { state.new ≡ state.old }
+    ensures stack { stack.new ≡ stack.old }
     ensures span { IfOk result (λ work. LiesIn text.now work) }
 {
     match *piece {
@@ -96,7 +104,8 @@ pub fn work_of_piece(state: &mut State, text: &str, piece: &Piece) -> Result<Wor
             let Some(handler) = state.handler(text_at(text, name)) else {
                 return Ok(Work::Shown(whole));
             };
-            let invoked = invocation_of_handler(state, handler, text, name, atts, content)?;
+            let alloc = state.alloc();
+            let invoked = invocation_of_handler(alloc, stack, handler, text, name, atts, content)?;
             Ok(Work::Handled {
                 invoked,
                 matched: Matched {

@@ -9,25 +9,26 @@ ghost use Rattle.hook_registry.specs.Table.{has};
 ghost use Rattle.hook_changes.specs.declared.reply.Then.TheVariants.{Answer};
 ghost use Rattle.hook_machine.specs.declared.run.frames.Move.TheVariants.{Turned};
 ghost use Rattle.hook_machine.specs.declared.run.frames.Pending.TheVariants.{Next};
-ghost use Rattle.hook_machine.specs.World.{World};
-ghost use Rattle.hook_machine.specs.Trace.{Done};
-ghost use Rattle.hook_machine.specs.Meaning.{Invocation, invoke, text_at, shortcode_filter};
-ghost use Rattle.hook_machine.specs.Meaning.{pieces_pass, shortcodes_pass};
+ghost use Rattle.hook_meaning.specs.World.{World};
+ghost use Rattle.hook_meaning.specs.Trace.{Done};
+ghost use Rattle.hook_meaning.specs.Meaning.{Invocation, invoke, text_at, shortcode_filter};
+ghost use Rattle.hook_meaning.specs.Meaning.{pieces_pass, shortcodes_pass};
 ghost use Rattle.hook_machine.specs.Outcomes.{engine_over};
 ghost use Rattle.hook_machine.specs.Works.{between_brackets};
 ghost use Rattle.hook_machine.specs.Rest.{text_left, text_handed, in_place};
 ghost use Rattle.hook_machine.specs.Handling.{handling_pass};
 ghost use Rattle.hook_machine.specs.Moves.{Does, AddsWeight, room_of_match};
 
-use crate::fault::RunFault;
 use crate::run::cut::Cut;
-use crate::run::frames::{Frame, Invoked, Move, Pace, Pending, Stack, Went};
+use crate::run::frames::{Frame, Invoked, Move, Pace, Pending, Went};
 use crate::run::passes::{begin_filter, invoke};
 use crate::run::pieces::{Matched, Work, work_of_piece};
+use crate::run::stack::Stack;
 use crate::state::{SHORTCODE_FILTER, State};
 use callback_store::{Plugins, Stated};
 use content_cache::PieceCache;
 use hook_changes::{CoreHook, Listed, Text, Then};
+use hook_meaning::RunFault;
 use shortcode_scan::{Piece, Span, text_at};
 use std::alloc::{AllocError, Global};
 use std::marker::Model;
@@ -71,7 +72,7 @@ impl TextPass {
     ghost use Rattle.std.specs.Prelude.{◌≡◌, ◌++◌, [], None, Some, IsTrue, IsFalse, IfOk, IfSome};
     ghost use Rattle.std.specs.Prelude.{OnOk, MatchOption};
     ghost use Rattle.shortcode_scan.specs.Spans.{IsSpanOf};
-    ghost use Rattle.hook_machine.specs.Meaning.{Invocation, pieces_pass};
+    ghost use Rattle.hook_meaning.specs.Meaning.{Invocation, pieces_pass};
     ghost use Rattle.hook_machine.specs.Handling.{handling_pass};
     ghost use Rattle.hook_machine.specs.Rest.{in_place};
 
@@ -128,17 +129,22 @@ impl TextPass {
 
     /// Takes pieces up to the first one that has a handler, whose match is then in hand, and
     /// appends those before it.
-    fn next_handling(&mut self, state: &mut State) -> Result<Option<Handling>, AllocError>
+    fn next_handling(
+        &mut self,
+        state: &mut State,
+        stack: &mut Stack,
+    ) -> Result<Option<Handling>, AllocError>
         ensures same { self.new.cut.text ≡ self.old.cut.text }
         ensures found { IfOk result (λ found. (invocation : Invocation) →
             pieces_pass invocation self.old.cut.text state.old self.old.so_far self.old.cut.pieces
             ≡ handling_pass
             invocation self.old.cut.text state.old found self.new.so_far self.new.cut.pieces) }
         ensures state { state.new ≡ state.old }
+        ensures stack { stack.new ≡ stack.old }
         ensures hand { IfOk result (λ found. IfSome found (λ h. self.new.hand ≡ Some h.matched)) }
     {
         self.parts.hand = None;
-        let found = next_handling(state, &mut self.parts)?;
+        let found = next_handling(state, stack, &mut self.parts)?;
         if let Some(handling) = &found {
             self.parts.hand = Some(handling.matched);
         }
@@ -155,7 +161,11 @@ pub struct Handling {
 
 /// Takes pieces up to the first one that has a handler, and appends those before it. If no piece
 /// has one, none is left.
-fn next_handling(state: &mut State, parts: &mut TextParts) -> Result<Option<Handling>, AllocError>
+fn next_handling(
+    state: &mut State,
+    stack: &mut Stack,
+    parts: &mut TextParts,
+) -> Result<Option<Handling>, AllocError>
     ensures same { parts.new.cut.text ≡ parts.old.cut.text }
     ensures hand { parts.new.hand ≡ parts.old.hand }
     ensures found { IfOk result (λ found. (invocation : Invocation) →
@@ -163,12 +173,13 @@ fn next_handling(state: &mut State, parts: &mut TextParts) -> Result<Option<Hand
         ≡ handling_pass
         invocation parts.old.cut.text state.old found parts.new.so_far parts.new.cut.pieces) }
     ensures state { state.new ≡ state.old }
+    ensures stack { stack.new ≡ stack.old }
     ensures span { IfOk result
         (λ found. IfSome found (λ h. IsSpanOf parts.old.cut.text h.matched.name)) }
 {
     while let Some(piece) = parts.cut.take_first() {
         let whole = parts.cut.text();
-        let work = work_of_piece(state, whole, &piece)?;
+        let work = work_of_piece(state, stack, whole, &piece)?;
         match work {
             Work::Shown(span) => parts.so_far.push_str(text_at(whole, span))?,
             Work::Handled { invoked, matched } => {
@@ -195,7 +206,7 @@ pub fn text_turn<S: Stated>(
 {
     let mut pass = pass;
     'pieces: loop {
-        match pass.next_handling(state)? {
+        match pass.next_handling(state, stack)? {
             None => return Ok(Move::Handed(pass.take_text(state.alloc()))),
             Some(handling) => {
                 let went = invoke(plugins, state, handling.invoked, pace)?;
@@ -204,7 +215,7 @@ pub fn text_turn<S: Stated>(
                         if state.filters_shortcodes() {
                             return filter_later(stack, pass, invoked, answer);
                         }
-                        state.keep_spare(invoked);
+                        stack.keep_spare(invoked);
                         pass.append(answer.as_str())?;
                     }
                     Went::Waits(invoked) => return wait_for_handler(stack, pass, invoked),

@@ -4,8 +4,8 @@ ghost use Rattle.std.specs.List.{list_any};
 ghost use Rattle.hook_registry.specs.Named.{value_of};
 ghost use Rattle.hook_registry.specs.Table.{has, priority_of, times_fired};
 ghost use Rattle.hook_changes.specs.declared.reply.Answer.TheVariants as answer;
-ghost use Rattle.hook_machine.specs.Meaning.{last_or_empty, has_answer, number_or_false};
-ghost use Rattle.hook_machine.specs.Meaning.{text_or_false};
+ghost use Rattle.hook_meaning.specs.Meaning.{last_or_empty, has_answer, number_or_false};
+ghost use Rattle.hook_meaning.specs.Meaning.{text_or_false};
 
 use crate::state::State;
 use hook_changes::{Answer, CallbackId, Text};

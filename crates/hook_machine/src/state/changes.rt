@@ -1,9 +1,9 @@
 //! Carrying changes out.
 ghost use Rattle.std.specs.Prelude.{◌≡◌, ◌++◌, IfOk, OnOk, MatchOption, IsTrue, IsFalse};
-ghost use Rattle.hook_changes.specs.Names.{is_tag_name};
+ghost use Rattle.plain_data.specs.Names.{is_tag_name};
 ghost use Rattle.hook_changes.specs.declared.reply.Change.TheVariants.{AddTag};
 ghost use Rattle.callback_store.specs.Shape.{shapes_of};
-ghost use Rattle.hook_machine.specs.World.{world_after_change, world_after_changes, loaded};
+ghost use Rattle.hook_meaning.specs.World.{world_after_change, world_after_changes, loaded};
 ghost use Rattle.hook_machine.specs.Loads.{registered_after, registered_after_all, core_load};
 
 use crate::state::State;

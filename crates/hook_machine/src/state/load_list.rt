@@ -3,7 +3,7 @@ ghost use Rattle.std.specs.Prelude.{◌≡◌, ◌++◌, pos, codes, map, bytes_
 ghost use Rattle.std.specs.List.{list_any};
 ghost use Rattle.callback_store.specs.Shape.{shapes_of};
 ghost use Rattle.hook_changes.specs.declared.reply.Change.TheVariants.{Add};
-ghost use Rattle.hook_machine.specs.World.{load_changes};
+ghost use Rattle.hook_meaning.specs.World.{load_changes};
 ghost use Rattle.hook_machine.specs.Loads.{has_active, with_active, load_change};
 
 use callback_store::{Plugin, Plugins, Stated};
@@ -37,8 +37,7 @@ pub fn load_list<'p, S: Stated>(
         active.now (load_changes (shapes_of S.number plugins.entry.now) active.now)) }
 {
     let mut list = Vec::new(alloc);
-    let in_order = plugins.by_name(alloc)?;
-    for plugin in &in_order {
+    for plugin in plugins.by_name() {
         if is_one_of(active, plugin.name.as_str()) {
             push_own(&mut list, plugins, active, plugin)?;
         }

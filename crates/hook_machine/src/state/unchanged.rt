@@ -1,7 +1,7 @@
 //! Passes that change nothing but the number of calls left. They need not be made.
 ghost use Rattle.std.specs.Prelude.{◌≡◌, ◌<◌, List, IsTrue};
-ghost use Rattle.hook_changes.specs.Texts.{Text};
-ghost use Rattle.hook_machine.specs.Meaning.{Engine, filter_pass, invoke};
+ghost use Rattle.plain_data.specs.Texts.{Text};
+ghost use Rattle.hook_meaning.specs.Meaning.{Engine, filter_pass, invoke};
 ghost use Rattle.hook_machine.specs.PassedOver.{IsCoreAlone, left_by_core};
 
 use crate::state::{DEEPEST, State};

@@ -1,6 +1,6 @@
 use Rattle.std.proofs.Common.{◌≡◌, not, drop}
 use Rattle.std.specs.List.{list_any}
-use Rattle.hook_changes.specs.Names.{is_tag_name}
+use Rattle.plain_data.specs.Names.{is_tag_name}
 use Rattle.callback_store.proofs.plugins.has_bad_name.Given as goal
 
 -- the list has such a plugin exactly if the rest of it has one

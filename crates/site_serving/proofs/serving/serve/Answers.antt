@@ -9,7 +9,7 @@ use Rattle.site_serving.proofs.Newlines.{some_of, IsLine-nil}
 use Rattle.site_serving.proofs.Stretches.{Fails-after, Fails-from, Halts-from, Handles-from, Records-from, Records-nil, Records-trans}
 use Rattle.site_serving.proofs.Endings.{Consumes-none, falls, replies_told, served_to_newline, served_to_last, ServesAll-whole, IsNoted-whole}
 use Rattle.site_serving.proofs.Endings.{KeepsAhead-whole, failed_at_last, Stops-failed, KeepsAhead-failed, KeepsAhead-records, Stops-read, Stops-stretch}
-use Rattle.site_serving.proofs.Endings.{KeepsAhead-stretch, Halts-after}
+use Rattle.site_serving.proofs.Endings.{KeepsAhead-stretch, Halts-after, front-stretch}
 use Rattle.site_serving.proofs.serving.serve.Goals as goal
 use Rattle.site_serving.proofs.serving.serve.Goals.{then-not-is_empty+in_ok-serve_last, else-not-is_empty}
 
@@ -60,6 +60,9 @@ returns-in-Err-clause-ahead g c =
     let i = c.chunks.invariant in
     λ start. KeepsAhead-records _ _ _ _ _ _ _ _ _ _ _ _ _ start (Consumes-kept _ _ _ _ i.read c.in-Err.ensures.bytes) i.recorded
 
+pub returns-in-Err-clause-front : goal.returns-in-Err-clause-front
+returns-in-Err-clause-front g c = c.chunks.invariant.recorded.out.front
+
 -- ---- a fault at a line that ends in a chunk
 
 pub returns-in_err-take_chunk-clause-stopped : goal.returns-in_err-take_chunk-clause-stopped
@@ -80,6 +83,16 @@ returns-in_err-take_chunk-clause-ahead g c =
     let err = c.in_err-take_chunk.ensures in
     let read = Consumes-trans _ _ _ _ _ i.read c.in-Ok.ensures.bytes.0 in
     λ start. KeepsAhead-stretch _ _ _ _ _ _ _ _ _ _ _ _ start read
+    (λ is. Fails-after _ _ _ _ _ _ _ _ _ _ _ _ _ _ i.recorded
+    (Fails-from g.W.Journal g.C.Commands.keeps g.C.Commands.replies _ _ i.fixed _ _ _ _ _ _ (err.fails (ap Err is))))
+    (λ other. Halts-after _ _ _ _ _ _ _ _ _ _ _ _ _ _ _ _ i.recorded
+    (Halts-from g.W.Journal g.C.Commands.keeps g.C.Commands.replies _ _ i.fixed _ _ _ _ _ _ _ _ (err.halts other)))
+
+pub returns-in_err-take_chunk-clause-front : goal.returns-in_err-take_chunk-clause-front
+returns-in_err-take_chunk-clause-front g c =
+    let i = c.chunks.invariant in
+    let err = c.in_err-take_chunk.ensures in
+    front-stretch _ _ _ _ _ _ _ _ _ _
     (λ is. Fails-after _ _ _ _ _ _ _ _ _ _ _ _ _ _ i.recorded
     (Fails-from g.W.Journal g.C.Commands.keeps g.C.Commands.replies _ _ i.fixed _ _ _ _ _ _ (err.fails (ap Err is))))
     (λ other. Halts-after _ _ _ _ _ _ _ _ _ _ _ _ _ _ _ _ i.recorded
@@ -114,6 +127,19 @@ returns-in_err-serve_last-clause-ahead g c =
     let failed = failed_at_last _ _ _ _ _ _ _ _ _ _ _ _ _ _ _ _ read end i.recorded i.line c.deref.ensures.value some (i.room some) handled in
     λ start. KeepsAhead-failed _ _ _ _ _ _ _ _ start failed
 
+pub returns-in_err-serve_last-clause-front : goal.returns-in_err-serve_last-clause-front
+returns-in_err-serve_last-clause-front g c =
+    let i = c.chunks.invariant in
+    let err = c.in_err-serve_last.ensures in
+    let read = Consumes-none _ _ _ _ _ _ i.read c.in-Ok.ensures.bytes.0 c.if-count-eq0.true in
+    let end = c.in-Ok.ensures.bytes.1 c.if-count-eq0.true (omega arith) in
+    let same = c.chunks.held.ok.0 in
+    let counted = some_of _ (sym c.is_empty.ensures ∙ c.if-not-is_empty.true) in
+    let some : 0 < length c.chunks.held.items = omega (arith, same, counted) in
+    let handled = Handles-from g.W.Journal g.C.Commands.keeps g.C.Commands.replies _ _ i.fixed _ _ _ _ _ _ err.handled in
+    let failed = failed_at_last _ _ _ _ _ _ _ _ _ _ _ _ _ _ _ _ read end i.recorded i.line c.deref.ensures.value some (i.room some) handled in
+    failed.out.front
+
 -- ---- the input was read to its end
 
 pub returns-clause-kept : goal.returns-clause-kept
@@ -134,6 +160,26 @@ returns-clause-kept g c =
           let none : length c.chunks.held.items ≡ 0 = omega (arith, same, counted) in
           let served = served_to_newline _ _ _ _ _ _ _ _ _ _ _ _ read end i.recorded none in
           rw (w.writer-is, w.commands-is) (IsNoted-whole _ _ _ _ _ _ _ _ served)
+    ]
+
+pub returns-clause-front : goal.returns-clause-front
+returns-clause-front g c =
+    let i = c.chunks.invariant in
+    let read = Consumes-none _ _ _ _ _ _ i.read c.in-Ok.ensures.bytes.0 c.if-count-eq0.true in
+    let end = c.in-Ok.ensures.bytes.1 c.if-count-eq0.true (omega arith) in
+    let same = c.chunks.held.ok.0 in
+    elim c.if-not-is_empty.branch [
+      | then-not-is_empty+in_ok-serve_last w ↦
+          let counted = some_of _ (sym c.is_empty.ensures ∙ w.if-not-is_empty.true) in
+          let some : 0 < length c.chunks.held.items = omega (arith, same, counted) in
+          let handled = Handles-from g.W.Journal g.C.Commands.keeps g.C.Commands.replies _ _ i.fixed _ _ _ _ _ _ w.in_ok-serve_last.ensures.handled in
+          let served = served_to_last _ _ _ _ _ _ _ _ _ _ _ _ _ _ _ _ read end i.recorded i.line w.deref.ensures.value some (i.room some) handled in
+          rw w.writer-is served.out.front
+      | else-not-is_empty w ↦
+          let counted = eqb-true _ _ (sym c.is_empty.ensures ∙ w.if-not-is_empty.false) in
+          let none : length c.chunks.held.items ≡ 0 = omega (arith, same, counted) in
+          let served = served_to_newline _ _ _ _ _ _ _ _ _ _ _ _ read end i.recorded none in
+          rw w.writer-is served.out.front
     ]
 
 pub returns-clause-ahead : goal.returns-clause-ahead

@@ -1,4 +1,4 @@
-use Rattle.hook_changes.specs.Names.{core_name}
+use Rattle.plain_data.specs.Names.{core_name}
 use Rattle.hook_machine.specs.Runs.{world_of, engine_of, left_of}
 use Rattle.template_parts.specs.declared.item.Hand.TheVariants.{Printed}
 use Rattle.template_parts.proofs.Moving.{busy, filter_begun}

@@ -1,5 +1,5 @@
 use Rattle.std.proofs.Common.{◌∙◌, Err, subst}
-use Rattle.hook_machine.specs.Meaning.{Engine}
+use Rattle.hook_meaning.specs.Meaning.{Engine}
 use Rattle.std.proofs.lemmas.Result.{err_from_is_err_and}
 use Rattle.hook_machine.specs.Runs.{engine_of, world_of}
 use Rattle.hook_machine.proofs.Going.{leads_then, refused_then}

@@ -17,9 +17,9 @@ returns-in-ForNothing-clause-moves g c =
 
 pub returns-in-ForCore-clause-moves : goal.returns-in-ForCore-clause-moves
 returns-in-ForCore-clause-moves g c =
-    rw (sym c.take_pending.ensures.pending ∙ c.in-ForCore.is) (core_handed (engine_over g.S.Stated.says g.S.Stated.number c.args.plugins.now)
-    c.args.state.now c.keep_spare.new.self c.args.invoked.callback c.args.invoked.call c.args.text c.args.stack.now
-    (c.keep_spare.ensures ∙ c.rise-in-ForCore.ensures))
+    rw (sym c.take_pending.ensures.pending ∙ c.in-ForCore.is, c.keep_spare.ensures)
+    (core_handed (engine_over g.S.Stated.says g.S.Stated.number c.args.plugins.now) c.args.state.now c.rise-in-ForCore.new.self
+    c.args.invoked.callback c.args.invoked.call c.args.text c.args.stack.now c.rise-in-ForCore.ensures)
 
 pub returns-in_default-clause-moves : goal.returns-in_default-clause-moves
 returns-in_default-clause-moves g c =

@@ -1,8 +1,8 @@
 use Rattle.std.proofs.Common.{◌≡◌, ◌∷◌, [], List, length, ap, refl, arith, ◌∙◌}
 use Rattle.std.specs.Prelude.{slice_set}
 use Rattle.hook_changes.specs.declared.reply.Call.{Call}
-use Rattle.hook_changes.specs.Texts.{Text}
-use Rattle.hook_machine.specs.Meaning.{hook_call}
+use Rattle.plain_data.specs.Texts.{Text}
+use Rattle.hook_meaning.specs.Meaning.{hook_call}
 use Rattle.hook_machine.proofs.run.calls.fill.Goals as goal
 
 -- a call with one argument, and another one in its place

@@ -1,5 +1,5 @@
 use Rattle.hook_machine.specs.Outcomes.{engine_over}
-use Rattle.hook_machine.proofs.Ending.{none_of}
+use Rattle.hook_meaning.proofs.Ending.{none_of}
 use Rattle.hook_machine.proofs.Going.{leads_here}
 use Rattle.hook_machine.proofs.Moving.{nothing_left}
 use Rattle.hook_machine.proofs.run.jobs.move_on.Goals as goal

@@ -1,7 +1,7 @@
 use Rattle.std.proofs.Common.{ap, ◌∙◌}
 use Rattle.std.proofs.lemmas.Result.{err_from_is_err_and}
 use Rattle.hook_machine.specs.Outcomes.{engine_over}
-use Rattle.hook_machine.specs.Trace.{Turn}
+use Rattle.hook_meaning.specs.Trace.{Turn}
 use Rattle.hook_machine.proofs.Steps.{turn_begun}
 use Rattle.hook_machine.proofs.Going.{refused_invokes}
 use Rattle.hook_machine.proofs.run.passes.invoke.Goals as goal

@@ -1,6 +1,6 @@
 use Rattle.std.proofs.lemmas.Result.{err_from_is_err_and}
 use Rattle.hook_machine.specs.Outcomes.{engine_over}
-use Rattle.hook_machine.specs.Meaning.{invoke}
+use Rattle.hook_meaning.specs.Meaning.{invoke}
 use Rattle.hook_machine.proofs.Going.{invoking_refused, answer_handed, invocation_waits}
 use Rattle.hook_machine.proofs.run.passes.invoke_turn.Goals as goal
 

@@ -1,11 +1,8 @@
-use Rattle.std.proofs.Common.{◌∷◌, ◌∙◌, Ok, Err, subst, sym, ap, List}
+use Rattle.std.proofs.Common.{◌∷◌, ◌∙◌, Ok, sym, ap, List}
 use Rattle.std.proofs.lemmas.Result.{err_from_is_err_and}
 use Rattle.hook_machine.specs.declared.run.frames.Frame.{Frame}
 use Rattle.hook_machine.specs.declared.run.frames.Frame.TheVariants as frame
 use Rattle.hook_machine.specs.declared.run.frames.Move.TheVariants.{Handed}
-use Rattle.hook_machine.specs.World.{World}
-use Rattle.hook_machine.specs.Meaning.{invoke}
-use Rattle.hook_machine.specs.Moves.{Invokes}
 use Rattle.hook_machine.specs.Outcomes.{engine_over}
 use Rattle.hook_machine.specs.Rest.{pass_left, then_rest}
 use Rattle.hook_machine.proofs.Going.{moves_then, goes_over, goes_waiting, goes_refused}
@@ -30,8 +27,7 @@ returns-in_err-went-in-Some-clause-moves g c =
     rw (p.1, p.2) (goes_refused engine (then_rest engine (pass_left engine c.args.state.now c.args.pass) c.args.stack.now)
     (pass_left engine c.entries.state c.entries.pass) c.entries.state c.in_ok-invoked-in-Some.invoked.callback c.in_ok-invoked-in-Some.invoked.call
     (frame.Pass c.next_invocation.new.pass) c.entries.stack goes c.entries.invariant.leads c.in_err-went-in-Some.field-0.0 c.invoke.new.state
-    (subst (λ (w : World). Invokes engine (invoke engine w c.in_ok-invoked-in-Some.invoked.callback c.in_ok-invoked-in-Some.invoked.call)
-    (Err c.in_err-went-in-Some.field-0.0) c.invoke.new.state) c.next_invocation.ensures.state c.in_err-went-in-Some.ensures.invokes) _ _)
+    c.in_err-went-in-Some.ensures.invokes _ _)
 
 pub entries-preserved : goal.entries-preserved
 entries-preserved g c =
@@ -40,12 +36,12 @@ entries-preserved g c =
     (sym c.in-Some.is ∙ c.in_ok-next.ensures.entry) c.in_ok-next.ensures.moved c.in_ok-invoked-in-Some.ensures.callback
     c.in_ok-invoked-in-Some.ensures.call c.in_ok-invoked-in-Some.ensures.kept c.in_ok-invoked-in-Some.ensures.pass in
     record {
-      frames = c.entries.invariant.frames;
-      leads = rw c.keep_spare.ensures (goes_over engine (then_rest engine (pass_left engine c.args.state.now c.args.pass) c.args.stack.now)
+      frames = c.keep_spare.ensures ∙ c.next_invocation.ensures.stack ∙ c.entries.invariant.frames;
+      leads = rw (c.keep_spare.ensures, c.next_invocation.ensures.stack) (goes_over engine (then_rest engine (pass_left engine c.args.state.now c.args.pass) c.args.stack.now)
           (pass_left engine c.entries.state c.entries.pass) c.entries.state c.in_ok-invoked-in-Some.invoked.callback
           c.in_ok-invoked-in-Some.invoked.call (frame.Pass c.next_invocation.new.pass) c.entries.stack goes c.entries.invariant.leads c.invoke.new.state
           c.in-Answered.answer (pass_left engine c.invoke.new.state c.hand_in_turn.new.self)
-          (rw (c.next_invocation.ensures.state, c.in-Answered.is) at c.in_ok-went-in-Some.ensures.invokes)
+          (rw c.in-Answered.is at c.in_ok-went-in-Some.ensures.invokes)
           (rw c.in-Answered.is at c.in_ok-went-in-Some.ensures.may)
           (pass_handed engine c.invoke.new.state c.next_invocation.new.pass c.hand_in_turn.new.self c.in-Answered.answer
           c.in_ok-hand_in_turn-in-Answered.ensures));
@@ -60,5 +56,6 @@ returns-in-Waits-clause-moves g c =
     goes_waiting engine (then_rest engine (pass_left engine c.args.state.now c.args.pass) c.args.stack.now) (pass_left engine c.entries.state c.entries.pass)
     c.entries.state c.in_ok-invoked-in-Some.invoked.callback c.in_ok-invoked-in-Some.invoked.call (frame.Pass c.next_invocation.new.pass) c.entries.stack goes
     c.entries.invariant.leads c.invoke.new.state c.in-Waits.invoked c.put_first-in-Waits.new.self
-    (rw (c.next_invocation.ensures.state, c.in-Waits.is) at c.in_ok-went-in-Some.ensures.invokes)
-    (c.in_ok-put_first-in-Waits-2.ensures.ok ∙ ap (λ (l : List Frame). frame.Invocation c.in-Waits.invoked ∷ l) c.in_ok-put_first-in-Waits.ensures.ok)
+    (rw c.in-Waits.is at c.in_ok-went-in-Some.ensures.invokes)
+    (c.in_ok-put_first-in-Waits-2.ensures.ok ∙ ap (λ (l : List Frame). frame.Invocation c.in-Waits.invoked ∷ l) c.in_ok-put_first-in-Waits.ensures.ok
+    ∙ ap (λ (l : List Frame). frame.Invocation c.in-Waits.invoked ∷ frame.Pass c.next_invocation.new.pass ∷ l) c.next_invocation.ensures.stack)

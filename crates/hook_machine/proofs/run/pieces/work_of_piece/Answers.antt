@@ -1,6 +1,7 @@
 use Rattle.std.proofs.Common.{Some, ap, sym, ◌∙◌}
 use Rattle.shortcode_scan.specs.declared.Piece.TheVariants.{Plain, Match}
-use Rattle.hook_machine.proofs.Ending.{none_of, piece_plain, piece_escaped, piece_unhandled, match_is, shown_ends}
+use Rattle.hook_meaning.proofs.Ending.{none_of, piece_plain, piece_escaped, piece_unhandled}
+use Rattle.hook_machine.proofs.Works.{match_is, shown_ends}
 use Rattle.hook_machine.proofs.run.pieces.work_of_piece.Goals as goal
 
 -- a stretch between matches

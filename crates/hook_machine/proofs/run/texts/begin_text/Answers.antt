@@ -1,6 +1,6 @@
 use Rattle.std.proofs.Common.{[], refl}
 use Rattle.hook_machine.specs.Outcomes.{engine_over}
-use Rattle.hook_machine.specs.Meaning.{invoke}
+use Rattle.hook_meaning.specs.Meaning.{invoke}
 use Rattle.hook_machine.proofs.Moving.{text_back, text_begin}
 use Rattle.hook_machine.proofs.run.texts.begin_text.Goals as goal
 

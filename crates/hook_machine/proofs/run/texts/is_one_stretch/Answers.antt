@@ -1,6 +1,6 @@
 use Rattle.std.proofs.Common.{arith}
 use Rattle.std.proofs.lemmas.Bool.{eqb-true}
-use Rattle.hook_machine.proofs.Ending.{one_stretch}
+use Rattle.hook_meaning.proofs.Ending.{one_stretch}
 use Rattle.hook_machine.proofs.run.texts.is_one_stretch.Goals as goal
 
 pub returns-then-span-eq0 : goal.returns-then-span-eq0

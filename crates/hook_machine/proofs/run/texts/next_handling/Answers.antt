@@ -1,5 +1,5 @@
 use Rattle.std.proofs.Common.{◌++◌, ap, ◌∙◌}
-use Rattle.hook_machine.proofs.Ending.{none_of}
+use Rattle.hook_meaning.proofs.Ending.{none_of}
 use Rattle.hook_machine.proofs.Steps.{piece_shown, piece_handled, pieces_end}
 use Rattle.hook_machine.proofs.run.texts.next_handling.Goals as goal
 
@@ -9,6 +9,7 @@ loop-piece-preserved c =
       text = c.take_first.ensures.text ∙ c.loop-piece.invariant.text;
       hand = c.loop-piece.invariant.hand;
       state = c.work_of_piece.ensures.state ∙ c.loop-piece.invariant.state;
+      stack = c.work_of_piece.ensures.stack ∙ c.loop-piece.invariant.stack;
       same = λ inv. c.loop-piece.invariant.same inv ∙ piece_shown inv c.args.state.now c.args.parts.now.cut.text c.text-whole.result.now
           c.loop-piece.parts.so_far
           c.loop-piece.parts.cut.pieces c.take_first.new.self.pieces c.in-Some.piece c.in_ok-work.work c.in-Shown.span c.push_str.new.self

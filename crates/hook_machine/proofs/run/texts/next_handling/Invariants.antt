@@ -1,5 +1,5 @@
 use Rattle.std.proofs.Common.{◌≡◌, length}
-use Rattle.hook_machine.specs.Meaning.{Invocation, pieces_pass}
+use Rattle.hook_meaning.specs.Meaning.{Invocation, pieces_pass}
 use Rattle.hook_machine.proofs.run.texts.next_handling.Given as goal
 
 -- the pieces left go on as all of them do
@@ -9,6 +9,7 @@ invariant-loop-piece l =
       text : l.parts.cut.text ≡ l.fn.parts.cut.text;
       hand : l.parts.hand ≡ l.fn.parts.hand;
       state : l.state ≡ l.fn.state;
+      stack : l.stack ≡ l.fn.stack;
       same : (invocation : Invocation) → pieces_pass invocation l.fn.parts.cut.text l.fn.state l.fn.parts.so_far l.fn.parts.cut.pieces
           ≡ pieces_pass invocation l.fn.parts.cut.text l.fn.state l.parts.so_far l.parts.cut.pieces;
     }

@@ -3,9 +3,9 @@ use Rattle.std.proofs.lemmas.Result.{err_from_is_err_and}
 use Rattle.hook_changes.specs.declared.reply.Then.TheVariants as next
 use Rattle.hook_machine.specs.declared.run.frames.Frame.TheVariants as frame
 use Rattle.hook_machine.specs.declared.run.frames.Pending.TheVariants.{Next}
-use Rattle.hook_machine.specs.Trace.{Turn}
-use Rattle.hook_machine.specs.World.{World}
-use Rattle.hook_machine.specs.Meaning.{invoke}
+use Rattle.hook_meaning.specs.Trace.{Turn}
+use Rattle.hook_meaning.specs.World.{World}
+use Rattle.hook_meaning.specs.Meaning.{invoke}
 use Rattle.hook_machine.specs.Moves.{Invokes}
 use Rattle.hook_machine.specs.Outcomes.{engine_over}
 use Rattle.hook_machine.specs.Rest.{text_left, then_rest}
@@ -34,7 +34,7 @@ returns-then-filters_shortcodes-clause-moves g c =
     let later = record c.in-Answered.invoked { pending = Next (next.Answer c.in-Answered.answer) } in
     rw c.filters_shortcodes.ensures.same (put_moves engine _ c.filter_later.result c.invoke.new.state (frame.Invocation later
     ∷ frame.Shortcodes c.next_handling.new.self ∷ c.pieces.stack)
-    c.filter_later.new.stack c.filter_later.ensures.ok c.filter_later.ensures.err
+    c.filter_later.new.stack (rw c.next_handling.ensures.stack at c.filter_later.ensures.ok) c.filter_later.ensures.err
     (goes_waiting engine (then_rest engine (text_left engine c.args.state.now c.args.pass) c.args.stack.now) (text_left engine c.pieces.state c.pieces.pass)
     c.pieces.state c.in-Some.handling.invoked.callback c.in-Some.handling.invoked.call (frame.Shortcodes c.next_handling.new.self) c.pieces.stack goes
     c.pieces.invariant.leads c.invoke.new.state later _
@@ -48,8 +48,8 @@ pieces-preserved g c =
     let goes = text_invokes engine c.pieces.state c.pieces.pass c.next_handling.new.self c.in_ok-next_handling.field-0 c.in-Some.handling
     c.in_ok-next_handling.ensures.found c.in-Some.is c.next_handling.ensures.same (rw c.in-Some.is at c.in_ok-next_handling.ensures.hand) in
     record {
-      frames = c.pieces.invariant.frames;
-      leads = rw (c.keep_spare.ensures, c.filters_shortcodes.ensures.same)
+      frames = c.keep_spare.ensures ∙ c.next_handling.ensures.stack ∙ c.pieces.invariant.frames;
+      leads = rw (c.keep_spare.ensures, c.next_handling.ensures.stack, c.filters_shortcodes.ensures.same)
           (goes_over engine (then_rest engine (text_left engine c.args.state.now c.args.pass) c.args.stack.now)
           (text_left engine c.pieces.state c.pieces.pass) c.pieces.state c.in-Some.handling.invoked.callback
           c.in-Some.handling.invoked.call (frame.Shortcodes c.next_handling.new.self) c.pieces.stack goes c.pieces.invariant.leads c.invoke.new.state
@@ -67,7 +67,7 @@ returns-in-Waits-clause-moves g c =
     c.in_ok-next_handling.ensures.found c.in-Some.is c.next_handling.ensures.same (rw c.in-Some.is at c.in_ok-next_handling.ensures.hand) in
     put_moves engine _ c.wait_for_handler.result c.invoke.new.state
     (frame.Invocation c.in-Waits.invoked ∷ frame.Shortcodes c.next_handling.new.self ∷ c.pieces.stack)
-    c.wait_for_handler.new.stack c.wait_for_handler.ensures.ok c.wait_for_handler.ensures.err
+    c.wait_for_handler.new.stack (rw c.next_handling.ensures.stack at c.wait_for_handler.ensures.ok) c.wait_for_handler.ensures.err
     (goes_waiting engine (then_rest engine (text_left engine c.args.state.now c.args.pass) c.args.stack.now) (text_left engine c.pieces.state c.pieces.pass)
     c.pieces.state c.in-Some.handling.invoked.callback c.in-Some.handling.invoked.call (frame.Shortcodes c.next_handling.new.self) c.pieces.stack goes
     c.pieces.invariant.leads c.invoke.new.state c.in-Waits.invoked _

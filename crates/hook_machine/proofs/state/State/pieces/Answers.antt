@@ -2,7 +2,7 @@ use Rattle.std.proofs.Common.{◌≡◌, ◌∙◌, map, ap, sym, rules}
 use Rattle.std.specs.Prelude.{IsTrue}
 use Rattle.std.specs.List.{list_all}
 use Rattle.std.proofs.lemmas.Result.{IfOk-weaker}
-use Rattle.hook_changes.specs.Names.{is_tag_name}
+use Rattle.plain_data.specs.Names.{is_tag_name}
 use Rattle.shortcode_scan.specs.Pieces.{pieces_of}
 use Rattle.content_cache.specs.Opened.{names_of}
 use Rattle.hook_machine.proofs.LiveTags.{tags_among, same_tags, cut_by_tags, tags_copied, opened_bytes, opened_copied}

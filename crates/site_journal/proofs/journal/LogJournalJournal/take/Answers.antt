@@ -1,7 +1,7 @@
 use Rattle.std.proofs.Common.{map, subst, sym}
 use Rattle.std.specs.String.{string_bytes}
 use Rattle.std.specs.Io.KnownBytes.{append_known}
-use Rattle.ends.specs.Known.{AppendsFront}
+use Rattle.byte_io.specs.Known.{AppendsFront}
 use Rattle.site_journal.specs.Known.{known_lines}
 use Rattle.site_journal.proofs.Taking.{Grows-nil, front_waits, whole_waits, on_err}
 use Rattle.site_journal.proofs.journal.LogJournalJournal.take.Goals as goal

@@ -1,9 +1,21 @@
-use Rattle.site_program.proofs.Limits.{step-limit}
-use Rattle.site_program.proofs.Refusals.{step-refused}
+use Rattle.std.proofs.Common.{Some}
+use Rattle.site_commands.specs.Asked.{asked_by}
+use Rattle.site_replies.specs.Reply.{reply_data}
+use Rattle.site_program.specs.Site.{engine_of, calls_of, seen_by}
+use Rattle.site_program.proofs.Limits.{limit-stays}
+use Rattle.site_program.proofs.Refusals.{carried_out-refused}
 use Rattle.site_program.proofs.setup.Setup.command.Goals as goal
 
-pub returns-in-Ok-clause-refused : goal.returns-in-Ok-clause-refused
-returns-in-Ok-clause-refused g c = λ r is. step-refused _ _ _ _ c.args.line.now _ r c.in-Ok.ensures.carried.ok is
+pub returns-in-Ok-carry_out-clause-refused : goal.returns-in-Ok-carry_out-clause-refused
+returns-in-Ok-carry_out-clause-refused g c =
+    let seen = seen_by g.S.Stated.says g.S.Stated.number c.args.self.now in
+    λ r is. carried_out-refused (engine_of g.S.Stated.says g.S.Stated.number c.args.self.now) (calls_of c.args.self.now) (seen c.args.state.now)
+    (seen c.carry_out.new.state) (Some (asked_by c.in-Some-read_command.command)) (reply_data c.in-Ok-carry_out.reply) r
+    c.in-Ok-carry_out.ensures.carried.ok is
 
-pub returns-in-Ok-clause-limit : goal.returns-in-Ok-clause-limit
-returns-in-Ok-clause-limit g c = step-limit _ _ _ _ c.args.line.now _ c.in-Ok.ensures.carried.ok
+pub returns-in-Ok-carry_out-clause-limit : goal.returns-in-Ok-carry_out-clause-limit
+returns-in-Ok-carry_out-clause-limit g c =
+    let seen = seen_by g.S.Stated.says g.S.Stated.number c.args.self.now in
+    limit-stays (engine_of g.S.Stated.says g.S.Stated.number c.args.self.now) (calls_of c.args.self.now) (seen c.args.state.now)
+    (seen c.carry_out.new.state) (Some (asked_by c.in-Some-read_command.command)) (reply_data c.in-Ok-carry_out.reply)
+    c.in-Ok-carry_out.ensures.carried.ok

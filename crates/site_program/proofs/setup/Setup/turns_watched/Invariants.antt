@@ -1,5 +1,5 @@
 use Rattle.std.proofs.Common.{◌-◌, ◌≡◌, ◌+◌, ◌≤◌, length}
-use Rattle.hook_machine.specs.Trace.{outcome_of, turns_of}
+use Rattle.hook_meaning.specs.Trace.{outcome_of, turns_of}
 use Rattle.template_parts.specs.Open.{open_left, status_of}
 use Rattle.site_program.specs.Site.{engine_of}
 use Rattle.site_program.proofs.setup.Setup.turns_watched.Given as goal

@@ -1,5 +1,5 @@
 use Rattle.std.proofs.Common.{◌≡◌, None, length}
-use Rattle.hook_machine.specs.Trace.{outcome_of, turns_of}
+use Rattle.hook_meaning.specs.Trace.{outcome_of, turns_of}
 use Rattle.hook_machine.specs.Runs.{engine_of}
 use Rattle.template_parts.specs.Page.{run_in, refusal_of, page_left, CanGoOn, IsSamePage}
 use Rattle.template_parts.proofs.page.Page.print.Given as goal

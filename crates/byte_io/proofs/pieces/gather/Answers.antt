@@ -1,0 +1,23 @@
+use Rattle.std.proofs.Common.{◌≡◌, ◌∙◌, ◌++◌, [], ap, append-nil, subst}
+use Rattle.std.proofs.lemmas.Result.{on_ok_weaker, on_err_weaker}
+use Rattle.std.specs.Io.KnownBytes.{Appends}
+use Rattle.byte_io.proofs.Fronts.{AppendsFront-after, Gathers-none}
+use Rattle.byte_io.proofs.pieces.gather.Goals as goal
+
+-- what was gathered was written, and then the piece
+pub returns-in-Err-try_extend_from_slice-clause-ok : goal.returns-in-Err-try_extend_from_slice-clause-ok
+returns-in-Err-try_extend_from_slice-clause-ok g c =
+    let contents = g.W.Sink.contents in
+    let held : c.as_slice.result.now ≡ c.args.gathered.now.items = c.as_slice.ensures.value ∙ ap (λ v. v.items) c.in-Err.ensures.err in
+    let none : c.try_extend_from_slice-2.new.self.items ≡ [] = ap (λ v. v.items) c.in-Err-try_extend_from_slice.ensures.err ∙ c.clear.ensures in
+    let first = subst (Appends (contents c.args.writer.now) (contents c.write_all.new.writer)) held c.in_ok-write_all-in-Err.ensures.ok in
+    on_ok_weaker _ (λ then. Gathers-none _ _ _ _ _ _ none first then) c.write_all-in-Err-try_extend_from_slice.ensures.ok
+
+-- what was gathered was written, and of the piece a part
+pub returns-in-Err-try_extend_from_slice-clause-part : goal.returns-in-Err-try_extend_from_slice-clause-part
+returns-in-Err-try_extend_from_slice-clause-part g c =
+    let contents = g.W.Sink.contents in
+    let held : c.as_slice.result.now ≡ c.args.gathered.now.items = c.as_slice.ensures.value ∙ ap (λ v. v.items) c.in-Err.ensures.err in
+    let first = subst (Appends (contents c.args.writer.now) (contents c.write_all.new.writer)) held c.in_ok-write_all-in-Err.ensures.ok in
+    on_err_weaker _ (λ part. AppendsFront-after _ _ _ _ _ [] _ first part (ap (λ l. c.args.gathered.now.items ++ l) (append-nil c.args.piece.now)))
+    c.write_all-in-Err-try_extend_from_slice.ensures.part

@@ -1,6 +1,0 @@
-use Rattle.hook_machine.specs.Runs.{IsReady}
-use Rattle.engine_bench.proofs.passes.Given as goal
-
--- each pass leaves the run ready for the next one
-abbrev pub invariant-loop : goal.invariant-loop
-invariant-loop g l = IsReady l.run

@@ -1,6 +1,0 @@
-use Rattle.hook_machine.specs.Runs.{CanBegin}
-use Rattle.engine_tests.proofs.runs.answers_each.Given as goal
-
--- the next pass can begin
-abbrev pub invariant-loop-step : goal.invariant-loop-step
-invariant-loop-step l = CanBegin l.run

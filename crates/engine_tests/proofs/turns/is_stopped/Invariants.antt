@@ -1,6 +1,0 @@
-use Rattle.template_parts.specs.Page.{CanGoOn}
-use Rattle.engine_tests.proofs.turns.is_stopped.Given as goal
-
--- the page can go on
-abbrev pub invariant-loop-turn : goal.invariant-loop-turn
-invariant-loop-turn l = CanGoOn l.page

@@ -1,7 +1,0 @@
-use Rattle.std.proofs.Common.{◌≡◌, flat_map, map, take}
-use Rattle.gallery.specs.Gallery.{picture}
-use Rattle.gallery.proofs.pictures.Given as goal
-
--- the pictures are those of the IDs so far
-abbrev pub invariant-loop-id : goal.invariant-loop-id
-invariant-loop-id l = l.pictures ≡ flat_map (picture l.width) (map (λ id. id.now) (take l.id-index l.ids))

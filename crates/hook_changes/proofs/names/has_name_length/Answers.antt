@@ -1,5 +1,0 @@
-use Rattle.std.proofs.Common.{rules}
-use Rattle.hook_changes.proofs.names.has_name_length.Goals as goal
-
-pub returns-then-some : goal.returns-then-some
-returns-then-some c = search rules

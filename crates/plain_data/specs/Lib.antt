@@ -1,0 +1,4 @@
+pub mod Steps
+pub mod NameByte
+pub mod Names
+pub mod Texts

@@ -1,0 +1,12 @@
+use Rattle.std.proofs.Common.{rules, ◌≡◌, false, ap, ◌∙◌}
+use Rattle.post_tables.specs.Rows.{has_post}
+use Rattle.post_tables.specs.Stored.{rows_of}
+use Rattle.post_tables.proofs.PostRows.{absent_without}
+use Rattle.post_tables.proofs.tables.Tables.delete_post.Goals as goal
+
+-- no post has the ID, so leaving it out changes nothing
+pub returns-in-Ok-eq0-clause-err : goal.returns-in-Ok-eq0-clause-err
+returns-in-Ok-eq0-clause-err c =
+    let rows = rows_of c.self.inside.conn in
+    let absent : has_post c.args.id rows.posts ≡ false = search rules in
+    c.in-Ok-eq0.ensures.makes.ok ∙ ap (λ posts. record rows { posts = posts }) (absent_without c.args.id rows.posts absent) ∙ c.self.view_is
