@@ -52,6 +52,12 @@ def with_parts(page: str, items: list[str]) -> str:
     return before_last(page, "</main>", f'<nav><ul class="links">{html}</ul></nav>\n')
 
 
+def with_search(page: str, form: str) -> str:
+    """A page with the form that leads to the search: at its mark, or at the end of its header if it has one."""
+    mark = "<!--archive:search-->"
+    return page.replace(mark, form, 1) if mark in page else page.replace("</header>", f"{form}</header>", 1)
+
+
 def after_post(page: str, html: str) -> str:
     """A post's page with something after the post."""
     at = page.rfind("<!--archive:after-->")

@@ -25,8 +25,10 @@ LINE = 2_000
 class Moved:
     """The moved addresses of an archive: by path, and by a parameter of the query and its value."""
 
-    def __init__(self, plan: Plan, lists: list[Listing]) -> None:
+    def __init__(self, plan: Plan, lists: list[Listing], search: str = "") -> None:
         self.plan = plan
+        # The path of the search, to which `/?s=WORDS` leads.
+        self.search = as_link(search)
         self.paths: dict[str, str] = {}
         self.numbers: dict[str, str] = {}
         self.lists: dict[tuple[str, str], str] = {}
@@ -125,6 +127,8 @@ class Moved:
                 )
                 if found:
                     return found
+            if self.search and "s" in query:
+                return self.search
         return self.paths.get(path, "")
 
 
@@ -182,6 +186,9 @@ def for_nginx(moved: Moved, root: Path) -> str:
         for name in LISTS
     )
     asked = "".join(f'        if ($archive_{it} != "") {{ return 301 $archive_{it}; }}\n' for it in ("number", *LISTS))
+    if moved.search:
+        to = quoted(moved.search.replace("$", "%24") + "?s=$arg_s")
+        asked += f'        if ($arg_s != "") {{ return 301 {to}; }}\n'
     return NGINX.format(
         numbers=lines(iter(moved.numbers.items())),
         lists=lists,
@@ -216,7 +223,8 @@ def for_apache(moved: Moved) -> str:
     home = moved.plan.places.home.strip("/")
     front = f"^(?:{escaped(home)}/?)?(?:index\\.(?:php|html))?$" if home else "^(?:index\\.(?:php|html))?$"
     made.append(
-        f"RewriteCond %{{QUERY_STRING}} ^$\nRewriteRule {front} - [S={len(moved.numbers) + len(moved.lists)}]\n"
+        f"RewriteCond %{{QUERY_STRING}} ^$\n"
+        f"RewriteRule {front} - [S={len(moved.numbers) + len(moved.lists) + bool(moved.search)}]\n"
     )
     for value, to in moved.numbers.items():
         names = "|".join(NUMBERS)
@@ -229,6 +237,9 @@ def for_apache(moved: Moved) -> str:
             f"RewriteCond %{{QUERY_STRING}} (?:^|&){name}={escaped(value)}(?:&|$)\n"
             f'RewriteRule {front} "{target(to)}" [R=301,L,NE,QSD]\n'
         )
+    if moved.search:
+        made.append("RewriteCond %{QUERY_STRING} (?:^|&)s=([^&]*)\n")
+        made.append(f'RewriteRule {front} "{target(moved.search)}?s=%1" [R=301,L,NE]\n')
     # What is there needs no look at the rest.
     made.append("RewriteCond %{REQUEST_FILENAME} -f [OR]\nRewriteCond %{REQUEST_FILENAME} -d\nRewriteRule ^ - [L]\n")
     made.append(f'RewriteRule "^(.+)/feed/?$" "/$1{"/" if moved.plan.places.has_slash else ""}" [R=301,L,NE]\n')
@@ -255,6 +266,9 @@ def for_caddy(moved: Moved, root: Path) -> str:
             f"\t@{name} {{\n\t\tpath {moved.plan.places.home} {moved.plan.places.home}index.php\n"
             f'\t\texpression `{{moved_{name}}} != ""`\n\t}}\n\tredir @{name} {{moved_{name}}} 301\n'
         )
+    if moved.search:
+        made.append(f"\t@search {{\n\t\tpath {moved.plan.places.home}\n\t\tquery s=*\n\t}}\n")
+        made.append("\tredir @search " + quoted(moved.search + "?{query}") + " 301\n")
     made.append(
         f'\tmap {{path}} {{moved_path}} {{\n{lines(iter(moved.paths.items()))}\t\tdefault ""\n\t}}\n'
         '\t@path expression `{moved_path} != ""`\n\tredir @path {moved_path} 301\n'
@@ -273,6 +287,7 @@ def for_caddy(moved: Moved, root: Path) -> str:
 def for_netlify(moved: Moved) -> str:
     home = moved.plan.places.home
     made = [f"{home} {name}={as_link(value)} {to} 301!\n" for name, value, to in moved.queries()]
+    made += [f"{home} s=:s {moved.search}?s=:s 301!\n"] * bool(moved.search)
     made += [f"{as_link(path)} {to} 301!\n" for path, to in moved.paths.items()]
     # A file that is there comes first.
     return "".join(made) + "/*/feed/ /:splat/ 301\n"

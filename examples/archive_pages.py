@@ -6,12 +6,14 @@ It is a module, and runs nothing by itself.
 import re
 from collections import defaultdict
 from collections.abc import Callable, Iterator
+from datetime import datetime, timedelta
 from html import escape
 from typing import NamedTuple
 
 from archive_files import Files
 from archive_html import (
     after_post,
+    before_last,
     harmless,
     shortened,
     text_of,
@@ -20,11 +22,13 @@ from archive_html import (
     with_links,
     with_parts,
     with_plain_title,
+    with_search,
     with_times,
     with_title,
 )
 from archive_plan import Listing, Plan
-from archive_store import Lister, Printer
+from archive_search import LIST, Search
+from archive_store import MOST_PER_PAGE, Lister, Printer
 from wordpress_addresses import UPLOADS, as_link
 from wordpress_items import Comment
 from wordpress_texts import paragraphs, texturize, with_characters
@@ -34,7 +38,7 @@ DESCRIPTION = 155
 # A file of the site in a page: the value of an attribute, or one of several in `srcset`.
 SHOWN_FILE = re.compile(rf"[\"' ,](/[^\"'\s,<>]*{UPLOADS}[^\"'\s,<>?#]+)")
 # How many links' targets are kept from page to page.
-LINKS = 10_000
+LINKS = 2_000
 # Fields in which plugins keep the description of a post.
 DESCRIPTIONS = ("_yoast_wpseo_metadesc", "rank_math_description", "_aioseo_description", "_aioseop_description")
 # How deep answers to comments are shown as answers.
@@ -63,6 +67,7 @@ class Pages:
         self, plan: Plan, files: Files, printer: Printer, lister: Lister, tell: Callable[[str], None]
     ) -> None:
         self.plan, self.files, self.printer, self.lister, self.tell = plan, files, printer, lister, tell
+        self.search = Search(plan, files)
         # The paths for the sitemap, with the date of a post.
         self.sitemap: list[tuple[str, str]] = []
         # Paths whose page isn't one that was found, and uploads that the pages need.
@@ -77,6 +82,7 @@ class Pages:
         with self.printer, self.lister:
             self.write_posts()
             self.write_lists()
+            self.write_search()
             _, page = self.printer.page("/?p=0")
             self.files.write("/404.html", self.finished(page, self.plan.places.home))
 
@@ -102,6 +108,7 @@ class Pages:
         """Writes a post's or a page's page, or one of its parts."""
         plan, post = self.plan, self.plan.store.posts[number]
         path = plan.places.piece(plan.paths[number], part)
+        self.search.take(number, content)
         if post.kind == "post":
             page = with_times(page, [(post.date, plan.date(number))])
         page = with_plain_title(page, post.title, plan.plain_title(number))
@@ -159,7 +166,7 @@ class Pages:
         terms = plan.terms(number)
         if terms:
             links = ", ".join(link(path, plan.typeset(name), ' rel="tag"') for _, path, name in terms)
-            made.append(f'<p class="terms">{plan.words["filed"]}: {links}</p>\n')
+            made.append(f'<p class="terms">{plan.heading("filed", links)}</p>\n')
         if number in plan.place:
             made.append(self.neighbours(plan.place[number]))
         item = plan.item(number)
@@ -178,7 +185,7 @@ class Pages:
             number = plan.order[where] if 0 <= where < len(plan.order) else 0
             if number in plan.paths:
                 title = escape(plan.plain_title(number), quote=False)
-                made.append(link(plan.paths[number], f"{plan.words[word]}: {title}", f' rel="{rel}"'))
+                made.append(link(plan.paths[number], plan.heading(word, title), f' rel="{rel}"'))
         return f'<p class="near">{" ".join(f"<span>{it}</span>" for it in made)}</p>\n' if made else ""
 
     def comments(self, comments: list[Comment]) -> str:
@@ -218,6 +225,19 @@ class Pages:
         text = with_characters(paragraphs(texturize(harmless(comment.text.strip()), plan.quotes)))
         return f'<p class="by"><b>{author}</b>, <time datetime="{date}">{shown}</time></p>\n{text}'
 
+    def write_search(self) -> None:
+        """Writes the page of the search, and its index."""
+        plan, search = self.plan, self.search
+        if search.path:
+            head = {"id": 1, "kind": "page", "status": "publish", "date": "2000-01-01 00:00:00"}
+            title = escape(plan.words["search"], quote=False)
+            _, page = self.lister.page([{**head, "title": title, "content": LIST}], "/?page_id=1")
+            made = search.list()
+            page = page.replace(LIST, made, 1) if LIST in page else before_last(page, "</main>", made)
+            # The page has an index beside it, so its address is that of a folder.
+            self.finish(page, Head(search.path, title, is_listed=False, is_folder=True), "")
+        search.write_index()
+
     def write_lists(self) -> None:
         """Writes all lists, by the template that the program would choose for each kind."""
         plan, templates = self.plan, self.plan.store.templates
@@ -244,7 +264,11 @@ class Pages:
         parts = max(1, -(-len(listing.posts) // size))
         for part in range(1, parts + 1):
             numbers = listing.posts[(part - 1) * size : part * size]
-            _, page = self.lister.page([self.entry(it) for it in numbers], "/")
+            # (the program lists a hundred posts at most)
+            sticky = plan.sticky()[: MOST_PER_PAGE - size] if listing.kind == "home" and part == 1 else []
+            numbers = [*sticky, *(it for it in numbers if it not in sticky)]
+            dates = {it: plan.store.posts[it].date for it in numbers} | first_dates(sticky)
+            _, page = self.lister.page([self.entry(it) | {"date": dates[it]} for it in numbers], "/")
             page = with_heading(page, listing.heading)
             page = with_parts(
                 page,
@@ -257,7 +281,10 @@ class Pages:
                 if parts > 1
                 else [],
             )
-            page = with_times(page, [(plan.store.posts[it].date, plan.date(it)) for it in numbers])
+            page = with_times(page, [(dates[it], plan.date(it)) for it in numbers])
+            for it in sticky:
+                # (a template may print the date in another element too)
+                page = page.replace(dates[it], plan.store.posts[it].date)
             self.finish_list(page, listing, part)
 
     def entry(self, number: int) -> dict:
@@ -265,11 +292,12 @@ class Pages:
         plan, post = self.plan, self.plan.store.posts[number]
 
         def more(text: str) -> str:
-            label = escape(text or plan.words["more"], quote=False)
-            hidden = escape(plan.plain_title(number), quote=False)
+            word = text or plan.words["more"]
+            # (a bracket in a title is no shortcode, and the program looks for these in attributes too)
+            name = escape(word + plan.words["colon"] + plan.plain_title(number)).replace("[", "&#91;")
             to = as_link(plan.paths[number]) + (f"#more-{number}" if text or "more-" in content else "")
             return (
-                f'<p><a class="more-link" href="{escape(to)}" aria-label="{label}: {escape(hidden)}">{label}</a></p>'
+                f'<p><a class="more-link" href="{escape(to)}" aria-label="{name}">{escape(word, quote=False)}</a></p>'
             )
 
         content = plan.store.content(number)
@@ -316,6 +344,7 @@ class Pages:
             self.uploads.update(SHOWN_FILE.findall(page))
         if len(self.links) > LINKS:
             self.links.clear()
+        page = with_search(page, self.search.form())
         return with_links(page, lambda it: self.plan.target(it, base), self.links)
 
     def head(self, head: Head) -> str:
@@ -336,6 +365,12 @@ class Pages:
         if head.feed:
             made.append(f'<link rel="alternate" type="application/rss+xml" href="{escape(as_link(head.feed))}">\n')
         return "".join(made)
+
+
+def first_dates(numbers: list[int]) -> dict[int, str]:
+    """Dates that have the program, which lists posts by their dates, list some of them first and in this order."""
+    last = datetime(9999, 12, 31, 23, 59, 59)
+    return {number: str(last - timedelta(seconds=at)) for at, number in enumerate(numbers)}
 
 
 def link(path: str, html: str, more: str = "") -> str:

@@ -18,6 +18,10 @@ from wordpress_items import Item, WholeSite
 from wordpress_texts import paragraphs, quotes_of, texturize, with_characters
 
 
+# How many posts' dates are kept as they are shown: those of one year are in several lists.
+DATES = 1_000
+
+
 class Listing(NamedTuple):
     """A list of posts: its path, what it is of, its heading and whether it has a feed."""
 
@@ -58,7 +62,7 @@ class Plan:
         self.paths: dict[int, str] = {}
         self.clashes: list[str] = []
         self.taken: set[str] = set()
-        # The dates of posts as they are shown; each is in many lists.
+        # The dates of some posts as they are shown; each is in many lists.
         self.dates: dict[int, str] = {}
         self.posts_page = self.posts_page_of()
         for post in [*store.published("page"), *store.published("post")]:
@@ -137,6 +141,11 @@ class Plan:
             return None
         return Listing(self.paths[self.posts_page], "home", self.store.posts[self.posts_page].title, posts)
 
+    def sticky(self) -> list[int]:
+        """The posts that the first part of the list of all posts begins with, the newest first. Further parts have each
+        where its date puts it, as in WordPress, so the first one can be longer than they are."""
+        return [it for it in self.order[::-1] if (item := self.item(it)) and item.is_sticky and it in self.paths]
+
     def listings(self) -> Iterator[Listing]:
         """All lists but that of all posts, each with its posts, the newest first."""
         lists: dict[str, Listing] = {}
@@ -161,14 +170,18 @@ class Plan:
                 above[self.places.term(term)] = it.domain, term.name
                 term = self.site.terms.get((term.domain, term.parent)) if term.parent else None
         for path, (domain, name) in above.items():
-            yield path, domain, f"{self.words['category' if domain == 'category' else 'tag']}: {self.typeset(name)}"
+            yield path, domain, self.heading("category" if domain == "category" else "tag", self.typeset(name))
         if author := self.author(number):
-            yield author[0], "author", f"{self.words['author']}: {escape(author[1], quote=False)}"
+            yield author[0], "author", self.heading("author", escape(author[1], quote=False))
         year, month, day = f"{date.year:04}", f"{date.month:02}", f"{date.day:02}"
         language = self.site.language
-        yield self.places.date(year), "year", f"{self.words['year']}: {year}"
-        yield self.places.date(year, month), "month", f"{self.words['month']}: {month_and_year(date, language)}"
-        yield self.places.date(year, month, day), "day", f"{self.words['day']}: {formatted(date, self.form, language)}"
+        yield self.places.date(year), "year", self.heading("year", year)
+        yield self.places.date(year, month), "month", self.heading("month", month_and_year(date, language))
+        yield self.places.date(year, month, day), "day", self.heading("day", formatted(date, self.form, language))
+
+    def heading(self, word: str, text: str) -> str:
+        """A word of the site's language and what it is about, with a colon as that language has it."""
+        return f"{self.words[word]}{self.words['colon']}{text}"
 
     def typeset(self, text: str) -> str:
         """A plain text as HTML, with typographic characters; nothing in it is a shortcode."""
@@ -189,6 +202,8 @@ class Plan:
     def date(self, number: int) -> str:
         """A post's date as HTML, with who wrote it."""
         if number not in self.dates:
+            if len(self.dates) >= DATES:
+                self.dates.clear()
             self.dates[number] = self.made_date(number)
         return self.dates[number]
 

@@ -59,10 +59,15 @@ class Texts:
 
 
 class Store:
-    """What the site in a file holds: its posts by ID, and the lines that make all else of it."""
+    """What a site holds that some edits make of an empty one: its posts by ID, and the lines that make all else of it.
+
+    The edits are those that an export has, or all that were done.
+    """
 
     def __init__(self, lines: Iterable[bytes]) -> None:
         self.posts: dict[int, Post] = {}
+        # The largest ID so far: a new post gets the next one, also if that post is gone.
+        self.largest = 0
         self.contents = Texts()
         self.options: dict[str, str] = {}
         self.templates: dict[str, list] = {}
@@ -72,13 +77,15 @@ class Store:
             self.take(line)
 
     def take(self, line: bytes) -> None:
-        """Does what a line of the export does, as far as it is looked at here."""
+        """Does what an edit does, as far as it is looked at here."""
         command = json.loads(line)
         kind = command.get("cmd")
         if kind == "import":
             self.take_import(command["site"])
         elif kind == "put":
-            raise NotRead("the export of the site has a line that no export has")
+            # What may be left out of it, docs/BEHAVIOUR.md says.
+            given = {"kind": "post", "status": "publish", "title": "", "content": "", **command}
+            self.take_post({**given, "id": self.largest + 1})
         elif kind == "edit":
             post = self.posts.get(command["id"])
             for name in ("title", "status", "date"):
@@ -95,11 +102,16 @@ class Store:
                 self.templates[command["name"]] = command["body"]
             self.settings.append(line)
 
+    def take_post(self, entry: dict) -> None:
+        number = entry["id"]
+        self.posts[number] = Post(number, entry["kind"], entry["status"], entry["title"], entry["date"])
+        self.contents.put(number, entry["content"])
+        self.largest = max(self.largest, number)
+
     def take_import(self, site: dict) -> None:
         """Takes the posts of an import, and keeps the rest of it as a line."""
         for it in site.pop("posts", []):
-            self.posts[it["id"]] = Post(it["id"], it["kind"], it["status"], it["title"], it["date"])
-            self.contents.put(it["id"], it["content"])
+            self.take_post(it)
         front = site.get("front")
         if front and site.get("version") == 2:
             shown = {"show_on_front": front["show"]}

@@ -76,4 +76,5 @@ def touched(line: bytes) -> Iterator[tuple[int, dict]]:
 
 def end_with(name: str, fault: Exception) -> None:
     """Ends a script with a reason."""
-    sys.exit(f"{name}: {fault}")
+    is_served = "the file is in use" in str(fault)
+    sys.exit(f"{name}: {fault}{'; a site that is served is read and edited through what serves it' * is_served}")

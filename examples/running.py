@@ -6,6 +6,9 @@ A program ends after 1,000,000 lines. So the next one takes its place some lines
 ended for another reason: a page that it owed is asked of the next. A site that lasts is in its file, which the program
 that carries out the edits has; all other programs are in memory, and are given the lines that rebuild the site: those
 that `--export` prints, and then each edit that was done.
+
+Whoever asks for the edits that a site is made of gets them from here, since nobody else can read a file that a program
+has: they are read from it before a program is started, and each that is done is noted.
 """
 
 import json
@@ -13,8 +16,10 @@ import queue
 import subprocess
 import threading
 from contextlib import contextmanager
+from pathlib import Path
 
 from explain_log import STYLE, as_html, tree_of
+from kept_site import NotKept, history
 from program import LINE_BYTES, LINES, Ended, NoReply, Program
 from serving import get_line
 from watched import Watched
@@ -157,11 +162,13 @@ class Site:
     """A site over some programs. It ends with the `with` block that it is made for.
 
     With `database` it is the one in that file, else it is in memory. `readers` programs print its pages, or if there
-    are none the one that carries out the edits.
+    are none the one that carries out the edits. With `notes_edits` it can be asked for its edits.
     """
 
-    def __init__(self, path, database=None, readers=0, most=LINES, kind=Plain):
+    def __init__(self, path, database=None, readers=0, most=LINES, kind=Plain, notes_edits=False):
         self.path, self.database, self.kind, self.most = path, database, kind, most
+        # Every edit that the site in a file is made of, if anybody may ask for them.
+        self.notes_edits, self.noted = notes_edits and database is not None, []
         # The lines that rebuild the site, if any program needs them.
         self.is_told = readers > 0 or database is None
         self.history, self.exported_lines = [], 0
@@ -202,6 +209,13 @@ class Site:
             raise NotServed(f"--database {self.database} --export ended with status {ran.returncode}")
         return ran.stdout.splitlines()
 
+    def edits_in_the_file(self):
+        """The edits of the site in the file, which no program may have meanwhile; a file that isn't there has none."""
+        try:
+            return history(self.path, Path(self.database)) if Path(self.database).exists() else []
+        except NotKept as fault:
+            raise NotServed(fault) from None
+
     def started_writer(self):
         if self.database is None:
             return self.started_reader()
@@ -226,9 +240,16 @@ class Site:
             raise
         return program
 
+    def edits_done(self):
+        """Every edit that the site is made of, in order. A site in memory is made of those that were done here."""
+        with self.editing:
+            return list(self.noted if self.notes_edits else self.history)
+
     def read_again(self):
         """Starts all programs anew, over what the file has by now."""
         self.writer.end()
+        if self.notes_edits:
+            self.noted = self.edits_in_the_file()
         if self.database and self.is_told:
             self.history = self.exported()
             self.exported_lines = len(self.history)
@@ -269,9 +290,12 @@ class Site:
             with self.taken(len(self.readers)):
                 self.read_again()
             raise Unknown from None
-        if reply.words[0] == "ok" and is_edit(line) and self.is_told:
-            self.history.append(line)
-            self.tell(line, reply)
+        if reply.words[0] == "ok" and is_edit(line):
+            if self.notes_edits:
+                self.noted.append(line)
+            if self.is_told:
+                self.history.append(line)
+                self.tell(line, reply)
         return reply
 
     def tell(self, line, reply):

@@ -35,6 +35,8 @@ class Wishes(NamedTuple):
     contact: str = ""
     menu: str = ""
     posts_page: str = ""
+    # Shortcodes that a plugin of the program has.
+    tags: frozenset[str] = frozenset()
 
 
 class Archive:
@@ -46,7 +48,7 @@ class Archive:
         self.words = words_of(self.site.language)
         note = self.words["form"] if not wishes.contact else self.words["write"]
         self.places = Places(self.site)
-        self.shown = Shown(self.site, carried, self.places, Notes(note, wishes.contact))
+        self.shown = Shown(self.site, carried, self.places, Notes(note, wishes.contact, wishes.tags))
         self.public = {it for it in carried if self.site.items[it].is_public()}
         self.menu_name = ""
         # The lists of links that only an archive has: its menu, or if there is none its pages, and its months by name.

@@ -64,3 +64,9 @@ def differences(content):
     if lacks_paragraphs(content):
         found["content without paragraphs"] = Counter([""])
     return found
+
+
+def skips_levels(content):
+    """Whether a heading of a content is more than one level below the one before it; the title's is the first."""
+    levels = [1, *(int(it) for it in re.findall(r"<h([1-6])\b", content, re.I))]
+    return any(below > above + 1 for above, below in zip(levels, levels[1:]))

@@ -1,15 +1,18 @@
 """What an export has of a site beside the texts of its posts: addresses, terms, authors, comments, menus, files.
 
 It is a module, and runs nothing by itself. The file is read piece by piece, and what isn't asked for is dropped at
-once, so memory doesn't grow with the texts of posts, only with how many items there are. A document type is refused,
-as it is when the same file is imported.
+once; longer comments and excerpts are put into a temporary file. So memory doesn't grow with texts, only with how many
+items there are. A document type is refused, as it is when the same file is imported.
 """
 
 import re
+import tempfile
 from collections.abc import Callable, Iterator
 from dataclasses import dataclass, field
 from html import unescape
 from pathlib import Path
+from sys import intern
+from typing import IO
 from urllib.parse import urlsplit
 from xml.parsers import expat
 
@@ -25,6 +28,40 @@ KEPT_FIELDS = re.compile(
 )
 
 
+# The longest text that is kept in memory, in characters.
+SHORT = 100
+
+
+class Texts:
+    """Texts in a temporary file, each named by its place there; short ones aren't put there."""
+
+    def __init__(self) -> None:
+        self.file: IO[bytes] = tempfile.TemporaryFile()
+        self.end = 0
+
+    def put(self, text: str) -> "Kept":
+        if len(text) <= SHORT:
+            return text
+        data = text.encode()
+        self.file.seek(self.end)
+        self.file.write(data)
+        place = self.file, self.end, len(data)
+        self.end += len(data)
+        return place
+
+
+# A text, or its file, its place there and its size.
+Kept = str | tuple[IO[bytes], int, int]
+
+
+def text_kept(kept: Kept) -> str:
+    if isinstance(kept, str):
+        return kept
+    file, at, size = kept
+    file.seek(at)
+    return file.read(size).decode()
+
+
 @dataclass(slots=True)
 class Comment:
     """A comment as the export has it."""
@@ -33,8 +70,12 @@ class Comment:
     author: str
     address: str
     date: str
-    text: str
+    kept: Kept
     parent: int
+
+    @property
+    def text(self) -> str:
+        return text_kept(self.kept)
 
 
 @dataclass(slots=True)
@@ -62,7 +103,7 @@ class Item:
     author: str
     parent: int
     order: int
-    excerpt: str
+    kept_excerpt: Kept
     password: str
     file: str
     is_sticky: bool
@@ -73,6 +114,10 @@ class Item:
     terms: list[Term] = field(default_factory=list)
     fields: dict[str, list[str]] = field(default_factory=dict)
     comments: list[Comment] = field(default_factory=list)
+
+    @property
+    def excerpt(self) -> str:
+        return text_kept(self.kept_excerpt)
 
     def one(self, name: str) -> str:
         """The value of a custom field, or an empty text."""
@@ -214,7 +259,7 @@ class Reader:
             self.parser.Parse(b"", True)
 
 
-def comment_of(element: Element) -> Comment | None:
+def comment_of(element: Element, texts: Texts) -> Comment | None:
     """A comment that everyone may see: approved, and no notice of another site's link."""
     if element.first("wp:comment_approved").strip() != "1":
         return None
@@ -225,26 +270,26 @@ def comment_of(element: Element) -> Comment | None:
         element.first("wp:comment_author").strip(),
         element.first("wp:comment_author_url").strip(),
         element.first("wp:comment_date").strip(),
-        element.first("wp:comment_content"),
+        texts.put(element.first("wp:comment_content")),
         whole_number(element.first("wp:comment_parent")),
     )
 
 
-def item_of(element: Element, has_comments: bool, terms: dict[tuple[str, str], Term]) -> Item:
+def item_of(element: Element, has_comments: bool, terms: dict[tuple[str, str], Term], texts: Texts) -> Item:
     """An item of the channel. Its terms are those of `terms`, which gets those that it hasn't."""
     of = element.first
     made = Item(
         whole_number(of("wp:post_id")),
-        of("wp:post_type").strip(),
-        of("wp:status").strip(),
+        intern(of("wp:post_type").strip()),
+        intern(of("wp:status").strip()),
         of("link").strip(),
         of("title"),
         of("wp:post_name").strip(),
         of("wp:post_date").strip(),
-        of("dc:creator").strip(),
+        intern(of("dc:creator").strip()),
         whole_number(of("wp:post_parent")),
         whole_number(of("wp:menu_order")),
-        of("excerpt:encoded"),
+        texts.put(of("excerpt:encoded")),
         of("wp:post_password"),
         of("wp:attachment_url").strip(),
         of("wp:is_sticky").strip() == "1",
@@ -259,7 +304,7 @@ def item_of(element: Element, has_comments: bool, terms: dict[tuple[str, str], T
             made.terms.append(terms.setdefault(name, Term(0, *name, unescape(it.text()))))
         elif it.name == "wp:postmeta" and KEPT_FIELDS.fullmatch(key := it.first("wp:meta_key").strip()):
             made.fields.setdefault(key, []).append(it.first("wp:meta_value"))
-        elif it.name == "wp:comment" and has_comments and (comment := comment_of(it)):
+        elif it.name == "wp:comment" and has_comments and (comment := comment_of(it, texts)):
             made.comments.append(comment)
     return made
 
@@ -295,12 +340,12 @@ TEXTS = {
 
 def read_site(path: Path, has_contents: bool = False, has_comments: bool = True) -> WholeSite:
     """Reads what an export has of a site, and the contents of its items if they are asked for."""
-    site = WholeSite()
+    site, texts = WholeSite(), Texts()
     named: dict[tuple[str, str], Term] = {}
 
     def take(element: Element) -> None:
         if element.name == "item":
-            item = item_of(element, has_comments, named)
+            item = item_of(element, has_comments, named, texts)
             # Of two items with one ID the first that is carried over is meant, as when the export is imported.
             if item.number not in site.items or item.is_carried() and not site.items[item.number].is_carried():
                 site.items[item.number] = item

@@ -130,6 +130,8 @@ class Notes(NamedTuple):
     form: str
     # An address to write to, in place of forms, or an empty text.
     contact: str
+    # The shortcodes that a plugin of the program has, in small letters: these stay as they are.
+    tags: frozenset[str] = frozenset()
 
 
 def attributes_of(text: str) -> dict[str, str]:
@@ -240,6 +242,12 @@ class Addresses:
 
 def trimmed(path: str) -> str:
     return unquote(path).strip("/").lower()
+
+
+def named(attachment: Item) -> str:
+    """What a picture is called: its caption, its title or its file's name."""
+    text = re.sub(r"<[^<>]*>", "", attachment.excerpt).strip() or attachment.title.strip()
+    return unescape(text) or attachment.file.rpartition("/")[2]
 
 
 class Shown:
@@ -368,9 +376,12 @@ class Shown:
             inner = text[token.end() : closing.start()] if closing else ""
             shown = self.code(Code(name, token[3], given, inner, bool(token[1]), is_classic, depth))
             if shown is None:
-                if name not in CORE and looks_like_code(token, ends):
-                    self.note("shortcode", token[2])
-                continue
+                if name not in self.notes.tags:
+                    if name not in CORE and looks_like_code(token, ends):
+                        self.note("shortcode", token[2])
+                    continue
+                # (its quotes stay straight, since no plugin reads others)
+                shown, closing = self.hold(token[0]), None
             made += [text[at : token.start()], shown]
             at = closing.end() if closing else token.end()
         return "".join(made) + text[at:]
@@ -450,7 +461,9 @@ class Shown:
         for item in found if given.get("orderby") != "rand" else sorted(found, key=lambda it: it.number):
             picture = self.picture(item.number, size)
             if given.get("link") != "none":
-                picture = f'<a href="{quoted(self.address(item.file))}">{picture}</a>'
+                # A picture without a text of its own gives its link no name, which those who hear the page need.
+                name = f' aria-label="{escape(named(item))}"' if 'alt=""' in picture else ""
+                picture = f'<a href="{quoted(self.address(item.file))}"{name}>{picture}</a>'
             text = texturize(item.excerpt.strip(), self.quotes)
             caption = f'<figcaption class="wp-caption-text gallery-caption">{text}</figcaption>' if text else ""
             figures.append(f'<figure class="gallery-item"><div class="gallery-icon">{picture}</div>{caption}</figure>')

@@ -8,10 +8,10 @@ once over the tags and the texts between them, so its time grows with the length
 import re
 from typing import NamedTuple
 
-# A comment, a tag, or what looks like a shortcode: typography leaves them as they are. A tag ends at the first `>`,
-# also within quotes, as it does for WordPress.
+# A comment, a tag, or a shortcode that WordPress itself has: typography leaves them as they are. A tag ends at the
+# first `>`, also within quotes, as it does for WordPress.
 TAG = r"<!--.*?(?:-->|\Z)|</?[A-Za-z][^<>]*>"
-SHORTCODE = r"\[\[?/?[A-Za-z][\w-]*(?:\s[^\[\]<>]*=[^\[\]<>]*|\s*/)?\]\]?"
+SHORTCODE = r"\[\[?/?(?:audio|caption|embed|gallery|playlist|video|wp_caption)\b(?:\s[^\[\]<>]*)?/?\]\]?"
 OPAQUE = re.compile(rf"({TAG}|{SHORTCODE})", re.S)
 TAGS = re.compile(rf"({TAG})", re.S)
 NAME = re.compile(r"<(/?)([A-Za-z][A-Za-z0-9-]*)|\[\[?(/?)([A-Za-z][\w-]*)")

@@ -28,9 +28,12 @@ HERE = Path(__file__).resolve().parent
 ROOT = HERE.parent.parent
 EXAMPLES = ROOT / "examples"
 sys.path[:0] = [str(EXAMPLES), str(HERE.parent)]
+from access_checks import faults_of, faults_of_colours  # noqa: E402
 from archive_check import file_of  # noqa: E402
 from archive_html import harmless, shortened  # noqa: E402
+from archive_search import file_number, words_in  # noqa: E402
 from archive_words import formatted  # noqa: E402
+from browser_checks import browser, check_in_browser  # noqa: E402
 from page_lines import lines_of, outline_of  # noqa: E402
 from replies import Wrong  # noqa: E402
 from text_cases import by_wordpress, cases  # noqa: E402
@@ -48,7 +51,6 @@ HIDDEN = ("HIDDENWORD", "reader@mail.example", "192.0.2.7")
 DEPARTURES = {
     ("Your name", "The form that was here is closed."),
     ("Your name", "Le formulaire qui se trouvait ici est fermé."),
-    ("[unknown_thing a=”1″]Text within[/unknown_thing]", '[unknown_thing a="1"]Text within[/unknown_thing]'),
 }
 
 
@@ -237,13 +239,134 @@ def check_addresses(program: str, site: Recorded) -> None:
             must(is_there, f"{address} leads to {to or 'nothing'}, which isn't there")
 
 
-def check_access(name: str, page: str) -> None:
-    """A page says its language, has one heading of the first level, and a text in place of each picture."""
-    must(re.search(r'<html lang="[a-zA-Z-]+">', page), f"{name} has no language")
-    count = len(re.findall(r"<h1\b", page))
-    must(count == 1, f"{name} has {count} headings of the first level")
-    must(all(" alt=" in it for it in re.findall(r"<img\b[^<>]*>", page)), f"{name} has a picture without a text")
-    must(len(re.findall("<title>[^<]+</title>", page)) == 1, f"{name} has no title of its own")
+# Pages that are at fault, and words of what must be said of each; `{}` is what a good page has in its middle.
+GOOD_PAGE = (
+    '<html lang="en"><head><title>T</title></head><body><header><nav aria-label="A"></nav></header>'
+    '<main>{}</main><footer><nav aria-label="B"></nav></footer></body></html>'
+)
+FAULTY = [
+    ("<h1>a</h1><h2>b</h2>", ""),
+    ("<article><h1>a</h1><h4>the author's</h4></article><h2>b</h2>", ""),
+    ("<h1>a</h1><h3>b</h3>", "comes after h1"),
+    ("<h2>b</h2><h1>a</h1>", "comes after no heading"),
+    ("<h1>a</h1><h1>b</h1>", "2 headings of the first level"),
+    ("<h1></h1>", "without words"),
+    ("<h1>a</h1><img src=x>", "without alt"),
+    ("<h1>a</h1><a href=x><img alt=''></a>", "a a without a name"),
+    ("<h1>a</h1><a href=x><img alt='b'></a><label>c <input></label><label for=d>e</label><input id=d>", ""),
+    ("<h1>a</h1><input>", "without a label"),
+    ("<h1>a</h1><button> </button>", "a button without a name"),
+    ("<h1>a</h1><nav aria-label=A></nav>", "navigations named"),
+    ("<h1>a</h1><main></main>", "2 main"),
+    ("<h1>a</h1><p id=x></p><p id=x></p>", "of two elements"),
+]
+# Styles that are at fault, and words of what must be said of each.
+STYLE = "body {{ color: #222; background: #fff; }} a {{ color: #04b; }} {}"
+FAINT = [
+    ("", ""),
+    ("p { color: #777; }", "contrast of 4.48"),
+    ("p { color: #767676; }", ""),
+    (".x { background: #333; }", "a link in .x"),
+    (".x { background: #111; color: #fff; } .x a { color: inherit; } .x img { opacity: 0.5; }", ".x has a contrast"),
+]
+
+
+def check_access_itself() -> None:
+    """Pages and styles that are at fault are noticed, and good ones aren't."""
+    for middle, wanted in FAULTY:
+        said = "; ".join(faults_of(GOOD_PAGE.format(middle), "en"))
+        must(wanted in said and bool(said) == bool(wanted), f"{middle!r}: {said!r}")
+    must("its language" in "; ".join(faults_of(GOOD_PAGE.format("<h1>a</h1>"), "fr")), "a language isn't noticed")
+    for more, wanted in FAINT:
+        said = "; ".join(faults_of_colours(f"<style>{STYLE.format(more)}</style>"))
+        must(wanted in said and bool(said) == bool(wanted), f"{more!r}: {said!r}")
+
+
+def language_of(site: Recorded) -> str:
+    return re.search("<language>([^<]*)</language>", site.export.read_text(encoding="utf-8"))[1]
+
+
+def check_access(program: str, site: Recorded) -> None:
+    """Whoever hears an archive's pages, or sees little, finds their parts: headings, labels, texts for pictures."""
+    language = language_of(site)
+    with Archive(program, site) as archive:
+        archive.publish()
+        pages = {it: it.read_text(encoding="utf-8") for it in archive.root.rglob("*.html")}
+        must(len(pages) > 140, f"there are {len(pages)} pages")
+        for file, page in pages.items():
+            faults = faults_of(page, language)
+            must(not faults, f"{file.relative_to(archive.root)}: {'; '.join(faults)}")
+        faults = faults_of_colours(archive.page("/404.html"))
+        must(not faults, "; ".join(faults))
+
+
+def check_browser(program: str, site: Recorded) -> None:
+    """In a browser no page is too wide for a phone or a desk, and the search finds what has the words."""
+    with Archive(program, site) as archive:
+        archive.publish()
+        lists = ["/404.html", "/search/", "/page/2/", "/news/", "/news/page/2/", "/2016/", "/author/hannah/"]
+        lists += [f"/{it}/" for kind in ("category", "tag") for it in listed_below(archive.root, kind)]
+        paths = [it["path"] for it in site.posts] + [it for it in lists if file_of(archive.root, it)]
+        words = ("glaz", "FIRING glazes", "recette", "ÉTÉ", "ete", "zzz")
+        asked = {f"/search/?s={quote(it)}": found_by(archive, it) for it in words}
+        must(any(asked.values()) and not asked["/search/?s=zzz"], f"the index finds {asked}")
+        check_in_browser(archive.root, list(dict.fromkeys(paths)), asked)
+
+
+def listed_below(root: Path, kind: str) -> list[str]:
+    return [f"{kind}/{it.name}" for it in sorted((root / kind).iterdir()) if (it / "index.html").is_file()]
+
+
+def found_by(archive: Archive, text: str) -> set[int]:
+    """The posts that the index of the search has for some words, each of which begins a word of theirs."""
+    found = []
+    for word in words_in(text):
+        file = archive.root / "search" / f"words-{file_number(word)}.json"
+        known = json.loads(file.read_text(encoding="utf-8")) if file.is_file() else {}
+        found.append({number for it, numbers in known.items() if it.startswith(word) for number in numbers})
+    return set.intersection(*found)
+
+
+def check_search(program: str, site: Recorded) -> None:
+    """The search lists each post and page, and its index has the words of each; a page that has its name keeps it."""
+    with Archive(program, site) as archive:
+        archive.publish_and_check()
+        page = archive.page("/search/")
+        for post in site.posts:
+            number, words = post["id"], words_in(" ".join(post["lines"]))
+            entry = re.search(rf'<li id="post-{number}"><a href="([^"]*)"', page)
+            if not post["lines"][1:] and entry is None:
+                continue
+            must(entry and unquote(entry[1]) == post["path"], f"the search has {entry and entry[0]} of {post['path']}")
+            lacking = [it for it in words if number not in found_by(archive, it)]
+            must(len(lacking) <= 2, f"of {post['path']} the search doesn't know {lacking}")
+        form = '<form role="search" class="search" action="/search/">'
+        must(all(form in archive.page(it["path"]) for it in site.posts), "a page has no form that leads to the search")
+        must(moved_by(archive.root)["/", "s=:s"] == "/search/?s=:s", "the old address of the search isn't sent on")
+        head = {"cmd": "put", "kind": "page", "date": "2024-02-03 04:05:06", "content": "x"}
+        archive.edit({**head, "title": "Search"})
+        archive.publish_and_check()
+        here = [it for it in ("/search/", "/search-archive/") if 'id="search-list"' in archive.page(it)]
+        must(here == ["/search-archive/"], f"the search is at {here}, and a page is at /search/")
+        archive.edit({**head, "title": "Search archive"})
+        must("there is no search" in archive.publish(), "it isn't said that there is no search")
+        must("<form" not in archive.page("/search/"), "a form leads to no search")
+
+
+def check_sticky(program: str) -> None:
+    """Sticky posts come first on the first part of the list of all posts, with their dates, and keep their places."""
+    site, sticky = recorded("pottery"), "/2013/11/a-gallery-of-raku/"
+    with Archive(program, site) as archive:
+        archive.publish()
+        places = ("", "page/2/", "page/3/", "page/4/")
+        parts = [re.findall(r'<h2><a href="([^"]*)"', archive.page(f"/news/{it}")) for it in places]
+        must(parts[0][0] == sticky and len(parts[0]) == 11, f"the first part has {parts[0]}")
+        must(sum(it.count(sticky) for it in parts[1:]) == 1, f"the other parts have {parts[1:]}")
+        page = archive.page("/news/")
+        must('<time datetime="2013-11-15T10:15:00">November 15, 2013</time>' in page, "its date is another")
+        must("9999" not in page, "a date that was made up is shown")
+        lists = re.findall(r'<h2><a href="([^"]*)"', archive.page("/category/glazes-firing/"))
+        must(sticky not in lists[:1], "it comes first in another list too")
 
 
 def check_archive(program: str, site: Recorded) -> None:
@@ -251,10 +374,8 @@ def check_archive(program: str, site: Recorded) -> None:
     with Archive(program, site) as archive:
         archive.publish_and_check()
         for name, data in archive.files().items():
-            must(not any(it.encode() in data for it in HIDDEN), f"{name} has what nobody may see")
-        for name, data in archive.files().items():
-            if name.endswith(".html"):
-                check_access(name, data.decode())
+            # (the index of the search has small letters)
+            must(not any(it.lower().encode() in data.lower() for it in HIDDEN), f"{name} has what nobody may see")
         for post in site.posts:
             if not post["lines"][1:]:
                 continue
@@ -341,10 +462,14 @@ def check_arguments() -> None:
     text = json.dumps(commands)
     must('<a href=\\"mailto:a&amp;b@mail.example\\">a&amp;b@mail.example</a>' in text, "no form became an address")
     must(commands[0]["site"]["options"]["page_for_posts"] == "27", "the page of posts isn't the one that was named")
+    commands, report = imported(WHOLE / "pottery.xml", "--as-shown", "--plugin-tags", "show,Unknown_Thing")
+    must('[unknown_thing a=\\"1\\"]Text within[/unknown_thing]' in json.dumps(commands), "a plugin's tag is changed")
+    must("unknown_thing" not in report, "the report says that nobody has a plugin's tag")
     with tempfile.TemporaryDirectory() as folder:
         templates = Path(folder, "templates.json")
         templates.write_text('{"index":[{"site":"no_such_text"}]}', encoding="utf-8")
-        for words in (["--contact", "x"], ["--files", "x"], ["--as-shown", "--templates", str(templates)]):
+        unread = (["--plugin-tags", "x"], ["--as-shown", "--plugin-tags", "a, b"], ["--as-shown", "--plugin-tags", ""])
+        for words in (*unread, ["--contact", "x"], ["--files", "x"], ["--as-shown", "--templates", str(templates)]):
             ran = subprocess.run([EXAMPLES / "from_wordpress", *words, WHOLE / "pottery.xml"], capture_output=True)
             must((ran.returncode, ran.stdout) == (2, b""), f"{words} isn't refused: {ran.stderr[-200:]!r}")
 
@@ -360,7 +485,7 @@ def check_other_templates(program: str) -> None:
         archive.publish_and_check()
         page = archive.page("/category/pains-brioches/page/2/")
         for part in (
-            "<main>\n<h1>Catégorie: Pains &amp; brioches</h1>",
+            "<main>\n<h1>Catégorie\u00a0: Pains &amp; brioches</h1>",
             '<span aria-current="page">2</span>',
             "</time> par <a",
         ):
@@ -518,6 +643,9 @@ def check_served(program: str, site: Recorded) -> None:
                     must(status in (200, 301), f"{address} leads to {target or 'a page'} with {status}")
             must(asked(port, "/no/such/page/")[0] == 404, "what isn't there is found")
             must(asked(port, "/.htaccess")[0] == 404, "the file for Apache is served")
+            found = asked(port, "/?s=a%20b&x=1")
+            must((found[0], found[2]) == (301, "/search/?s=a%20b"), f"the old address of the search gives {found}")
+            must(asked(port, "/search/?s=a%20b")[0] == 200, "the search isn't served")
             must(asked(port, "/feed/")[:2] == (200, "text/xml; charset=utf-8"), f"the feed is {asked(port, '/feed/')}")
 
 
@@ -606,6 +734,8 @@ def checks(program: str, wordpress: Path | None) -> Iterator[tuple]:
     yield "the menu, the front and the pages", check_menu
     yield "options of --as-shown", check_arguments
     yield "templates without marks", check_other_templates, program
+    yield "sticky posts", check_sticky, program
+    yield "pages that are hard to use", check_access_itself
     yield "uploads from a folder and from archives", check_uploads, program
     yield "uploads fetched beside an import", check_fetch
     yield "uploads that can't be fetched", check_fetch_faults
@@ -618,5 +748,9 @@ def checks(program: str, wordpress: Path | None) -> Iterator[tuple]:
         yield f"{name}: pages of the archive", check_archive, program, site
         yield f"{name}: a second run, and edits", check_again, program, site
         yield f"{name}: new posts", check_new_posts, program, site
+        yield f"{name}: pages for everyone", check_access, program, site
+        yield f"{name}: the search", check_search, program, site
+        if browser():
+            yield f"{name}: in a browser", check_browser, program, site
         if shutil.which("nginx"):
             yield f"{name}: served by nginx", check_served, program, site

@@ -5,13 +5,17 @@ It is a module, and runs nothing by itself.
 
 import json
 import subprocess
+import sys
 import tempfile
 import threading
 from collections.abc import Iterator
 from http.server import BaseHTTPRequestHandler, ThreadingHTTPServer
 from pathlib import Path
 
-from archive_checks import EXAMPLES, SECONDS, must
+from archive_checks import EXAMPLES, HERE, SECONDS, must
+
+sys.path.insert(0, str(HERE.parent / "browse"))
+from browsing import Browse  # noqa: E402
 
 EDITS = (
     {"cmd": "put", "title": "Rye", "content": "a\nb", "date": "2024-04-02 06:00:00"},
@@ -171,7 +175,8 @@ def check_served(program: str) -> None:
         must("refused 3" in kept.run("post", *words, "set", "2", new, status=1), "a refusal isn't told")
         must(len(node.lines) == 3, f"the node has made {len(node.lines)} edits, wanted 3")
         must("--token-file" in kept.post_at(address, "set", "1", new, status=1), "without a token it asks the node")
-        must("--export" in kept.post_at(address, "list", status=1), "a node has no posts")
+        must("--token-file" in kept.post_at(address, "list", status=1), "without a token it asks the node for posts")
+        must("--export" in kept.run("post", *words, "list", status=1), "a node has no posts")
         token.write_text("other", encoding="ascii")
         must("401: the token" in kept.run("post", *words, "set", "1", new, status=1), "a wrong token isn't told")
         token.write_text("secret", encoding="ascii")
@@ -187,6 +192,60 @@ def check_served(program: str) -> None:
         must(kept.post_at(str(lines), "get", "1") == kept.post("get", "1"), "the lines of a site have another post")
         must("nothing edits" in kept.post_at(str(lines), "set", "1", new, status=1), "lines are edited")
         must(lines.read_bytes() == exported.stdout, "lines have changed")
+
+
+def check_browsed(program: str) -> None:
+    """A file that examples/browse serves is read and edited through it as the file is when nothing serves it."""
+    with Kept(program) as kept:
+        token, new = Path(kept.room.name, "token"), Path(kept.room.name, "new.db")
+        token.write_text("secret\n", encoding="ascii")
+        posts, post, versions = kept.post("list"), kept.post("get", "1"), kept.run("history", kept.database, "1")
+        with Browse(program, "--database", str(kept.database), "--token-file", token) as browse:
+            site = ["--token-file", token, f"http://127.0.0.1:{browse.port}/"]
+            must(kept.run("post", *site, "list") == posts, "through browse other posts are listed")
+            must(kept.run("post", *site, "get", "1") == post, "through browse the post is another")
+            must(kept.run("history", *site, "1") == versions, "through browse there are other versions")
+            said = kept.post("list", status=1)
+            must("in use; a site that is served is read and edited through" in said, f"of the file it says {said!r}")
+            edited = kept.file("title: Corn\n\ny\n")
+            must(kept.run("post", *site, "set", "1", edited) == "", "an edit says something")
+            must(b"<h2>Corn</h2>y" in browse.ask("/?p=1").body, "the page isn't the one after the edit")
+            new_post = kept.file("title: Oats\ndate: 2024-05-01 00:00:00\nstatus: draft\n\nz\n")
+            must(kept.run("post", *site, "new", new_post) == "3\n", "a new post has another ID")
+            must("3\tpost\tdraft\t2024-05-01 00:00:00\tOats\n" in kept.run("post", *site, "list"), "it isn't listed")
+            left = kept.run("undo", *site, new)
+            must(json.loads(left)["title"] == "Oats", f"what is left out is {left!r}")
+            check_browse_refuses(kept, site, browse)
+            whole = kept.run("post", *site, "list")
+        must(kept.post("list") == whole, "the file has other posts than what served it")
+        undone = kept.run("post", new, "list")
+        must("Corn" in undone and "Oats" not in undone, f"without the last edit there is {undone!r}")
+
+
+def check_browse_refuses(kept: Kept, site: list, browse: Browse) -> None:
+    """What isn't taken through examples/browse ends with a reason, and changes nothing."""
+    before, others = kept.run("post", *site, "list"), Path(kept.room.name, "other")
+    others.write_text("other", encoding="ascii")
+    head = "title: Rye\ndate: 2024-05-01 00:00:00\n\n"
+    for words, text, reason in (
+        ([*site, "set", "9"], head, "refused 3 NoSuchPost"),
+        ([*site, "set", "1"], "date: today\n\nz", "refused 5 BadDate"),
+        ([*site, "new"], head + "x" * 524_289, "refused 8 TooLarge"),
+        ([*site, "new"], head + "x" * (1 << 21), "400: line 1: it has"),
+        ([*site, "new"], head + "x" * (9 << 20), "413: the body has"),
+        (["--token-file", others, site[2], "new"], head, "401: the token"),
+        ([site[2], "new"], head, "--token-file"),
+    ):
+        said = kept.run("post", *words, kept.file(text), status=1)
+        must(reason in said and said.count("\n") == 1, f"{words[-1]}, {text[:20]!r}: {said!r}")
+    for script, words in (("post", ["list"]), ("history", ["1"]), ("undo", [f"{kept.room.name}/none.db"])):
+        said = kept.run(script, "--token-file", others, site[2], *words, status=1)
+        must("refuses with 401" in said, f"{script} with another token: {said!r}")
+    must("has had no post" in kept.run("history", *site, "7", status=1), "a post that never was has versions")
+    must("edits, and not 99" in kept.run("undo", *site, f"{kept.room.name}/none.db", "99", status=1), "99 are undone")
+    must(kept.run("post", *site, "list") == before, "what was refused has changed something")
+    nowhere = ["--token-file", others, "http://127.0.0.1:1/", "list"]
+    must("refused" in kept.run("post", *nowhere, status=1), "an address where nothing is has posts")
 
 
 def check_history(program: str) -> None:
@@ -223,6 +282,7 @@ def checks(program: str) -> Iterator[tuple]:
     """What each check shows, and the check with its arguments."""
     yield "posts as files", check_posts, program
     yield "posts that can't be set", check_faults, program
-    yield "posts of a site that is served", check_served, program
+    yield "posts of a site that a node serves", check_served, program
+    yield "posts of a site that examples/browse serves", check_browsed, program
     yield "versions of a post", check_history, program
     yield "edits taken back", check_undo, program

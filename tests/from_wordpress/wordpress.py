@@ -14,6 +14,7 @@ import http.client
 import json
 import os
 import shutil
+import signal
 import socket
 import subprocess
 import time
@@ -172,7 +173,7 @@ class WordPress:
         words = ["php", "-S", f"127.0.0.1:{port}", "router.php"]
         env = {**os.environ, "PHP_CLI_SERVER_WORKERS": "2"}
         with subprocess.Popen(
-            words, cwd=self.root, stdout=subprocess.DEVNULL, stderr=subprocess.DEVNULL, env=env
+            words, cwd=self.root, stdout=subprocess.DEVNULL, stderr=subprocess.DEVNULL, env=env, start_new_session=True
         ) as server:
             try:
                 for _ in range(100):
@@ -189,4 +190,5 @@ class WordPress:
                     yield path, reply.status, reply.getheader("Location") or ""
                     asked.close()
             finally:
-                server.terminate()
+                # Its workers don't end with it.
+                os.killpg(server.pid, signal.SIGTERM)

@@ -1,0 +1,146 @@
+"""The search of an archive: a page that lists every post and page, an index of words, and a script that joins them.
+
+It is a module, and runs nothing by itself. No server has a part in it, and nothing of another host: the script reads
+the few files of the index that have the words that were asked for, and hides what of the list hasn't all of them. A
+word is found by its beginning, in small or capital letters, with or without accents. Without JavaScript the list is
+shown whole.
+"""
+
+import json
+import re
+import tempfile
+import unicodedata
+from array import array
+from collections.abc import Iterator
+from html import escape, unescape
+from typing import IO
+
+from archive_files import Files
+from archive_plan import Plan
+from wordpress_addresses import as_link
+
+# The names that the page can have: WordPress has the first one for what it finds.
+NAMES = ("search", "search-archive")
+# How many files the index has: a word is in the one that its first two characters say.
+FILES = 64
+# The shortest word that is noted, and how many characters of a long one are.
+SHORTEST, LONGEST = 2, 40
+HIDDEN = re.compile(r"<(script|style)\b.*?</\1>|<!--.*?-->|<[^<>]*>?", re.S | re.I)
+LIST = "<!--archive:search-list-->"
+SCRIPT = """// Shows those posts of the list that have all the words of the address. words-N.json has the words
+// of whose first two characters N is made, each with the posts that it is in.
+"use strict";
+(async () => {
+  const here = document.currentScript.src, list = document.getElementById("search-list");
+  const said = document.getElementById("search-said");
+  const asked = new URLSearchParams(location.search).get("s") ?? "";
+  const plain = asked.toLowerCase().normalize("NFKD").replace(/\\p{M}/gu, "");
+  const words = (plain.match(/[\\p{L}\\p{N}]{2,}/gu) ?? []).map(it => [...it].slice(0, LONGEST).join(""));
+  for (const it of document.querySelectorAll("form[role=search] input[name=s]")) it.value = asked;
+  if (!words.length || !list) return;
+
+  async function postsWith(word) {
+    const [first, second] = [...word].map(it => it.codePointAt(0));
+    const reply = await fetch(new URL(`words-${(31 * first + second) % FILES}.json`, here));
+    const known = reply.ok ? await reply.json() : {};
+    return new Set(Object.keys(known).filter(it => it.startsWith(word)).flatMap(it => known[it]));
+  }
+  const sets = await Promise.all(words.map(postsWith));
+  let count = 0;
+  for (const item of list.children) {
+    const number = Number(item.id.slice("post-".length));
+    item.hidden = !sets.every(it => it.has(number));
+    count += !item.hidden;
+  }
+  said.textContent = said.dataset.found + count;
+})();
+"""
+
+
+def words_in(text: str) -> set[str]:
+    """The words of a text as the index has them. The script makes the same of what it is asked for."""
+    plain = unicodedata.normalize("NFKD", text.lower())
+    if not plain.isascii():
+        plain = "".join(it for it in plain if not unicodedata.category(it).startswith("M"))
+    return {it[:LONGEST] for it in re.findall(r"[^\W_]+", plain) if len(it) >= SHORTEST}
+
+
+def file_number(word: str) -> int:
+    """The file of the index that has a word."""
+    return (31 * ord(word[0]) + ord(word[1])) % FILES
+
+
+class Search:
+    """The search of a plan. The index lies in temporary files until it is written, so memory doesn't grow with it."""
+
+    def __init__(self, plan: Plan, files: Files) -> None:
+        self.plan, self.files = plan, files
+        home, taken = plan.places.home, plan.taken
+        paths = (plan.places.ended(f"{home}{it}") for it in NAMES)
+        # Where the page is, or an empty text if other pages have both its names.
+        self.path = next((it for it in paths if it not in taken and it.rstrip("/") not in taken), "")
+        self.folder = f"{self.path.rstrip('/')}/"
+        self.notes: dict[int, IO[bytes]] = {}
+
+    def form(self) -> str:
+        """The form that leads to the search, for each page."""
+        if not self.path:
+            return ""
+        word = escape(self.plan.words["search"])
+        return (
+            f'<form role="search" class="search" action="{escape(as_link(self.path))}">\n<label><span class="unseen">'
+            f'{word}</span> <input type="search" name="s"></label>\n<button>{word}</button>\n</form>\n'
+        )
+
+    def take(self, number: int, content: str) -> None:
+        """Notes the words of a post, or of a part of one."""
+        text = unescape(HIDDEN.sub(" ", content))
+        for word in words_in(f"{self.plan.plain_title(number)} {text}") if self.path else ():
+            at = file_number(word)
+            if at not in self.notes:
+                self.notes[at] = tempfile.TemporaryFile()
+            self.notes[at].write(f"{word}\t{number}\n".encode())
+
+    def list(self) -> str:
+        """Every post and page, the newest first."""
+        plan, words = self.plan, self.plan.words
+        pages = (it for it in plan.paths if it not in plan.place)
+        items = "".join(
+            f'<li id="post-{it}">{self.entry(it)}</li>\n'
+            for it in (*plan.order[::-1], *pages)
+            if it in plan.paths and it != plan.posts_page
+        )
+        found, everything = escape(words["found"] + words["colon"]), escape(words["everything"])
+        said = f'<p id="search-said" role="status" data-found="{found}">{everything}</p>'
+        script = f'<script defer src="{escape(as_link(self.folder))}search.js"></script>'
+        return f'{said}\n<ul id="search-list">\n{items}</ul>\n{script}\n'
+
+    def entry(self, number: int) -> str:
+        plan, title = self.plan, escape(self.plan.plain_title(number), quote=False)
+        date = f" <small>{plan.day(plan.store.posts[number].date)}</small>" if number in plan.place else ""
+        return f'<a href="{escape(as_link(plan.paths[number]))}">{title}</a>{date}'
+
+    def write_index(self) -> None:
+        """Writes the script and the words."""
+        if not self.path:
+            return
+        script = SCRIPT.replace("FILES", str(FILES)).replace("LONGEST", str(LONGEST))
+        self.files.write(f"{self.folder}search.js", script)
+        for at, file in sorted(self.notes.items()):
+            known: dict[str, array] = {}
+            for word, number in noted(file):
+                numbers = known.setdefault(word, array("q"))
+                # The parts of a post follow each other.
+                if not numbers or numbers[-1] != number:
+                    numbers.append(number)
+            text = ",\n".join(f"{json.dumps(it)}:[{','.join(map(str, known[it]))}]" for it in sorted(known))
+            self.files.write(f"{self.folder}words-{at}.json", f"{{{text}}}\n")
+            file.close()
+        self.notes.clear()
+
+
+def noted(file: IO[bytes]) -> Iterator[tuple[str, int]]:
+    file.seek(0)
+    for line in file:
+        word, _, number = line.decode().partition("\t")
+        yield word, int(number)
