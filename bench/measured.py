@@ -17,6 +17,9 @@ from pathlib import Path
 
 from exchanges import CHANGE
 
+sys.path.append(str(Path(__file__).resolve().parents[1] / "tools"))
+from quiet import quiet_output  # noqa: E402, F401
+
 CRATES = Path(__file__).resolve().parents[1] / "crates"
 SITE = CRATES / "site" / "out" / "site"
 PASSES = CRATES / "test_bench" / "out" / "test_bench"
