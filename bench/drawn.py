@@ -35,15 +35,18 @@ def number(value):
 
 
 class Axis:
-    """A logarithmic axis between two places of the picture, over whole powers of ten."""
+    """A logarithmic axis between two places of the picture, over whole powers of ten.
+
+    A difference of two times may come out at 0 or below on a busy machine; it is drawn at the axis's begin."""
 
     def __init__(self, values, begin, end):
-        self.low = math.floor(math.log10(min(values)))
-        self.high = max(math.ceil(math.log10(max(values))), self.low + 1)
+        drawn = [it for it in values if it > 0] or [1]
+        self.low = math.floor(math.log10(min(drawn)))
+        self.high = max(math.ceil(math.log10(max(drawn))), self.low + 1)
         self.begin, self.end = begin, end
 
     def place(self, value):
-        return self.begin + (math.log10(value) - self.low) / (self.high - self.low) * (self.end - self.begin)
+        return self.begin + (math.log10(max(value, 10.0**self.low)) - self.low) / (self.high - self.low) * (self.end - self.begin)
 
     def ticks(self):
         """The powers of ten, at most about eight, and twice and five times each if they are few."""
