@@ -9,7 +9,9 @@ from pathlib import Path
 from typing import NamedTuple
 from urllib.parse import parse_qsl, unquote, urljoin, urlsplit
 
+from archive_files import files_below
 from archive_html import attributes_of_tag, tag_name
+from disk_tables import Disk, DiskDict, DiskSet
 from wordpress_texts import TAGS
 
 SOURCES = {
@@ -34,12 +36,22 @@ class Dead(NamedTuple):
     first: str
 
 
-class Found(NamedTuple):
+class Found:
     """What following all links came to."""
 
-    pages: int
-    links: int
-    dead: list[Dead]
+    def __init__(self, disk: Disk) -> None:
+        self.pages = self.links = 0
+        # The addresses that lead nowhere, in their order, and of each how many pages have it and the first of them.
+        self.addresses: DiskSet[str] = DiskSet(disk)
+        self.where: DiskDict[str, tuple[int, str]] = DiskDict(disk)
+
+    def take_dead(self, address: str, page: str) -> None:
+        pages, first = self.where.get(address, (0, page))
+        self.addresses.add(address)
+        self.where[address] = pages + 1, first
+
+    def dead(self) -> Iterator[Dead]:
+        return (Dead(it, *self.where[it]) for it in self.addresses)
 
 
 def links_of(page: str) -> Iterator[str]:
@@ -67,25 +79,24 @@ def file_of(root: Path, path: str) -> Path | None:
     return None
 
 
-def check(root: Path, host: str, moved: Callable[[str, dict[str, str]], str]) -> Found:
+def check(root: Path, host: str, moved: Callable[[str, dict[str, str]], str], disk: Disk) -> Found:
     """Follows the links of each page below a folder, but for those to other hosts."""
-    pages = sorted(it for it in root.rglob("*") if it.is_file() and it.suffix in (".html", ".htm"))
-    known: dict[str, bool] = {}
-    dead: dict[str, list[str]] = {}
-    count = 0
-    for file in pages:
-        here = "/" + re.sub(r"index\.html\Z", "", file.relative_to(root).as_posix())
-        for address in dict.fromkeys(links_of(file.read_text(encoding="utf-8"))):
+    found = Found(disk)
+    known: DiskDict[str, bool] = DiskDict(disk)
+    for name in (it for it in files_below(root, disk) if Path(it).suffix in (".html", ".htm")):
+        here = "/" + re.sub(r"index\.html\Z", "", name)
+        found.pages += 1
+        for address in dict.fromkeys(links_of((root / name).read_text(encoding="utf-8"))):
             parts = urlsplit(urljoin(f"http://{host}{here}", address))
             if parts.scheme not in ("http", "https") or parts.netloc.removeprefix("www.") != host:
                 continue
-            count += 1
+            found.links += 1
             target = parts.path + (f"?{parts.query}" if parts.query else "")
             if target not in known:
                 known[target] = leads(root, parts.path or "/", parts.query, moved)
             if not known[target]:
-                dead.setdefault(target, []).append(here)
-    return Found(len(pages), count, [Dead(it, len(where), where[0]) for it, where in sorted(dead.items())])
+                found.take_dead(target, here)
+    return found
 
 
 def leads(root: Path, path: str, query: str, moved: Callable[[str, dict[str, str]], str]) -> bool:

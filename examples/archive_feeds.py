@@ -4,16 +4,21 @@ It is a module, and runs nothing by itself. Feeds are of RSS 2.0, as https://www
 it.
 """
 
+from collections.abc import Iterator
 from datetime import datetime, timezone
 from email.utils import format_datetime
+from heapq import nlargest
 from html import escape, unescape
+from itertools import chain, islice
 import re
 
 from archive_files import Files
 from archive_html import text_of
 from archive_pages import DESCRIPTION
-from archive_plan import Listing, Plan
+from archive_plan import Plan
+from disk_tables import DiskDict
 from wordpress_addresses import as_link
+from wordpress_items import Comment
 
 ITEMS = 10
 # The limit of the sitemap protocol.
@@ -35,12 +40,14 @@ class Feeds:
         self.plan, self.files = plan, files
         self.count = 0
 
-    def write(self, lists: list[Listing]) -> None:
-        home = self.plan.places.home
-        self.write_feed(home, unescape(self.plan.name), [self.post(it) for it in self.plan.order[: -ITEMS - 1 : -1]])
-        for it in lists:
-            title = unescape(re.sub(r"<[^<>]*>", "", it.heading))
-            self.write_feed(it.path, f"{title} – {unescape(self.plan.name)}", [self.post(n) for n in it.posts[:ITEMS]])
+    def write(self) -> None:
+        plan, home = self.plan, self.plan.places.home
+        self.write_feed(home, unescape(plan.name), [self.post(it) for it in plan.order.newest(0, ITEMS)])
+        for it in plan.lists:
+            if it.has_feed:
+                title = unescape(re.sub(r"<[^<>]*>", "", it.heading))
+                posts = [self.post(number) for number in plan.posts_of(it, 0, ITEMS)]
+                self.write_feed(it.path, f"{title} – {unescape(plan.name)}", posts)
         self.write_comments(home)
 
     def write_feed(self, path: str, title: str, items: list[str]) -> None:
@@ -75,17 +82,14 @@ class Feeds:
 
     def write_comments(self, home: str) -> None:
         """The newest comments of the whole site."""
-        plan, found = self.plan, []
-        for number in plan.paths:
-            item = plan.item(number)
-            found += [(it.date, it.number, it, number) for it in (item.comments if item else ())]
-        items = []
-        for date, _, comment, number in sorted(found, key=lambda it: it[:2], reverse=True)[:ITEMS]:
+        plan, items = self.plan, []
+        found: Iterator[tuple[Comment, int]] = ((it, number) for number in plan.paths for it in plan.comments(number))
+        for comment, number in nlargest(ITEMS, found, key=lambda it: (it[0].date, it[0].number)):
             address = f"{plan.base}{as_link(plan.paths[number])}#comment-{comment.number}"
             title = f"{plan.words['comments_on']} {plan.plain_title(number)}: {comment.author}"
             items.append(
                 f"<item><title>{xml(title)}</title><link>{xml(address)}</link><guid>{xml(address)}</guid>"
-                f"<pubDate>{moment(date)}</pubDate>"
+                f"<pubDate>{moment(comment.date)}</pubDate>"
                 f"<description>{xml(text_of(comment.text, 2 * DESCRIPTION))}</description></item>\n"
             )
         path = f"{home}comments" + ("/" if plan.places.has_slash else "")
@@ -97,22 +101,23 @@ def xml(text: str) -> str:
     return escape(re.sub(r"[\x00-\x08\x0b\x0c\x0e-\x1f\ufffe\uffff]", " ", text))
 
 
-def write_sitemap(plan: Plan, files: Files, listed: list[tuple[str, str]]) -> None:
+def write_sitemap(plan: Plan, files: Files, listed: DiskDict[str, str]) -> None:
     """Writes sitemap.xml, in several files if one would be too long, and robots.txt."""
     home = plan.places.home
     namespace = 'xmlns="http://www.sitemaps.org/schemas/sitemap/0.9"'
     head = '<?xml version="1.0" encoding="UTF-8"?>\n'
-    pieces = [listed[at : at + SITEMAP_URLS] for at in range(0, len(listed), SITEMAP_URLS)] or [[]]
-    names = []
-    for number, piece in enumerate(pieces, 1):
-        urls = "".join(
-            f"<url><loc>{xml(plan.base + as_link(path))}</loc>"
-            f"{f'<lastmod>{date}</lastmod>' if date else ''}</url>\n"
-            for path, date in piece
-        )
-        name = f"{home}sitemap{f'-{number}' if len(pieces) > 1 else ''}.xml"
-        files.write(name, f"{head}<urlset {namespace}>\n{urls}</urlset>\n")
-        names.append(name)
+    urls = (
+        f"<url><loc>{xml(plan.base + as_link(path))}</loc>{f'<lastmod>{date}</lastmod>' if date else ''}</url>\n"
+        for path, date in listed.items()
+    )
+    count = max(1, -(-len(listed) // SITEMAP_URLS))
+    names = [f"{home}sitemap{f'-{it}' if count > 1 else ''}.xml" for it in range(1, count + 1)]
+    for name in names:
+        piece = islice(urls, SITEMAP_URLS)
+        files.write(name, chain([f"{head}<urlset {namespace}>\n"], piece, ["</urlset>\n"]))
+        # (what a file that couldn't be written would have had isn't in the next one)
+        for _ in piece:
+            pass
     if len(names) > 1:
         maps = "".join(f"<sitemap><loc>{xml(plan.base + it)}</loc></sitemap>\n" for it in names)
         files.write(f"{home}sitemap.xml", f"{head}<sitemapindex {namespace}>\n{maps}</sitemapindex>\n")

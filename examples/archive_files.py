@@ -5,15 +5,18 @@ It is a module, and runs nothing by itself. An archive's folder has `public`, wh
 """
 
 import contextlib
+import io
 import os
 import re
 import shutil
 import tarfile
+import tempfile
 import zipfile
-from collections.abc import Iterable
+from collections.abc import Container, Iterable, Iterator
 from pathlib import Path, PurePosixPath
 from typing import IO
 
+from disk_tables import Disk, DiskDict, DiskSet
 from wordpress_addresses import UPLOADS, path_or_none
 from wordpress_export import Refused
 
@@ -22,7 +25,9 @@ PUBLIC, WRITTEN = "public", "written.txt"
 UNSERVED = re.compile(r"\.(?:php\d?|phtml|phar|cgi|pl|py|sh|asp|jsp|sql|log|bak|htaccess|ini|env)\Z|(?:^|/)\.", re.I)
 # What WordPress adds to the name of a picture that it has made smaller, turned or edited.
 SIZE = re.compile(r"(?:-\d+x\d+|-scaled|-rotated|-e\d{10,})*(\.[^./]*)\Z")
-COPY_BYTES = 1 << 20
+COPY_BYTES = 1 << 16
+# A character that comes before those of names: paths that have it between their names are in the order of these.
+BETWEEN = "\x01"
 # How many paths a report names.
 NAMED = 5
 # How an archive that is damaged or encrypted, or of an unknown form, is refused by Python's modules.
@@ -33,6 +38,28 @@ with contextlib.suppress(ImportError):
     import zlib
 
     BROKEN += (lzma.LZMAError, zlib.error)
+
+
+class Noted:
+    """Some paths in words: the first ones, and how many more there are."""
+
+    def __init__(self, paths: Iterable[str] = ()) -> None:
+        self.first: list[str] = []
+        self.count = 0
+        for it in paths:
+            self.add(it)
+
+    def add(self, path: str) -> None:
+        self.count += 1
+        if self.count <= NAMED:
+            self.first.append(path)
+
+    def __len__(self) -> int:
+        return self.count
+
+    def __str__(self) -> str:
+        more = f" and {self.count - NAMED:,} more" if self.count > NAMED else ""
+        return ", ".join(self.first) + more
 
 
 class Copies:
@@ -49,22 +76,21 @@ class Copies:
 class Files(Copies):
     """The folder `public` of an archive, and which of its files this run has written or found as they should be."""
 
-    def __init__(self, folder: Path) -> None:
+    def __init__(self, folder: Path, disk: Disk) -> None:
         super().__init__(folder / PUBLIC)
         self.folder = folder
-        self.current: set[str] = set()
+        self.current: DiskSet[str] = DiskSet(disk)
         # Paths that couldn't be written, and why.
-        self.refused: dict[str, str] = {}
+        self.refused: DiskDict[str, str] = DiskDict(disk)
         self.removed = 0
         self.root.mkdir(parents=True, exist_ok=True)
-        self.before = self.read_list()
+        self.before: DiskSet[str] = DiskSet(disk, self.read_list())
 
-    def read_list(self) -> set[str]:
-        try:
-            listed = (self.folder / WRITTEN).read_text(encoding="utf-8").splitlines()
-        except FileNotFoundError:
-            return set()
-        return {it for it in listed if it == ".htaccess" or path_or_none("/" + it) == "/" + it}
+    def read_list(self) -> Iterator[str]:
+        """The files that an earlier run has written."""
+        with contextlib.suppress(FileNotFoundError), (self.folder / WRITTEN).open(encoding="utf-8") as listed:
+            for line in listed:
+                yield from (it for it in line.splitlines() if it == ".htaccess" or path_or_none("/" + it) == "/" + it)
 
     def name_of(self, path: str, index: str, is_folder: bool) -> str:
         """The file for a path: a folder's index, unless the path itself has an ending and nothing is below it."""
@@ -72,8 +98,11 @@ class Files(Copies):
         has_ending = not is_folder and not path.endswith("/") and re.search(r"\.[A-Za-z0-9]{1,5}\Z", name)
         return name if has_ending else f"{name}/{index}".lstrip("/")
 
-    def write(self, path: str, text: str | bytes, index: str = "index.html", is_folder: bool = False) -> bool:
-        """Writes the file of a path, and returns whether it could be: nothing is written twice in one run."""
+    def write(
+        self, path: str, text: str | bytes | Iterable[str], index: str = "index.html", is_folder: bool = False
+    ) -> bool:
+        """Writes the file of a path, whole or of pieces, and returns whether it could be: nothing is written twice in
+        one run."""
         if path_or_none(path) is None:
             self.refused[path] = "no file can have this name"
             return False
@@ -81,38 +110,39 @@ class Files(Copies):
         if name in self.current:
             self.refused[path] = "another page has this address"
             return False
-        data = text if isinstance(text, bytes) else text.encode()
         file = self.root / name
-        try:
-            if (
-                not file.is_symlink()
-                and file.is_file()
-                and file.stat().st_size == len(data)
-                and file.read_bytes() == data
-            ):
-                self.unchanged += 1
-            else:
-                self.put(file, data)
-                self.written += 1
-        except (NotADirectoryError, IsADirectoryError, FileExistsError):
-            self.refused[path] = "its file would be a folder of another page, or the other way around"
-            return False
+        with made_of(text) as data:
+            try:
+                size = data.seek(0, io.SEEK_END)
+                data.seek(0)
+                is_there = not file.is_symlink() and file.is_file() and file.stat().st_size == size
+                if is_there and same_bytes(file, data):
+                    self.unchanged += 1
+                else:
+                    self.put(file, data)
+                    self.written += 1
+            except (NotADirectoryError, IsADirectoryError, FileExistsError):
+                self.refused[path] = "its file would be a folder of another page, or the other way around"
+                return False
         self.current.add(name)
         return True
 
-    def add(self, name: str, text: str) -> None:
-        """Writes a file that is no page, such as one for a web server."""
-        self.put(self.root / name, text.encode())
+    def add(self, name: str, text: Iterable[str]) -> None:
+        """Writes a file of pieces that is no page, such as one for a web server."""
+        with made_of(text) as data:
+            self.put(self.root / name, data)
         self.current.add(name)
 
     @staticmethod
-    def put(file: Path, data: bytes) -> None:
+    def put(file: Path, data: IO[bytes]) -> None:
         """Puts a file in place at once, so that a server never sees half of it."""
         file.parent.mkdir(parents=True, exist_ok=True)
         if file.is_dir():
             raise IsADirectoryError(file)
         new = file.with_name(f".new-{os.getpid()}")
-        new.write_bytes(data)
+        data.seek(0)
+        with new.open("wb") as to:
+            shutil.copyfileobj(data, to, COPY_BYTES)
         os.replace(new, file)
 
     def keep(self, name: str) -> None:
@@ -121,7 +151,7 @@ class Files(Copies):
 
     def end(self) -> None:
         """Removes what an earlier run has written and this one hasn't, and writes the list."""
-        for name in sorted(self.before - self.current):
+        for name in self.before.without(self.current):
             file = self.root / name
             if file.is_file() and not file.is_symlink():
                 file.unlink()
@@ -131,37 +161,63 @@ class Files(Copies):
                     (self.root / above).rmdir()
                 except OSError:
                     break
-        listed = "".join(f"{it}\n" for it in sorted(self.current))
-        (self.folder / WRITTEN).write_text(listed, encoding="utf-8")
+        with (self.folder / WRITTEN).open("w", encoding="utf-8") as listed:
+            listed.writelines(f"{it}\n" for it in self.current)
+
+
+def names_below(folder: str, above: str = "") -> Iterator[str]:
+    """The paths of the files below a folder, from there, with a character of its own between names."""
+    with contextlib.suppress(PermissionError), os.scandir(folder) as entries:
+        for it in entries:
+            if BETWEEN in it.name:
+                continue
+            if it.is_dir(follow_symlinks=False):
+                yield from names_below(it.path, above + it.name + BETWEEN)
+            elif it.is_file(follow_symlinks=False) or os.path.isfile(it.path):
+                yield above + it.name
+
+
+def files_below(folder: Path, disk: Disk) -> Iterator[str]:
+    """The paths of the files below a folder, from there, in the order of their names, without all of them in memory."""
+    # (a name that isn't UTF-8 is no text in a database)
+    found: DiskSet[bytes] = DiskSet(disk, map(os.fsencode, names_below(str(folder))))
+    return (os.fsdecode(it).replace(BETWEEN, "/") for it in found)
 
 
 class Uploads:
     """Where the files below wp-content/uploads come from: a folder or an archive of it."""
 
-    def __init__(self, source: Path) -> None:
+    def __init__(self, source: Path, disk: Disk) -> None:
         self.source = source
         self.zip: zipfile.ZipFile | None = None
         self.tar: tarfile.TarFile | None = None
         # The names that the source has, by the path below the uploads folder.
-        self.names: dict[str, str] = {}
+        self.names: DiskDict[str, str] = DiskDict(disk)
+        # The names of a file's sizes, by the name without a size.
+        self.stems: DiskDict[str, list[str]] = DiskDict(disk)
         if source.is_dir():
-            self.names = {
-                it.relative_to(source).as_posix(): str(it) for it in sorted(source.rglob("*")) if it.is_file()
-            }
+            self.take((it, str(source / it)) for it in files_below(source, disk))
         elif zipfile.is_zipfile(source):
             self.zip = zipfile.ZipFile(source)
-            self.names = {it.filename: it.filename for it in self.zip.infolist() if not it.is_dir()}
+            self.take((it.filename, it.filename) for it in self.zip.infolist() if not it.is_dir())
         else:
             try:
                 self.tar = tarfile.open(source)
             except BROKEN:
                 raise Refused(f"{source}: this is no folder, and no zip or tar archive") from None
-            self.names = {it.name.removeprefix("./"): it.name for it in self.tar.getmembers() if it.isfile()}
-        self.names = {below_uploads(name): it for name, it in self.names.items()}
-        # The names of a file's sizes, by the name without a size.
-        self.stems: dict[str, list[str]] = {}
-        for name in self.names:
-            self.stems.setdefault(SIZE.sub(r"\1", name), []).append(name)
+            self.take((it.name.removeprefix("./"), it.name) for it in self.tar.getmembers() if it.isfile())
+
+    def take(self, names: Iterable[tuple[str, str]]) -> None:
+        """Takes the names of the source, each with what it is opened by."""
+        for name, to_open in names:
+            name = below_uploads(name)
+            # (what can't be a file of an archive is in no page)
+            if path_or_none(f"/{name}") is None:
+                continue
+            if name not in self.names:
+                stem = SIZE.sub(r"\1", name)
+                self.stems[stem] = [*self.stems.get(stem, []), name]
+            self.names[name] = to_open
 
     def open(self, name: str) -> IO[bytes]:
         """A file of the source, to be read."""
@@ -206,29 +262,30 @@ class Uploads:
                 it.close()
 
 
-def copy_uploads(source: Path, files: Copies, paths: Iterable[str], whole: Iterable[str] = ()) -> list[str]:
-    """Copies the uploads at some paths from a folder or an archive, and those at others with all their sizes. Returns
-    the paths of those that aren't there."""
-    with_sizes = set(whole)
-    uploads, missing = Uploads(source), []
+def copy_uploads(source: Path, files: Copies, paths: Iterable[str], whole: Container[str] = ()) -> Iterator[str]:
+    """Copies the uploads at some paths from a folder or an archive, those among `whole` with all their sizes, and
+    yields the paths of those that aren't there."""
+    uploads = Uploads(source, Disk())
     try:
-        for path in sorted({*paths, *with_sizes}):
+        for path in paths:
             before, _, name = path.partition(UPLOADS)
-            names = [name, *(it for it in uploads.sizes_of(name) if path in with_sizes and it != name)]
+            names = [name, *(it for it in uploads.sizes_of(name) if path in whole and it != name)]
             copied = [uploads.copy(it, files, f"{before}{UPLOADS}{it}") for it in names]
             if not copied[0]:
-                missing.append(path)
+                yield path
     except BROKEN as fault:
         raise Refused(f"{source}: {path}: this can't be read: {fault}") from fault
     finally:
         uploads.close()
-    return missing
 
 
-def named(paths: list[str]) -> str:
-    """Some paths in words: the first ones, and how many more there are."""
-    more = f" and {len(paths) - NAMED:,} more" if len(paths) > NAMED else ""
-    return ", ".join(paths[:NAMED]) + more
+def made_of(text: str | bytes | Iterable[str]) -> IO[bytes]:
+    """A text as a file to be read: one of pieces, which can be long, isn't in memory."""
+    if isinstance(text, (str, bytes)):
+        return io.BytesIO(text if isinstance(text, bytes) else text.encode())
+    data = tempfile.TemporaryFile()
+    data.writelines(it.encode() for it in text)
+    return data
 
 
 def below_uploads(name: str) -> str:

@@ -9,7 +9,8 @@ from pathlib import Path
 from urllib.parse import unquote, urlsplit
 
 from archive_files import PUBLIC, Files
-from archive_plan import Listing, Plan
+from archive_plan import Plan
+from disk_tables import DiskDict
 from wordpress_addresses import as_link, path_or_none
 from wordpress_items import Item
 
@@ -25,25 +26,25 @@ LINE = 2_000
 class Moved:
     """The moved addresses of an archive: by path, and by a parameter of the query and its value."""
 
-    def __init__(self, plan: Plan, lists: list[Listing], search: str = "") -> None:
+    def __init__(self, plan: Plan, search: str = "") -> None:
         self.plan = plan
         # The path of the search, to which `/?s=WORDS` leads.
         self.search = as_link(search)
-        self.paths: dict[str, str] = {}
-        self.numbers: dict[str, str] = {}
-        self.lists: dict[tuple[str, str], str] = {}
-        self.taken = plan.taken | {it.path for it in lists}
+        self.paths: DiskDict[str, str] = DiskDict(plan.store.disk)
+        self.numbers: DiskDict[str, str] = DiskDict(plan.store.disk)
+        # By the parameter and the value, such as m=202405.
+        self.lists: DiskDict[str, str] = DiskDict(plan.store.disk)
         for number, path in plan.paths.items():
             self.numbers[str(number)] = as_link(path)
             self.take_old_names(plan.item(number), path)
         for item in filter(plan.is_open, plan.site.of_kind("attachment")):
             self.take_attachment(item)
         self.take_front()
-        self.take_lists(lists)
-        self.take_feeds(lists)
+        self.take_lists()
+        self.take_feeds()
 
     def move(self, path: str, to: str) -> None:
-        if path not in self.taken and path_or_none(path) == path and len(path) + len(to) < LINE:
+        if path_or_none(path) == path and len(path) + len(to) < LINE and not self.plan.is_used(path):
             self.paths.setdefault(path, to)
 
     def take_old_names(self, item: Item | None, path: str) -> None:
@@ -75,35 +76,34 @@ class Moved:
         if path:
             self.move(path, file)
 
-    def take_lists(self, lists: list[Listing]) -> None:
+    def take_lists(self) -> None:
         """Plain permalinks of terms, authors and months lead to their lists."""
         plan, site = self.plan, self.plan.site
-        paths = {it.path for it in lists}
         for term in site.terms.values():
             path = plan.places.term(term)
-            if path in paths and term.domain == "category" and term.number:
-                self.lists["cat", str(term.number)] = as_link(path)
-            elif path in paths and term.domain == "post_tag":
-                self.lists["tag", unquote(term.slug)] = as_link(path)
+            if term.domain == "category" and term.number and plan.has_list(path):
+                self.lists[f"cat={term.number}"] = as_link(path)
+            elif term.domain == "post_tag" and plan.has_list(path):
+                self.lists[f"tag={unquote(term.slug)}"] = as_link(path)
         for login, number in site.author_numbers.items():
-            if number and plan.places.author(login) in paths:
-                self.lists["author", str(number)] = as_link(plan.places.author(login))
-        for it in lists:
+            if number and plan.has_list(plan.places.author(login)):
+                self.lists[f"author={number}"] = as_link(plan.places.author(login))
+        for it in plan.lists:
             if it.kind == "month":
                 year, month = it.path.rstrip("/").split("/")[-2:]
-                self.lists["m", year + month] = as_link(it.path)
+                self.lists[f"m={year}{month}"] = as_link(it.path)
 
-    def take_feeds(self, lists: list[Listing]) -> None:
+    def take_feeds(self) -> None:
         """Other forms of the feeds' addresses lead to these."""
         plan = self.plan
         home = plan.places.feed(plan.places.home)
         comments = plan.places.feed(f"{plan.places.home}comments/")
-        for feed in (home, comments, *(plan.places.feed(it.path) for it in lists if it.has_feed)):
+        for feed in (home, comments, *(plan.places.feed(it.path) for it in plan.lists if it.has_feed)):
             for form in FEED_FORMS:
                 self.move(f"{feed.rstrip('/')}/{form}" + ("/" if feed.endswith("/") else ""), as_link(feed))
         for form in ("rss", "rss2", "rdf", "atom", "feed"):
-            self.lists["feed", form] = as_link(home)
-        self.lists["feed", "comments-rss2"] = as_link(comments)
+            self.lists[f"feed={form}"] = as_link(home)
+        self.lists["feed=comments-rss2"] = as_link(comments)
         self.move(f"{plan.places.home}wp-sitemap.xml", f"{plan.places.home}sitemap.xml")
         self.move(f"{plan.places.home}index.php", plan.places.home)
 
@@ -114,17 +114,23 @@ class Moved:
         """Each parameter and value that leads somewhere."""
         for value, to in self.numbers.items():
             yield from ((name, value, to) for name in NUMBERS)
-        yield from ((name, value, to) for (name, value), to in self.lists.items())
+        for key, to in self.lists.items():
+            name, _, value = key.partition("=")
+            yield name, value, to
+
+    def values_of(self, name: str) -> Iterator[tuple[str, str]]:
+        """The values of one parameter that lead somewhere, and where."""
+        if name in NUMBERS:
+            return self.numbers.items()
+        begin = f"{name}="
+        return ((it.removeprefix(begin), to) for it, to in self.lists.items() if it.startswith(begin))
 
     def target(self, path: str, query: dict[str, str]) -> str:
         """Where an address leads, or an empty text if it isn't moved."""
         if path in (self.plan.places.home, f"{self.plan.places.home}index.php"):
             for name in (*NUMBERS, *LISTS):
-                found = (
-                    self.numbers.get(query.get(name, ""))
-                    if name in NUMBERS
-                    else self.lists.get((name, query.get(name, "")))
-                )
+                value = query.get(name, "")
+                found = self.numbers.get(value) if name in NUMBERS else self.lists.get(f"{name}={value}")
                 if found:
                     return found
             if self.search and "s" in query:
@@ -132,20 +138,14 @@ class Moved:
         return self.paths.get(path, "")
 
 
-NGINX = """# Serves the archive. Include it within `http {{ .. }}`, and set the port, the name and the certificates.
+NGINX_HEAD = """# Serves the archive. Include it within `http { .. }`, and set the port, the name and the certificates.
 
 map_hash_max_size 1048576;
 map_hash_bucket_size 4096;
 types_hash_max_size 4096;
 
-map "$arg_p$arg_page_id$arg_attachment_id" $archive_number {{
-    default "";
-{numbers}}}
-{lists}
-map $uri $archive_path {{
-    default "";
-{paths}}}
-
+"""
+NGINX_SERVER = """
 server {{
     listen 8080;
     server_name _;
@@ -174,25 +174,26 @@ def quoted(text: str) -> str:
     return '"' + text.replace("\\", "\\\\").replace('"', '\\"') + '"'
 
 
-def for_nginx(moved: Moved, root: Path) -> str:
-    """The configuration of nginx that serves the archive."""
+def for_nginx(moved: Moved, root: Path) -> Iterator[str]:
+    """The configuration of nginx that serves the archive, in pieces."""
 
-    def lines(pairs: Iterator[tuple[str, str]]) -> str:
-        return "".join(f"    {quoted(nginx_key(key))} {quoted(to.replace('$', '%24'))};\n" for key, to in pairs)
+    def map_of(given: str, made: str, pairs: Iterator[tuple[str, str]]) -> Iterator[str]:
+        yield f'map {given} {made} {{\n    default "";\n'
+        for key, to in pairs:
+            yield f"    {quoted(nginx_key(key))} {quoted(to.replace('$', '%24'))};\n"
+        yield "}\n"
 
-    lists = "".join(
-        f'map $arg_{name} $archive_{name} {{\n    default "";\n'
-        f"{lines((value, to) for (it, value), to in moved.lists.items() if it == name)}}}\n"
-        for name in LISTS
-    )
+    yield NGINX_HEAD
+    yield from map_of('"$arg_p$arg_page_id$arg_attachment_id"', "$archive_number", moved.numbers.items())
+    for name in LISTS:
+        yield from map_of(f"$arg_{name}", f"$archive_{name}", moved.values_of(name))
+    yield "\n"
+    yield from map_of("$uri", "$archive_path", moved.paths.items())
     asked = "".join(f'        if ($archive_{it} != "") {{ return 301 $archive_{it}; }}\n' for it in ("number", *LISTS))
     if moved.search:
         to = quoted(moved.search.replace("$", "%24") + "?s=$arg_s")
         asked += f'        if ($arg_s != "") {{ return 301 {to}; }}\n'
-    return NGINX.format(
-        numbers=lines(iter(moved.numbers.items())),
-        lists=lists,
-        paths=lines(iter(moved.paths.items())),
+    yield NGINX_SERVER.format(
         root=quoted(str(root)),
         home=moved.plan.places.home,
         asked=asked,
@@ -206,8 +207,8 @@ def nginx_key(key: str) -> str:
     return "\\" + key if key in ("default", "hostnames", "include", "volatile") or key.startswith(("~", "\\")) else key
 
 
-def for_apache(moved: Moved) -> str:
-    """The rules of Apache, in the folder that it serves."""
+def for_apache(moved: Moved) -> Iterator[str]:
+    """The rules of Apache, in the folder that it serves, in pieces."""
 
     def escaped(text: str) -> str:
         return "".join(it if it.isalnum() or it in "-_/" else "\\" + it for it in text)
@@ -215,88 +216,83 @@ def for_apache(moved: Moved) -> str:
     def target(to: str) -> str:
         return to.replace("%", "\\%").replace("$", "\\$")
 
-    made = [
-        "# Sends old addresses on. Apache needs mod_rewrite, mod_dir and `AllowOverride All`.\n",
+    yield (
+        "# Sends old addresses on. Apache needs mod_rewrite, mod_dir and `AllowOverride All`.\n"
         "DirectoryIndex index.html index.xml\nErrorDocument 404 /404.html\nOptions -Indexes\nAddDefaultCharset utf-8\n"
-        '<Files ".ht*">\nRequire all denied\n</Files>\nRewriteEngine On\n',
-    ]
+        '<Files ".ht*">\nRequire all denied\n</Files>\nRewriteEngine On\n'
+    )
     home = moved.plan.places.home.strip("/")
     front = f"^(?:{escaped(home)}/?)?(?:index\\.(?:php|html))?$" if home else "^(?:index\\.(?:php|html))?$"
-    made.append(
+    yield (
         f"RewriteCond %{{QUERY_STRING}} ^$\n"
         f"RewriteRule {front} - [S={len(moved.numbers) + len(moved.lists) + bool(moved.search)}]\n"
     )
     for value, to in moved.numbers.items():
         names = "|".join(NUMBERS)
-        made.append(
+        yield (
             f"RewriteCond %{{QUERY_STRING}} (?:^|&)(?:{names})={value}(?:&|$)\n"
             f'RewriteRule {front} "{target(to)}" [R=301,L,NE,QSD]\n'
         )
-    for (name, value), to in moved.lists.items():
-        made.append(
+    for key, to in moved.lists.items():
+        name, _, value = key.partition("=")
+        yield (
             f"RewriteCond %{{QUERY_STRING}} (?:^|&){name}={escaped(value)}(?:&|$)\n"
             f'RewriteRule {front} "{target(to)}" [R=301,L,NE,QSD]\n'
         )
     if moved.search:
-        made.append("RewriteCond %{QUERY_STRING} (?:^|&)s=([^&]*)\n")
-        made.append(f'RewriteRule {front} "{target(moved.search)}?s=%1" [R=301,L,NE]\n')
+        yield "RewriteCond %{QUERY_STRING} (?:^|&)s=([^&]*)\n"
+        yield f'RewriteRule {front} "{target(moved.search)}?s=%1" [R=301,L,NE]\n'
     # What is there needs no look at the rest.
-    made.append("RewriteCond %{REQUEST_FILENAME} -f [OR]\nRewriteCond %{REQUEST_FILENAME} -d\nRewriteRule ^ - [L]\n")
-    made.append(f'RewriteRule "^(.+)/feed/?$" "/$1{"/" if moved.plan.places.has_slash else ""}" [R=301,L,NE]\n')
+    yield "RewriteCond %{REQUEST_FILENAME} -f [OR]\nRewriteCond %{REQUEST_FILENAME} -d\nRewriteRule ^ - [L]\n"
+    yield f'RewriteRule "^(.+)/feed/?$" "/$1{"/" if moved.plan.places.has_slash else ""}" [R=301,L,NE]\n'
     for path, to in moved.paths.items():
         if not path.endswith("/index.php"):
-            made.append(f'RewriteRule "^{escaped(path.strip("/"))}/?$" "{target(to)}" [R=301,L,NE,QSD]\n')
-    return "".join(made)
+            yield f'RewriteRule "^{escaped(path.strip("/"))}/?$" "{target(to)}" [R=301,L,NE,QSD]\n'
 
 
-def for_caddy(moved: Moved, root: Path) -> str:
-    """The configuration of Caddy that serves the archive."""
+def for_caddy(moved: Moved, root: Path) -> Iterator[str]:
+    """The configuration of Caddy that serves the archive, in pieces."""
 
-    def lines(pairs: Iterator[tuple[str, str]]) -> str:
-        return "".join(f"\t\t{quoted(key)} {quoted(to)}\n" for key, to in pairs)
+    def map_of(given: str, made: str, pairs: Iterator[tuple[str, str]]) -> Iterator[str]:
+        yield f"\tmap {{{given}}} {{{made}}} {{\n"
+        yield from (f"\t\t{quoted(key)} {quoted(to)}\n" for key, to in pairs)
+        yield '\t\tdefault ""\n\t}\n'
 
-    made = [
-        "# Serves the archive. Put the site's name in place of the port.\n:8080 {\n",
-        f"\troot * {quoted(str(root))}\n",
-    ]
+    yield f"# Serves the archive. Put the site's name in place of the port.\n:8080 {{\n\troot * {quoted(str(root))}\n"
     for name in (*NUMBERS, *LISTS):
-        pairs = ((value, to) for it, value, to in moved.queries() if it == name)
-        made.append(f'\tmap {{query.{name}}} {{moved_{name}}} {{\n{lines(pairs)}\t\tdefault ""\n\t}}\n')
-        made.append(
+        yield from map_of(f"query.{name}", f"moved_{name}", moved.values_of(name))
+        yield (
             f"\t@{name} {{\n\t\tpath {moved.plan.places.home} {moved.plan.places.home}index.php\n"
             f'\t\texpression `{{moved_{name}}} != ""`\n\t}}\n\tredir @{name} {{moved_{name}}} 301\n'
         )
     if moved.search:
-        made.append(f"\t@search {{\n\t\tpath {moved.plan.places.home}\n\t\tquery s=*\n\t}}\n")
-        made.append("\tredir @search " + quoted(moved.search + "?{query}") + " 301\n")
-    made.append(
-        f'\tmap {{path}} {{moved_path}} {{\n{lines(iter(moved.paths.items()))}\t\tdefault ""\n\t}}\n'
-        '\t@path expression `{moved_path} != ""`\n\tredir @path {moved_path} 301\n'
-    )
-    made.append(
+        yield f"\t@search {{\n\t\tpath {moved.plan.places.home}\n\t\tquery s=*\n\t}}\n"
+        yield "\tredir @search " + quoted(moved.search + "?{query}") + " 301\n"
+    yield from map_of("path", "moved_path", moved.paths.items())
+    yield '\t@path expression `{moved_path} != ""`\n\tredir @path {moved_path} 301\n'
+    yield (
         "\t@post_feed {\n\t\tpath_regexp post ^(/.+)/feed/?$\n\t\tnot file {path}/index.xml {path}index.xml\n\t}\n"
         "\tredir @post_feed {re.post.1}/ 301\n"
-    )
-    made.append(
         "\tfile_server {\n\t\tindex index.html index.xml\n\t\thide .*\n\t}\n\thandle_errors {\n"
         "\t\trewrite * /404.html\n\t\tfile_server\n\t}\n}\n"
     )
-    return "".join(made)
 
 
-def for_netlify(moved: Moved) -> str:
+def for_netlify(moved: Moved) -> Iterator[str]:
     home = moved.plan.places.home
-    made = [f"{home} {name}={as_link(value)} {to} 301!\n" for name, value, to in moved.queries()]
-    made += [f"{home} s=:s {moved.search}?s=:s 301!\n"] * bool(moved.search)
-    made += [f"{as_link(path)} {to} 301!\n" for path, to in moved.paths.items()]
+    yield from (f"{home} {name}={as_link(value)} {to} 301!\n" for name, value, to in moved.queries())
+    if moved.search:
+        yield f"{home} s=:s {moved.search}?s=:s 301!\n"
+    yield from (f"{as_link(path)} {to} 301!\n" for path, to in moved.paths.items())
     # A file that is there comes first.
-    return "".join(made) + "/*/feed/ /:splat/ 301\n"
+    yield "/*/feed/ /:splat/ 301\n"
 
 
 def write_moved(moved: Moved, files: Files) -> None:
     """Writes the moved addresses for nginx and Caddy beside the pages, and for Apache and Netlify among them."""
     root = (files.folder / PUBLIC).resolve()
-    for name, text in (("nginx.conf", for_nginx(moved, root)), ("Caddyfile", for_caddy(moved, root))):
-        (files.folder / name).write_text(text, encoding="utf-8")
+    for name, pieces in (("nginx.conf", for_nginx(moved, root)), ("Caddyfile", for_caddy(moved, root))):
+        with (files.folder / name).open("w", encoding="utf-8") as file:
+            file.writelines(pieces)
     files.add(".htaccess", for_apache(moved))
     files.add("_redirects", for_netlify(moved))

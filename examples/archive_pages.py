@@ -8,9 +8,10 @@ from collections import defaultdict
 from collections.abc import Callable, Iterator
 from datetime import datetime, timedelta
 from html import escape
+from itertools import chain
 from typing import NamedTuple
 
-from archive_files import Files
+from archive_files import Files, Noted
 from archive_html import (
     after_post,
     before_last,
@@ -26,9 +27,11 @@ from archive_html import (
     with_times,
     with_title,
 )
-from archive_plan import Listing, Plan
+from archive_lists import Listing
+from archive_plan import Plan
 from archive_search import LIST, Search
-from archive_store import MOST_PER_PAGE, Lister, Printer
+from archive_store import MOST_PER_PAGE, Lister, Printer, line_of
+from disk_tables import DiskDict, DiskSet
 from wordpress_addresses import UPLOADS, as_link
 from wordpress_items import Comment
 from wordpress_texts import paragraphs, texturize, with_characters
@@ -60,6 +63,14 @@ class Head(NamedTuple):
     is_folder: bool = False
 
 
+class Entry(NamedTuple):
+    """A post as lists show it: its date, its date as HTML, and what the program is given of it, as JSON."""
+
+    date: str
+    shown: str
+    line: bytes
+
+
 class Pages:
     """Writes the pages of a plan into a folder."""
 
@@ -69,10 +80,12 @@ class Pages:
         self.plan, self.files, self.printer, self.lister, self.tell = plan, files, printer, lister, tell
         self.search = Search(plan, files)
         # The paths for the sitemap, with the date of a post.
-        self.sitemap: list[tuple[str, str]] = []
+        self.sitemap: DiskDict[str, str] = DiskDict(plan.store.disk)
+        # What lists show of posts: each is in several. They can be long, so hardly any is at hand.
+        self.entries: DiskDict[int, Entry] = DiskDict(plan.store.disk, at_hand=1)
         # Paths whose page isn't one that was found, and uploads that the pages need.
-        self.missing: list[str] = []
-        self.uploads: set[str] = set()
+        self.missing = Noted()
+        self.uploads: DiskSet[str] = DiskSet(plan.store.disk)
         # Where links of the pages written last lead: most pages have the same.
         self.links: dict[str, str] = {}
         self.count = 0
@@ -102,7 +115,7 @@ class Pages:
             if status == 200:
                 self.write_post(number, page, content)
             else:
-                self.missing.append(plan.paths[number])
+                self.missing.add(plan.paths[number])
 
     def write_post(self, number: int, page: str, content: str, part: int = 1, parts: int = 1) -> None:
         """Writes a post's or a page's page, or one of its parts."""
@@ -135,7 +148,7 @@ class Pages:
         post, texts = self.plan.store.posts[number], content.split(PART)
         entry = {"id": number, "kind": post.kind, "status": "publish", "title": post.title, "date": post.date}
         for part, text in enumerate(texts, 1):
-            _, page = self.lister.page([{**entry, "content": text.strip("\n")}], asked)
+            _, page = self.lister.page({number: line_of({**entry, "content": text.strip("\n")})}, asked)
             self.write_post(number, page, text, part, len(texts))
 
     def description(self, number: int, content: str) -> str:
@@ -167,11 +180,10 @@ class Pages:
         if terms:
             links = ", ".join(link(path, plan.typeset(name), ' rel="tag"') for _, path, name in terms)
             made.append(f'<p class="terms">{plan.heading("filed", links)}</p>\n')
-        if number in plan.place:
-            made.append(self.neighbours(plan.place[number]))
-        item = plan.item(number)
-        if item and item.comments:
-            made.append(self.comments(item.comments))
+        if number in plan.order:
+            made.append(self.neighbours(number))
+        if comments := plan.comments(number):
+            made.append(self.comments(comments))
         return "".join(made)
 
     @staticmethod
@@ -179,13 +191,12 @@ class Pages:
         listed = "".join(f"<li>{it}</li>\n" for it in items)
         return f'<nav aria-label="{escape(label)}"><ul class="links">{listed}</ul></nav>\n'
 
-    def neighbours(self, at: int) -> str:
+    def neighbours(self, number: int) -> str:
         plan, made = self.plan, []
-        for where, rel, word in ((at - 1, "prev", "previous"), (at + 1, "next", "next")):
-            number = plan.order[where] if 0 <= where < len(plan.order) else 0
-            if number in plan.paths:
-                title = escape(plan.plain_title(number), quote=False)
-                made.append(link(plan.paths[number], plan.heading(word, title), f' rel="{rel}"'))
+        for beside, rel, word in zip(plan.order.beside(number), ("prev", "next"), ("previous", "next")):
+            if beside in plan.paths:
+                title = escape(plan.plain_title(beside), quote=False)
+                made.append(link(plan.paths[beside], plan.heading(word, title), f' rel="{rel}"'))
         return f'<p class="near">{" ".join(f"<span>{it}</span>" for it in made)}</p>\n' if made else ""
 
     def comments(self, comments: list[Comment]) -> str:
@@ -231,9 +242,8 @@ class Pages:
         if search.path:
             head = {"id": 1, "kind": "page", "status": "publish", "date": "2000-01-01 00:00:00"}
             title = escape(plan.words["search"], quote=False)
-            _, page = self.lister.page([{**head, "title": title, "content": LIST}], "/?page_id=1")
-            made = search.list()
-            page = page.replace(LIST, made, 1) if LIST in page else before_last(page, "</main>", made)
+            _, page = self.lister.page({1: line_of({**head, "title": title, "content": LIST})}, "/?page_id=1")
+            page = page if LIST in page else before_last(page, "</main>", LIST)
             # The page has an index beside it, so its address is that of a folder.
             self.finish(page, Head(search.path, title, is_listed=False, is_folder=True), "")
         search.write_index()
@@ -247,48 +257,45 @@ class Pages:
                 templates.get("home") or templates.get("index"), None if plan.front else templates.get("front-page")
             )
             self.write_list(home)
-        kinds: dict[bool, list[Listing]] = {False: [], True: []}
-        for it in plan.listings():
-            kinds[it.kind in ("year", "month", "day")].append(it)
-        for is_dated, lists in kinds.items():
+        for is_dated in (False, True):
             names = ["date"] * is_dated + ["archive", "index"]
             body = next((templates[it] for it in names if it in templates), None)
             self.lister.list_as(body, None)
-            for it in lists:
-                self.write_list(it)
+            for it in plan.lists:
+                if (it.kind in ("year", "month", "day")) == is_dated:
+                    self.write_list(it)
 
     def write_list(self, listing: Listing) -> None:
         """Writes the parts of a list."""
         plan = self.plan
         size = plan.store.per_page()
-        parts = max(1, -(-len(listing.posts) // size))
+        parts = max(1, -(-listing.count // size))
+        links = [link(plan.places.part(listing.path, it), str(it)) for it in range(1, parts + 1)]
         for part in range(1, parts + 1):
-            numbers = listing.posts[(part - 1) * size : part * size]
             # (the program lists a hundred posts at most)
-            sticky = plan.sticky()[: MOST_PER_PAGE - size] if listing.kind == "home" and part == 1 else []
-            numbers = [*sticky, *(it for it in numbers if it not in sticky)]
-            dates = {it: plan.store.posts[it].date for it in numbers} | first_dates(sticky)
-            _, page = self.lister.page([self.entry(it) | {"date": dates[it]} for it in numbers], "/")
+            sticky = plan.sticky(MOST_PER_PAGE - size) if listing.kind == "home" and part == 1 else []
+            numbers = [*sticky, *(it for it in plan.posts_of(listing, (part - 1) * size, size) if it not in sticky)]
+            entries = {it: self.entry(it) for it in numbers}
+            entries |= {it: self.made_entry(it, date) for it, date in first_dates(sticky).items()}
+            _, page = self.lister.page({it: entry.line for it, entry in entries.items()}, "/")
             page = with_heading(page, listing.heading)
-            page = with_parts(
-                page,
-                [
-                    f'<span aria-current="page">{it}</span>'
-                    if it == part
-                    else link(plan.places.part(listing.path, it), str(it))
-                    for it in range(1, parts + 1)
-                ]
-                if parts > 1
-                else [],
-            )
-            page = with_times(page, [(dates[it], plan.date(it)) for it in numbers])
+            here = f'<span aria-current="page">{part}</span>'
+            page = with_parts(page, [*links[: part - 1], here, *links[part:]] if parts > 1 else [])
+            page = with_times(page, [(it.date, it.shown) for it in entries.values()])
             for it in sticky:
                 # (a template may print the date in another element too)
-                page = page.replace(dates[it], plan.store.posts[it].date)
+                page = page.replace(entries[it].date, plan.store.posts[it].date)
             self.finish_list(page, listing, part)
 
-    def entry(self, number: int) -> dict:
-        """A post as a list shows it."""
+    def entry(self, number: int) -> Entry:
+        """A post as lists show it, which is made for the first of them."""
+        made = self.entries.get(number)
+        if made is None:
+            made = self.entries[number] = self.made_entry(number, self.plan.store.posts[number].date)
+        return made
+
+    def made_entry(self, number: int, date: str) -> Entry:
+        """A post as a list shows it, with the date by which the program orders it."""
         plan, post = self.plan, self.plan.store.posts[number]
 
         def more(text: str) -> str:
@@ -302,14 +309,8 @@ class Pages:
 
         content = plan.store.content(number)
         shown = shortened(content, plan.excerpt(number), more) if number in plan.paths else content
-        return {
-            "id": number,
-            "kind": "post",
-            "status": "publish",
-            "title": post.title,
-            "date": post.date,
-            "content": shown,
-        }
+        given = {"id": number, "kind": "post", "status": "publish", "title": post.title, "date": date}
+        return Entry(date, plan.date(number), line_of({**given, "content": shown}))
 
     def finish_list(self, page: str, listing: Listing, part: int) -> None:
         """Writes a part of a list with its title and head."""
@@ -330,12 +331,15 @@ class Pages:
 
     def finish(self, page: str, head: Head, date: str, base: str = "") -> None:
         """Writes a page with its head, its links leading to the old addresses."""
-        page = with_head(page, self.head(head))
-        written = self.files.write(
-            head.path, self.finished(page, base or self.plan.places.home), is_folder=head.is_folder
-        )
+        base = base or self.plan.places.home
+        page = self.finished(with_head(page, self.head(head)), base)
+        if LIST in page and head.path == self.search.path:
+            # The list of the search has all posts, so it isn't made whole.
+            before, _, after = page.partition(LIST)
+            page = chain([before], (self.finished(it, base) for it in self.search.list()), [after])
+        written = self.files.write(head.path, page, is_folder=head.is_folder)
         if written and head.is_listed:
-            self.sitemap.append((head.path, date[:10]))
+            self.sitemap[head.path] = date[:10]
         self.count += written
         self.tell(head.path)
 

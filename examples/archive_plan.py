@@ -7,30 +7,19 @@ import re
 from collections.abc import Iterator
 from dataclasses import dataclass, field
 from datetime import datetime
+from functools import cached_property
 from html import escape, unescape
-from typing import NamedTuple
+from itertools import chain, islice
 from urllib.parse import parse_qsl, urlsplit
 
+from archive_files import Noted
+from archive_lists import Listing, Lists, Order
 from archive_store import Post, Store
 from archive_words import date_format, formatted, month_and_year, words_of
+from disk_tables import DiskDict, DiskSet
 from wordpress_addresses import Bases, Places, as_link
-from wordpress_items import Item, WholeSite
+from wordpress_items import Comment, Item, WholeSite
 from wordpress_texts import paragraphs, quotes_of, texturize, with_characters
-
-
-# How many posts' dates are kept as they are shown: those of one year are in several lists.
-DATES = 1_000
-
-
-class Listing(NamedTuple):
-    """A list of posts: its path, what it is of, its heading and whether it has a feed."""
-
-    path: str
-    # `home`, `category`, `post_tag`, `author`, `year`, `month` or `day`.
-    kind: str
-    heading: str
-    posts: list[int]
-    has_feed: bool = False
 
 
 @dataclass
@@ -45,7 +34,7 @@ class Settings:
 
 
 class Plan:
-    """The addresses of one archive."""
+    """The addresses of one archive. What grows with its posts is in the store's database."""
 
     def __init__(self, site: WholeSite, store: Store, settings: Settings) -> None:
         self.site, self.store = site, store
@@ -56,16 +45,13 @@ class Plan:
         self.base = self.base_of(settings.address or site.address)
         front = store.front()
         self.front = front.number if front else 0
-        self.order = sorted((it.number for it in store.published("post")), key=lambda it: (store.posts[it].date, it))
-        self.place = {number: at for at, number in enumerate(self.order)}
+        self.order = Order(store.disk, store.published("post"))
         # Where each published post and page is, and which path was wanted by two of them.
-        self.paths: dict[int, str] = {}
-        self.clashes: list[str] = []
-        self.taken: set[str] = set()
-        # The dates of some posts as they are shown; each is in many lists.
-        self.dates: dict[int, str] = {}
+        self.paths: DiskDict[int, str] = DiskDict(store.disk)
+        self.clashes = Noted()
+        self.taken: DiskSet[str] = DiskSet(store.disk)
         self.posts_page = self.posts_page_of()
-        for post in [*store.published("page"), *store.published("post")]:
+        for post in chain(store.published("page"), store.published("post")):
             self.give_path(post)
 
     @staticmethod
@@ -98,7 +84,7 @@ class Plan:
         elif not path or path == self.places.home:
             path = self.new_path(post)
         if path in self.taken:
-            self.clashes.append(path)
+            self.clashes.add(path)
             return
         self.taken.add(path)
         self.paths[post.number] = path
@@ -109,6 +95,10 @@ class Plan:
         item = self.site.items.get(number)
         post = self.store.posts.get(number)
         return item if item and post and item.kind == post.kind and item.is_carried() else None
+
+    def comments(self, number: int) -> list[Comment]:
+        """The comments of a post that the export has."""
+        return self.site.comments.get(number, []) if self.item(number) else []
 
     def is_open(self, attachment: Item) -> bool:
         """Whether an attachment belongs to no post, or to one that has a page."""
@@ -132,31 +122,48 @@ class Plan:
             return None
         return self.places.author(item.author), self.site.authors.get(item.author, item.author)
 
+    def is_used(self, path: str) -> bool:
+        """Whether a post, a page or a list has a path."""
+        return path in self.taken or self.has_list(path)
+
+    def has_list(self, path: str) -> bool:
+        """Whether there is a page with a list at a path."""
+        home = self.home_list()
+        return path in self.lists or home is not None and path == home.path
+
     def home_list(self) -> Listing | None:
         """The list of all posts: at the front, or at the page that is for it."""
-        posts = self.order[::-1]
+        count = len(self.order)
         if not self.front:
-            return Listing(self.places.home, "home", "", posts)
+            return Listing(self.places.home, "home", "", count)
         if not self.posts_page or self.posts_page not in self.paths:
             return None
-        return Listing(self.paths[self.posts_page], "home", self.store.posts[self.posts_page].title, posts)
+        return Listing(self.paths[self.posts_page], "home", self.store.posts[self.posts_page].title, count)
 
-    def sticky(self) -> list[int]:
+    def sticky(self, most: int) -> list[int]:
         """The posts that the first part of the list of all posts begins with, the newest first. Further parts have each
         where its date puts it, as in WordPress, so the first one can be longer than they are."""
-        return [it for it in self.order[::-1] if (item := self.item(it)) and item.is_sticky and it in self.paths]
+        found = (it for it in self.order.newest() if (item := self.item(it)) and item.is_sticky and it in self.paths)
+        return list(islice(found, most))
 
-    def listings(self) -> Iterator[Listing]:
-        """All lists but that of all posts, each with its posts, the newest first."""
-        lists: dict[str, Listing] = {}
-        for number in self.order[::-1]:
+    @cached_property
+    def lists(self) -> Lists:
+        """All lists but that of all posts, each with its posts, the newest first; a post or page may have the path of
+        one, which then has no page."""
+        lists = Lists(self.store.disk)
+        for number in self.order.newest():
+            found: dict[str, tuple[str, str]] = {}
             for path, kind, heading in self.lists_of(number):
-                has_feed = kind in ("category", "post_tag", "author")
-                made = lists.setdefault(path, Listing(path, kind, heading, [], has_feed))
-                if made.posts[-1:] != [number]:
-                    made.posts.append(number)
-        taken = set(self.paths.values())
-        yield from (it for path, it in lists.items() if path not in taken)
+                found.setdefault(path, (kind, heading))
+            lists.add(number, found)
+        lists.leave_out(self.taken)
+        return lists
+
+    def posts_of(self, listing: Listing, begin: int, count: int) -> Iterator[int]:
+        """Some posts of a list from one onwards, the newest first."""
+        if listing.kind == "home":
+            return self.order.newest(begin, count)
+        return self.lists.posts_of(listing, begin, count)
 
     def lists_of(self, number: int) -> Iterator[tuple[str, str, str]]:
         """The path, the kind and the heading of each list that a post is in."""
@@ -201,13 +208,6 @@ class Plan:
 
     def date(self, number: int) -> str:
         """A post's date as HTML, with who wrote it."""
-        if number not in self.dates:
-            if len(self.dates) >= DATES:
-                self.dates.clear()
-            self.dates[number] = self.made_date(number)
-        return self.dates[number]
-
-    def made_date(self, number: int) -> str:
         date = self.store.posts[number].date
         made = f'<time datetime="{date.replace(" ", "T")}">{self.day(date)}</time>'
         if author := self.author(number):

@@ -10,9 +10,10 @@ import json
 import re
 import tempfile
 import unicodedata
-from array import array
 from collections.abc import Iterator
+from heapq import merge
 from html import escape, unescape
+from itertools import chain, islice
 from typing import IO
 
 from archive_files import Files
@@ -21,6 +22,8 @@ from wordpress_addresses import as_link
 
 # The names that the page can have: WordPress has the first one for what it finds.
 NAMES = ("search", "search-archive")
+# How many notes of words are put in order at a time.
+SORTED = 5_000
 # How many files the index has: a word is in the one that its first two characters say.
 FILES = 64
 # The shortest word that is noted, and how many characters of a long one are.
@@ -60,8 +63,9 @@ SCRIPT = """// Shows those posts of the list that have all the words of the addr
 def words_in(text: str) -> set[str]:
     """The words of a text as the index has them. The script makes the same of what it is asked for."""
     plain = unicodedata.normalize("NFKD", text.lower())
-    if not plain.isascii():
-        plain = "".join(it for it in plain if not unicodedata.category(it).startswith("M"))
+    for it in set(plain):
+        if not it.isascii() and unicodedata.category(it).startswith("M"):
+            plain = plain.replace(it, "")
     return {it[:LONGEST] for it in re.findall(r"[^\W_]+", plain) if len(it) >= SHORTEST}
 
 
@@ -94,30 +98,29 @@ class Search:
 
     def take(self, number: int, content: str) -> None:
         """Notes the words of a post, or of a part of one."""
+        if not self.path:
+            return
         text = unescape(HIDDEN.sub(" ", content))
-        for word in words_in(f"{self.plan.plain_title(number)} {text}") if self.path else ():
+        for word in words_in(f"{self.plan.plain_title(number)} {text}"):
             at = file_number(word)
             if at not in self.notes:
                 self.notes[at] = tempfile.TemporaryFile()
             self.notes[at].write(f"{word}\t{number}\n".encode())
 
-    def list(self) -> str:
-        """Every post and page, the newest first."""
+    def list(self) -> Iterator[str]:
+        """Every post and page, the newest first, in pieces of HTML."""
         plan, words = self.plan, self.plan.words
-        pages = (it for it in plan.paths if it not in plan.place)
-        items = "".join(
-            f'<li id="post-{it}">{self.entry(it)}</li>\n'
-            for it in (*plan.order[::-1], *pages)
-            if it in plan.paths and it != plan.posts_page
-        )
         found, everything = escape(words["found"] + words["colon"]), escape(words["everything"])
-        said = f'<p id="search-said" role="status" data-found="{found}">{everything}</p>'
-        script = f'<script defer src="{escape(as_link(self.folder))}search.js"></script>'
-        return f'{said}\n<ul id="search-list">\n{items}</ul>\n{script}\n'
+        yield f'<p id="search-said" role="status" data-found="{found}">{everything}</p>\n<ul id="search-list">\n'
+        pages = (it for it in plan.paths if it not in plan.order)
+        for it in chain(plan.order.newest(), pages):
+            if it in plan.paths and it != plan.posts_page:
+                yield f'<li id="post-{it}">{self.entry(it)}</li>\n'
+        yield f'</ul>\n<script defer src="{escape(as_link(self.folder))}search.js"></script>\n'
 
     def entry(self, number: int) -> str:
         plan, title = self.plan, escape(self.plan.plain_title(number), quote=False)
-        date = f" <small>{plan.day(plan.store.posts[number].date)}</small>" if number in plan.place else ""
+        date = f" <small>{plan.day(plan.store.posts[number].date)}</small>" if number in plan.order else ""
         return f'<a href="{escape(as_link(plan.paths[number]))}">{title}</a>{date}'
 
     def write_index(self) -> None:
@@ -127,20 +130,43 @@ class Search:
         script = SCRIPT.replace("FILES", str(FILES)).replace("LONGEST", str(LONGEST))
         self.files.write(f"{self.folder}search.js", script)
         for at, file in sorted(self.notes.items()):
-            known: dict[str, array] = {}
-            for word, number in noted(file):
-                numbers = known.setdefault(word, array("q"))
-                # The parts of a post follow each other.
-                if not numbers or numbers[-1] != number:
-                    numbers.append(number)
-            text = ",\n".join(f"{json.dumps(it)}:[{','.join(map(str, known[it]))}]" for it in sorted(known))
-            self.files.write(f"{self.folder}words-{at}.json", f"{{{text}}}\n")
+            self.files.write(f"{self.folder}words-{at}.json", index_of(file))
             file.close()
         self.notes.clear()
 
 
-def noted(file: IO[bytes]) -> Iterator[tuple[str, int]]:
-    file.seek(0)
-    for line in file:
-        word, _, number = line.decode().partition("\t")
-        yield word, int(number)
+def index_of(notes: IO[bytes]) -> Iterator[str]:
+    """A file of the index: each word with the posts that it is in, as they were noted, in pieces of JSON."""
+    before = last = ""
+    for word, numbers in sorted_notes(notes):
+        if word != before:
+            yield f"{'],' + chr(10) if before else '{'}{json.dumps(word)}:[{numbers}"
+        elif numbers != last:
+            yield "," + numbers.removeprefix(f"{last},")
+        before, last = word, numbers.rpartition(",")[2]
+    yield "]}\n"
+
+
+def sorted_notes(notes: IO[bytes]) -> Iterator[tuple[str, str]]:
+    """The words of notes in order, each with its numbers as they came, between commas.
+
+    So many notes are put in order at a time, and then merged: a word comes once for each time that it was among them.
+    """
+    runs: list[IO[bytes]] = []
+    notes.seek(0)
+    while lines := [*islice(notes, SORTED)]:
+        known: dict[str, list[str]] = {}
+        for word, _, number in map(parted, lines):
+            numbers = known.setdefault(word, [])
+            # The parts of a post follow each other.
+            if numbers[-1:] != [number]:
+                numbers.append(number)
+        runs.append(tempfile.TemporaryFile())
+        runs[-1].writelines(f"{it}\t{','.join(known[it])}\n".encode() for it in sorted(known))
+        runs[-1].seek(0)
+    for word, _, numbers in merge(*(map(parted, it) for it in runs), key=lambda it: it[0]):
+        yield word, numbers
+
+
+def parted(line: bytes) -> tuple[str, str, str]:
+    return line.decode().rstrip("\n").partition("\t")

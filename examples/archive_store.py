@@ -1,7 +1,7 @@
 """The posts and settings of a site in a file, for scripts that write its pages elsewhere.
 
-It is a module, and runs nothing by itself. The site is read by `site --export`, line by line. Contents are put into a
-temporary file, so memory grows with the number of posts, not with their texts.
+It is a module, and runs nothing by itself. The site is read by `site --export`, line by line. Its posts are put into a
+temporary database and their contents into a temporary file, so memory doesn't grow with them.
 """
 
 import json
@@ -11,6 +11,7 @@ from collections.abc import Iterable, Iterator
 from dataclasses import dataclass
 from typing import IO
 
+from disk_tables import Disk, DiskDict
 from program import LINE_BYTES, LINES, Ended, NoReply, Program, Reply
 
 # How many lines before a program's last one the next takes its place.
@@ -40,9 +41,9 @@ class Post:
 class Texts:
     """Texts by number in a temporary file."""
 
-    def __init__(self) -> None:
+    def __init__(self, disk: Disk) -> None:
         self.file: IO[bytes] = tempfile.TemporaryFile()
-        self.places: dict[int, tuple[int, int]] = {}
+        self.places: DiskDict[int, tuple[int, int]] = DiskDict(disk)
 
     def put(self, number: int, text: str) -> None:
         data = text.encode()
@@ -64,11 +65,12 @@ class Store:
     The edits are those that an export has, or all that were done.
     """
 
-    def __init__(self, lines: Iterable[bytes]) -> None:
-        self.posts: dict[int, Post] = {}
+    def __init__(self, lines: Iterable[bytes], disk: Disk | None = None) -> None:
+        self.disk = disk or Disk()
+        self.posts: DiskDict[int, Post] = DiskDict(self.disk)
         # The largest ID so far: a new post gets the next one, also if that post is gone.
         self.largest = 0
-        self.contents = Texts()
+        self.contents = Texts(self.disk)
         self.options: dict[str, str] = {}
         self.templates: dict[str, list] = {}
         # The lines that make an empty site one with the settings, templates and plugins of this one.
@@ -91,10 +93,12 @@ class Store:
             for name in ("title", "status", "date"):
                 if post and name in command:
                     setattr(post, name, command[name])
+            if post:
+                self.posts[post.number] = post
             if post and "content" in command:
                 self.contents.put(post.number, command["content"])
         elif kind == "delete":
-            self.posts.pop(command["id"], None)
+            self.posts.discard(command["id"])
         else:
             if kind == "option":
                 self.options[command["name"]] = command["value"]
@@ -153,11 +157,11 @@ def line_of(command: dict) -> bytes:
     return json.dumps(command, ensure_ascii=False, separators=(",", ":")).encode()
 
 
-def read_store(program: str, database: str) -> Store:
+def read_store(program: str, database: str, disk: Disk | None = None) -> Store:
     """Reads the site in a file, which no program may serve meanwhile."""
     words = [program, "--database", database, "--export"]
     with subprocess.Popen(words, stdin=subprocess.DEVNULL, stdout=subprocess.PIPE, stderr=subprocess.PIPE) as ran:
-        store = Store(it.rstrip(b"\n") for it in ran.stdout)
+        store = Store((it.rstrip(b"\n") for it in ran.stdout), disk)
         said = ran.stderr.read().decode(errors="replace").strip()
     if ran.returncode:
         raise NotRead(said.partition("\n")[0] or f"{program} --export ended with status {ran.returncode}")
@@ -233,14 +237,14 @@ class Lister:
         ]
         self.must(self.listing_lines)
 
-    def page(self, entries: list[dict], path: str) -> tuple[int, str]:
-        """The page at a path of a site that has these posts and no others: its status and its text."""
+    def page(self, entries: dict[int, bytes], path: str) -> tuple[int, str]:
+        """The page at a path of a site that has these posts and no others, each as JSON: its status and its text."""
         if self.running().lines > LINES - MARGIN:
             self.begin()
-        imports, get = [*import_lines(entries)], line_of({"cmd": "get", "path": path})
+        imports, get = [*import_lines(entries.values())], line_of({"cmd": "get", "path": path})
         try:
             *replies, page = self.running().ask_all([*imports, get])
-            self.must([line_of({"cmd": "delete", "id": it["id"]}) for it in entries])
+            self.must([line_of({"cmd": "delete", "id": it}) for it in entries])
         except (Ended, NoReply) as error:
             raise NotRead(f"the program ended at {path}") from error
         if refused := [it.text() for it in replies if it.words[0] != "ok"]:
@@ -248,11 +252,11 @@ class Lister:
         return status_of(page, path)
 
 
-def import_lines(entries: list[dict]) -> Iterator[bytes]:
+def import_lines(entries: Iterable[bytes]) -> Iterator[bytes]:
     """Imports of some posts, each no longer than a line may be."""
     held: list[bytes] = []
     used = 0
-    for entry in map(line_of, entries):
+    for entry in entries:
         if held and used + len(entry) > LINE_BYTES - 100:
             yield import_of(held)
             held, used = [], 0

@@ -32,11 +32,15 @@ class Places:
     def __init__(self, site: WholeSite, bases: Bases = Bases()) -> None:
         self.site = site
         self.home = unquote(urlsplit(site.address).path).rstrip("/") + "/"
-        posts = [it for it in site.of_kind("post") if it.status == "publish" and self.own(it)]
-        patterns = Counter(self.pattern(it) for it in posts)
+        patterns: Counter[tuple[str, ...]] = Counter()
+        with_slash = 0
+        for it in site.of_kind("post"):
+            if it.status == "publish" and self.own(it):
+                patterns[self.pattern(it)] += 1
+                with_slash += it.link.endswith("/")
         # How posts' addresses are made, such as ("%year%", "%monthnum%", "%postname%").
         self.structure = patterns.most_common(1)[0][0] if patterns else ("%postname%",)
-        self.has_slash = not posts or sum(it.link.endswith("/") for it in posts) * 2 > len(posts)
+        self.has_slash = not patterns or with_slash * 2 > patterns.total()
         before = 0
         while before < len(self.structure) - 1 and not self.structure[before].startswith("%"):
             before += 1
@@ -165,7 +169,7 @@ def path_or_none(path: str) -> str | None:
     return "/" + "/".join(names) + ("/" if names and path.endswith("/") else "")
 
 
-@lru_cache(maxsize=10_000)
+@lru_cache(maxsize=1_000)
 def as_link(path: str) -> str:
     """A path as it is written into a page: what an address can't have is `%XX`."""
     return quote(path, safe="/~!$&'()*+,;=:@-._")

@@ -43,7 +43,7 @@ class Archive:
     """An export as an archive: `carried` has the IDs of the posts and pages that are carried over."""
 
     def __init__(self, path: Path, carried: set[int], wishes: Wishes) -> None:
-        self.site = read_site(path, has_contents=True, has_comments=False)
+        self.site = read_site(path)
         self.wishes, self.carried = wishes, carried
         self.words = words_of(self.site.language)
         note = self.words["form"] if not wishes.contact else self.words["write"]

@@ -1,21 +1,20 @@
 """What an export has of a site beside the texts of its posts: addresses, terms, authors, comments, menus, files.
 
 It is a module, and runs nothing by itself. The file is read piece by piece, and what isn't asked for is dropped at
-once; longer comments and excerpts are put into a temporary file. So memory doesn't grow with texts, only with how many
-items there are. A document type is refused, as it is when the same file is imported.
+once. Items and comments are put into a temporary database if there is one: then memory grows with terms and authors
+alone. A document type is refused, as it is when the same file is imported.
 """
 
 import re
-import tempfile
 from collections.abc import Callable, Iterator
 from dataclasses import dataclass, field
 from html import unescape
 from pathlib import Path
 from sys import intern
-from typing import IO
 from urllib.parse import urlsplit
 from xml.parsers import expat
 
+from disk_tables import Disk, DiskDict
 from wordpress_export import SPACES, Refused, short
 
 PIECE_BYTES = 1 << 16
@@ -28,40 +27,6 @@ KEPT_FIELDS = re.compile(
 )
 
 
-# The longest text that is kept in memory, in characters.
-SHORT = 100
-
-
-class Texts:
-    """Texts in a temporary file, each named by its place there; short ones aren't put there."""
-
-    def __init__(self) -> None:
-        self.file: IO[bytes] = tempfile.TemporaryFile()
-        self.end = 0
-
-    def put(self, text: str) -> "Kept":
-        if len(text) <= SHORT:
-            return text
-        data = text.encode()
-        self.file.seek(self.end)
-        self.file.write(data)
-        place = self.file, self.end, len(data)
-        self.end += len(data)
-        return place
-
-
-# A text, or its file, its place there and its size.
-Kept = str | tuple[IO[bytes], int, int]
-
-
-def text_kept(kept: Kept) -> str:
-    if isinstance(kept, str):
-        return kept
-    file, at, size = kept
-    file.seek(at)
-    return file.read(size).decode()
-
-
 @dataclass(slots=True)
 class Comment:
     """A comment as the export has it."""
@@ -70,12 +35,8 @@ class Comment:
     author: str
     address: str
     date: str
-    kept: Kept
+    text: str
     parent: int
-
-    @property
-    def text(self) -> str:
-        return text_kept(self.kept)
 
 
 @dataclass(slots=True)
@@ -103,7 +64,7 @@ class Item:
     author: str
     parent: int
     order: int
-    kept_excerpt: Kept
+    excerpt: str
     password: str
     file: str
     is_sticky: bool
@@ -113,11 +74,6 @@ class Item:
     content: str = ""
     terms: list[Term] = field(default_factory=list)
     fields: dict[str, list[str]] = field(default_factory=dict)
-    comments: list[Comment] = field(default_factory=list)
-
-    @property
-    def excerpt(self) -> str:
-        return text_kept(self.kept_excerpt)
 
     def one(self, name: str) -> str:
         """The value of a custom field, or an empty text."""
@@ -142,7 +98,9 @@ class WholeSite:
     title: str = ""
     tagline: str = ""
     language: str = "en"
-    items: dict[int, Item] = field(default_factory=dict)
+    items: dict[int, Item] | DiskDict[int, Item] = field(default_factory=dict)
+    # Those of an item by its number, or none if they weren't asked for.
+    comments: dict[int, list[Comment]] | DiskDict[int, list[Comment]] = field(default_factory=dict)
     # By domain and slug.
     terms: dict[tuple[str, str], Term] = field(default_factory=dict)
     # Display names and numbers, by login.
@@ -259,7 +217,7 @@ class Reader:
             self.parser.Parse(b"", True)
 
 
-def comment_of(element: Element, texts: Texts) -> Comment | None:
+def comment_of(element: Element) -> Comment | None:
     """A comment that everyone may see: approved, and no notice of another site's link."""
     if element.first("wp:comment_approved").strip() != "1":
         return None
@@ -270,12 +228,18 @@ def comment_of(element: Element, texts: Texts) -> Comment | None:
         element.first("wp:comment_author").strip(),
         element.first("wp:comment_author_url").strip(),
         element.first("wp:comment_date").strip(),
-        texts.put(element.first("wp:comment_content")),
+        element.first("wp:comment_content"),
         whole_number(element.first("wp:comment_parent")),
     )
 
 
-def item_of(element: Element, has_comments: bool, terms: dict[tuple[str, str], Term], texts: Texts) -> Item:
+def comments_of(element: Element) -> list[Comment]:
+    """The comments of an item that everyone may see."""
+    found = (comment_of(it) for it in element.children if it.name == "wp:comment")
+    return [it for it in found if it is not None]
+
+
+def item_of(element: Element, terms: dict[tuple[str, str], Term]) -> Item:
     """An item of the channel. Its terms are those of `terms`, which gets those that it hasn't."""
     of = element.first
     made = Item(
@@ -289,7 +253,7 @@ def item_of(element: Element, has_comments: bool, terms: dict[tuple[str, str], T
         intern(of("dc:creator").strip()),
         whole_number(of("wp:post_parent")),
         whole_number(of("wp:menu_order")),
-        texts.put(of("excerpt:encoded")),
+        of("excerpt:encoded"),
         of("wp:post_password"),
         of("wp:attachment_url").strip(),
         of("wp:is_sticky").strip() == "1",
@@ -304,8 +268,6 @@ def item_of(element: Element, has_comments: bool, terms: dict[tuple[str, str], T
             made.terms.append(terms.setdefault(name, Term(0, *name, unescape(it.text()))))
         elif it.name == "wp:postmeta" and KEPT_FIELDS.fullmatch(key := it.first("wp:meta_key").strip()):
             made.fields.setdefault(key, []).append(it.first("wp:meta_value"))
-        elif it.name == "wp:comment" and has_comments and (comment := comment_of(it, texts)):
-            made.comments.append(comment)
     return made
 
 
@@ -338,17 +300,23 @@ TEXTS = {
 }
 
 
-def read_site(path: Path, has_contents: bool = False, has_comments: bool = True) -> WholeSite:
-    """Reads what an export has of a site, and the contents of its items if they are asked for."""
-    site, texts = WholeSite(), Texts()
+def read_site(path: Path, disk: Disk | None = None) -> WholeSite:
+    """Reads what an export has of a site: into memory with contents and without comments, or into a database with
+    comments and without contents."""
+    site = WholeSite()
+    if disk is not None:
+        # (comments can be many, and each page asks for those of its post once)
+        site.items, site.comments = DiskDict(disk), DiskDict(disk, at_hand=1)
     named: dict[tuple[str, str], Term] = {}
 
     def take(element: Element) -> None:
         if element.name == "item":
-            item = item_of(element, has_comments, named, texts)
+            item = item_of(element, named)
             # Of two items with one ID the first that is carried over is meant, as when the export is imported.
             if item.number not in site.items or item.is_carried() and not site.items[item.number].is_carried():
                 site.items[item.number] = item
+                if disk is not None:
+                    site.comments[item.number] = comments_of(element)
         elif element.name in TERMS:
             term = term_of(element)
             site.terms[term.domain, term.slug] = term
@@ -360,7 +328,7 @@ def read_site(path: Path, has_contents: bool = False, has_comments: bool = True)
             setattr(site, TEXTS[element.name], element.text().strip())
 
     try:
-        Reader(take, set() if has_contents else {"content:encoded"}).read(path)
+        Reader(take, {"content:encoded"} if disk is not None else {"wp:comment_content"}).read(path)
     except expat.ExpatError as error:
         raise Refused(f"{path}:{error.lineno}:{error.offset + 1}: the XML is at fault: {error}") from error
     except OSError as error:
