@@ -8,7 +8,8 @@ import socket
 import threading
 from contextlib import contextmanager
 
-from commands import BODY_BYTES, Bad, carry_out, check_token, request_of
+from commands import carry_out, check_token, request_of
+from edit_bodies import Bad, check_length
 from etcd import Refused, Unreachable, WentBack, reason_of
 from replica import Fault
 from serving import NoPage, PageHandler, PageServer
@@ -157,11 +158,7 @@ class Handler(PageHandler):
         self.respond(result.status, "text/plain", "".join(f"{it}\n" for it in result.replies).encode(), headers)
 
     def body(self):
-        size = self.length()
-        if size is None:
-            raise Bad(411, "the body's length has to be told by Content-Length")
-        if size > BODY_BYTES:
-            raise Bad(413, f"the body has {size} bytes, and at most {BODY_BYTES} are taken at once")
+        size = check_length(self.length())
         self.server.allow(self.connection, BODY_SECONDS)
         self.is_read = True
         body = self.rfile.read(size)

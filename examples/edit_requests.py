@@ -11,32 +11,18 @@ known as long as this program serves, the last KEYS of them.
 """
 
 import hashlib
-import hmac
-import json
-import re
-import secrets
 import threading
 from collections import OrderedDict
 from pathlib import Path
 from typing import NamedTuple
 
-from program import LINE_BYTES, NoReply
+from edit_bodies import Bad, key_of
+from program import NoReply
 from running import NotServed, Site, Unknown
 
-EDITS = {"put", "edit", "delete", "option", "activate", "deactivate", "template", "import"}
 COMMAND, HISTORY = b"/command", b"/history"
-# What one request may hold.
-BODY_BYTES, BODY_LINES = 8 << 20, 10_000
-# A client's own key for a request, and how many are known.
-KEY, KEYS = re.compile(r"[!-~]{1,200}"), 10_000
-
-
-class Bad(Exception):
-    """Why a request is refused: the status, what the client is told, and headers that go with it."""
-
-    def __init__(self, status: int, text: str, **headers: str) -> None:
-        super().__init__(text)
-        self.status, self.text, self.headers = status, text, headers
+# How many keys of requests are known.
+KEYS = 10_000
 
 
 class Outcome(NamedTuple):
@@ -55,54 +41,6 @@ def token_of(path: Path) -> bytes:
     return text
 
 
-def check_token(token: bytes, given: str | None) -> None:
-    """Makes sure that a request has the token. The time that this takes doesn't tell how much of one is right."""
-    if not hmac.compare_digest((given or "").encode("utf-8", "replace"), b"Bearer " + token):
-        raise Bad(401, "the token is missing or wrong", WWW_Authenticate="Bearer")
-
-
-def check_length(size: int | None) -> int:
-    """The length that a body has by its headers, if it may have it."""
-    if size is None:
-        raise Bad(411, "the body's length has to be told by Content-Length")
-    if size > BODY_BYTES:
-        raise Bad(413, f"the body has {size} bytes, and at most {BODY_BYTES} are taken at once")
-    return size
-
-
-def lines_of_body(body: bytes) -> list[bytes]:
-    """The edits of a body. Each is looked at before any is carried out."""
-    lines = body.split(b"\n")
-    if not lines[-1]:
-        lines.pop()
-    if not lines:
-        raise Bad(400, "there is no line")
-    if len(lines) > BODY_LINES:
-        raise Bad(413, f"there are {len(lines)} lines, and at most {BODY_LINES} are taken at once")
-    for number, line in enumerate(lines, 1):
-        if why := fault_of(line):
-            raise Bad(400, f"line {number}: {why}")
-    return lines
-
-
-def fault_of(line: bytes) -> str:
-    """Why a line isn't an edit, or an empty text."""
-    if len(line) > LINE_BYTES:
-        return f"it has {len(line)} bytes, and at most {LINE_BYTES} are read"
-    try:
-        command = json.loads(line.decode())
-    except UnicodeDecodeError:
-        return "it isn't UTF-8"
-    except (ValueError, RecursionError):
-        return "it isn't JSON"
-    if not isinstance(command, dict):
-        return "it isn't a JSON object"
-    name = command.get("cmd")
-    if not isinstance(name, str) or name not in EDITS:
-        return "its `cmd` isn't an edit's: " + ", ".join(sorted(EDITS))
-    return ""
-
-
 class Edits:
     """Carries out requests over a site, one after the other, and each of them once."""
 
@@ -112,10 +50,7 @@ class Edits:
 
     def made(self, key: str | None, lines: list[bytes]) -> tuple[str, Outcome]:
         """The key of a request and what became of it, now or when it came before."""
-        if key is None:
-            key = secrets.token_hex(16)
-        elif not KEY.fullmatch(key):
-            raise Bad(400, "Idempotency-Key has 1 to 200 visible ASCII characters")
+        key = key_of(key)
         told = hashlib.sha256(b"\n".join(lines)).digest()
         with self.turn:
             if key not in self.known:
