@@ -14,28 +14,28 @@ use Rattle.hook_machine.specs.declared.run.frames.Pace.TheVariants.{ByTurns, Thr
 use Rattle.hook_machine.specs.declared.run.jobs.Turn.{Turn}
 use Rattle.plain_data.specs.Texts.{Text}
 use Rattle.hook_meaning.specs.World.{World}
-use Rattle.hook_meaning.specs.Trace.{Trace, Done, Turn as turned_to, and_then, outcome_of, turns_of}
+use Rattle.hook_meaning.specs.Trace.{Event, Trace, Done, Turn as turned_to, and_then, outcome_of, turns_of}
 use Rattle.hook_meaning.specs.Meaning.{Engine, invoke}
 use Rattle.hook_machine.specs.Outcomes.{RunsAs}
 use Rattle.hook_machine.specs.Rest.{handed, pending_left, goes_on, rest, then_rest}
-use Rattle.hook_machine.specs.Moves.{through, MayPass, Leads, LeadsOn, Moves, Turns, TurnsBy, Invokes}
+use Rattle.hook_machine.specs.Moves.{made_by, through, MayPass, Leads, LeadsOn, Moves, Turns, TurnsBy, Invokes}
 use Rattle.hook_machine.proofs.Steps.{onto_frame, invoke_none}
 
--- ---- worlds that are passed
+-- ---- invocations that are passed
 
-through_both : {A : Type 0} (xs ys : List World) (t : Trace A) → through (xs ++ ys) t ≡ through xs (through ys t)
+through_both : {A : Type 0} (xs ys : List Event) (t : Trace A) → through (xs ++ ys) t ≡ through xs (through ys t)
 through_both [] ys t = refl
 through_both (x ∷ xs) ys t = ap (turned_to x) (through_both xs ys t)
 
-pub outcome_through : {A : Type 0} (xs : List World) (t : Trace A) → outcome_of (through xs t) ≡ outcome_of t
+pub outcome_through : {A : Type 0} (xs : List Event) (t : Trace A) → outcome_of (through xs t) ≡ outcome_of t
 outcome_through [] t = refl
 outcome_through (x ∷ xs) t = outcome_through xs t
 
-turns_through : {A : Type 0} (xs : List World) (t : Trace A) → length (turns_of t) ≤ length (turns_of (through xs t))
+turns_through : {A : Type 0} (xs : List Event) (t : Trace A) → length (turns_of t) ≤ length (turns_of (through xs t))
 turns_through [] t = omega arith
 turns_through (x ∷ xs) t = omega (arith, turns_through xs t)
 
-may_both : (pace : Pace) (xs ys : List World) → MayPass pace xs → MayPass pace ys → MayPass pace (xs ++ ys)
+may_both : (pace : Pace) (xs ys : List Event) → MayPass pace xs → MayPass pace ys → MayPass pace (xs ++ ys)
 may_both ByTurns xs ys p q = rw (p, q) refl
 may_both Through xs ys p q = tt
 
@@ -43,7 +43,7 @@ pub may_none : (pace : Pace) → MayPass pace []
 may_none ByTurns = refl
 may_none Through = tt
 
-may_any : {pace : Pace} → pace ≡ Through → (xs : List World) → MayPass pace xs
+may_any : {pace : Pace} → pace ≡ Through → (xs : List Event) → MayPass pace xs
 may_any p xs = subst (λ q. MayPass q xs) (sym p) tt
 
 module _ {pace : Pace} {A : Type 0} where
@@ -58,11 +58,11 @@ module _ {pace : Pace} {A : Type 0} where
   }
 
   -- a run that doesn't stop passes an invocation over
-  pub leads_over : {t : Trace A} (world : World) (u : Trace A) → t ≡ turned_to world u → pace ≡ Through → Leads pace t u
-  leads_over world u e p = record { passed = world ∷ []; may = may_any p (world ∷ []); is = e }
+  pub leads_over : {t : Trace A} (event : Event) (u : Trace A) → t ≡ turned_to event u → pace ≡ Through → Leads pace t u
+  leads_over event u e p = record { passed = event ∷ []; may = may_any p (event ∷ []); is = e }
 
   -- what is passed over in a part is passed over in the whole
-  pub leads_under : {B : Type 0} (f : Trace A → Trace B) → ((xs : List World) (t : Trace A) → f (through xs t) ≡ through xs (f t)) → {t u : Trace A}
+  pub leads_under : {B : Type 0} (f : Trace A → Trace B) → ((xs : List Event) (t : Trace A) → f (through xs t) ≡ through xs (f t)) → {t u : Trace A}
       → Leads pace t u → Leads pace (f t) (f u)
   leads_under f same {t} {u} l = record { passed = l.passed; may = l.may; is = ap f l.is ∙ same l.passed u }
 
@@ -94,9 +94,9 @@ ends_refused pace t now OutOfMemory m w = tt
 
 -- by turns nothing is passed over
 pub leads_next : {A : Type 0} {t u : Trace A} → Leads ByTurns t u → t ≡ u
-leads_next {A} {t} {u} l = l.is ∙ ap (λ (xs : List World). through xs u) l.may
+leads_next {A} {t} {u} l = l.is ∙ ap (λ (xs : List Event). through xs u) l.may
 
-pub by_turns : (t : Trace Text) (r : Result Turn RunFault) (w : World) (now : Trace Text) → TurnsBy ByTurns t r w now → Turns t r w now
+pub by_turns : (t : Trace Text) (r : Result Turn RunFault) (w : Event) (now : Trace Text) → TurnsBy ByTurns t r w now → Turns t r w now
 by_turns t (Ok turn) w now m = leads_next m
 by_turns t (Err TooManyCalls) w now m = leads_next m
 by_turns t (Err TooDeep) w now m = leads_next m
@@ -117,12 +117,12 @@ module _ (engine : Engine) where
     invoking_refused t TooDeep v fs e w gs = record { leads = leads_here (ap (λ (t : Trace Text). then_rest engine t fs) e) }
     invoking_refused t OutOfMemory v fs e w gs = record { leads = tt }
 
-    pub answer_handed : (t : Trace Text) (w : World) (x : Text) (fs : List Frame) → t ≡ turned_to w (Done w x) → pace ≡ Through
+    pub answer_handed : (t : Trace Text) (event : Event) (w : World) (x : Text) (fs : List Frame) → t ≡ turned_to event (Done w x) → pace ≡ Through
         → Moves pace engine (then_rest engine t fs) (Ok (Handed x)) w fs
-    answer_handed t w x fs e p = record { leads = leads_over w _ (ap (λ (t : Trace Text). then_rest engine t fs) e) p }
+    answer_handed t event w x fs e p = record { leads = leads_over event _ (ap (λ (t : Trace Text). then_rest engine t fs) e) p }
 
     pub invocation_waits : (t : Trace Text) (w : World) (i : Invoked) (fs fs' : List Frame)
-        → t ≡ turned_to w (pending_left engine w i.callback i.call i.pending) → fs' ≡ frame.Invocation i ∷ fs
+        → t ≡ turned_to (made_by w i) (pending_left engine w i.callback i.call i.pending) → fs' ≡ frame.Invocation i ∷ fs
         → Moves pace engine (then_rest engine t fs) (Ok Turned) w fs'
     unfolding rest goes_on
     invocation_waits t w i fs fs' e f = record { leads = leads_here (rw f (ap (λ (t : Trace Text). then_rest engine t fs) e)) }
@@ -161,15 +161,15 @@ module _ (engine : Engine) where
       onto : Leads pace before (then_rest engine (invoke engine w k call) (f ∷ fs))
       onto = leads_then led (leads_here (ap (λ (t : Trace Text). then_rest engine t fs) goes ∙ onto_frame engine (invoke engine w k call) f fs))
 
-      pub goes_over : (later : World) (x : Text) (next : Trace Text) → invoke engine w k call ≡ turned_to later (Done later x) → pace ≡ Through
+      pub goes_over : (event : Event) (later : World) (x : Text) (next : Trace Text) → invoke engine w k call ≡ turned_to event (Done later x) → pace ≡ Through
           → handed engine later f x ≡ next → Leads pace before (then_rest engine next fs)
-      goes_over later x next e p h =
-          leads_then led (leads_over later (then_rest engine next fs)
+      goes_over event later x next e p h =
+          leads_then led (leads_over event (then_rest engine next fs)
           (ap (λ (t : Trace Text). then_rest engine t fs)
-          (goes ∙ ap (λ (t : Trace Text). and_then t (λ later x. handed engine later f x)) e ∙ ap (turned_to later) h)) p)
+          (goes ∙ ap (λ (t : Trace Text). and_then t (λ later x. handed engine later f x)) e ∙ ap (turned_to event) h)) p)
 
       pub goes_waiting : (later : World) (i : Invoked) (fs' : List Frame)
-          → invoke engine w k call ≡ turned_to later (pending_left engine later i.callback i.call i.pending) → fs' ≡ frame.Invocation i ∷ f ∷ fs
+          → invoke engine w k call ≡ turned_to (made_by later i) (pending_left engine later i.callback i.call i.pending) → fs' ≡ frame.Invocation i ∷ f ∷ fs
           → Moves pace engine before (Ok Turned) later fs'
       goes_waiting later i fs' e q = moves_then (Ok Turned) later fs' onto (invocation_waits (invoke engine w k call) later i (f ∷ fs) fs' e q)
 

@@ -1,5 +1,5 @@
 -- The innermost frame of a stopped run.
-use Rattle.std.proofs.Common.{◌≡◌, false, List, [], ◌∷◌, Option, None, Some, refl, subst}
+use Rattle.std.proofs.Common.{◌≡◌, false, List, [], ◌∷◌, Option, None, Some, refl, sym, ap, subst}
 use Rattle.std.specs.Prelude.{is_some, slice_get}
 use Rattle.hook_machine.specs.declared.run.frames.Invoked.{Invoked}
 use Rattle.hook_machine.specs.declared.run.frames.Pending.{Pending}
@@ -10,7 +10,19 @@ use Rattle.hook_meaning.specs.World.{World}
 use Rattle.hook_meaning.specs.Meaning.{Engine}
 use Rattle.hook_machine.specs.Rest.{rest, goes_on, pending_left, then_rest}
 use Rattle.hook_machine.specs.Jobs.{left_from}
+use Rattle.hook_machine.specs.Moves.{innermost}
 use Rattle.hook_machine.specs.Invocations.{invoked_in}
+
+-- it is the invocation that was just made
+pub innermost-made : (frames : List Frame) (i : Invoked) → invoked_in (slice_get frames 0) ≡ Some i
+    → (i.callback ≡ (innermost frames).callback) × (i.call ≡ (innermost frames).call)
+innermost-made [] i is = cc
+innermost-made (Pass pass ∷ fs) i is = cc
+innermost-made (Shortcodes pass ∷ fs) i is = cc
+innermost-made (Invocation j ∷ fs) i is =
+    let found : Some j ≡ Some i = is in
+    let same : j ≡ i = cc in
+    (ap (λ (k : Invoked). k.callback) (sym same), ap (λ (k : Invoked). k.call) (sym same))
 
 -- what is left begins with what is left of an invocation
 abbrev Begins : Engine → World → Option Job → List Frame → Invoked → Type 0

@@ -204,16 +204,17 @@ module _ (engine : Engine) where
 
   -- core's callback alone, over a text without shortcodes, is passed over
   pub passed_over : {pace : Pace} (world spent : World) (hook value : Text) (args : List Text)
-      → filter_pass (invoke engine) world hook value args ≡ left_by_core world hook value
+      → (call : Call) × (filter_pass (invoke engine) world hook value args ≡ left_by_core world hook call value)
       → pace ≡ Through → spent ≡ record world { calls = world.calls - 1 } → Leads pace (filtered engine world hook value args) (Done spent value)
   unfolding filtered
-  passed_over world spent hook value args is_left through spent_is = rw spent_is (leads_over _ _ is_left through)
+  passed_over world spent hook value args is_left through spent_is = rw spent_is (leads_over _ _ is_left.1 through)
 
   pub core_passed_over : {pace : Pace} (world spent : World) (hook value : Text) (args : List Text) (frames : List Frame)
-      → filter_pass (invoke engine) world hook value args ≡ left_by_core world hook value → pace ≡ Through → spent ≡ record world { calls = world.calls - 1 }
+      → (call : Call) × (filter_pass (invoke engine) world hook value args ≡ left_by_core world hook call value)
+      → pace ≡ Through → spent ≡ record world { calls = world.calls - 1 }
       → Moves pace engine (then_rest engine (filter_pass (invoke engine) world hook value args) frames) (Ok (Handed value)) spent frames
   core_passed_over world spent hook value args frames is_left through spent_is =
-      rw spent_is (record { leads = leads_over _ _ (ap (λ (t : Trace Text). then_rest engine t frames) is_left) through })
+      rw spent_is (record { leads = leads_over _ _ (ap (λ (t : Trace Text). then_rest engine t frames) is_left.1) through })
 
   -- ---- asks
 

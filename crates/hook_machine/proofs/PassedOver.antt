@@ -62,12 +62,12 @@ module _ (engine : Engine) where
   -- core's callback takes a turn, and answers a text without shortcodes as it is
   core_answers : (w : World) (k : ℕ) (call : Call) (v : Text) → k ≡ 0 → 0 < w.calls → w.depth < 32 → first_or_empty call.args ≡ v
       → ((names : List Text) → pieces_of names v ≡ plain_between 0 (length v))
-      → invoke engine w k call ≡ Turn (record w { calls = w.calls - 1 }) (Done (record w { calls = w.calls - 1 }) v)
+      → invoke engine w k call ≡ Turn (record { callback = k; call = call; world = record w { calls = w.calls - 1 } }) (Done (record w { calls = w.calls - 1 }) v)
   unfolding pending_left
   core_answers w k call v z h d f plain =
       let taken : World = record w { calls = w.calls - 1 } in
       turn_core engine w taken k call h (rw z refl) refl
-      ∙ ap (Turn taken) (ap (λ (x : Text). deeper taken (λ inside. shortcodes_pass (invoke engine) inside x)) f
+      ∙ ap (Turn (record { callback = k; call = call; world = taken })) (ap (λ (x : Text). deeper taken (λ inside. shortcodes_pass (invoke engine) inside x)) f
       ∙ deeper_within taken (λ inside. shortcodes_pass (invoke engine) inside v) d
       ∙ ap (λ (t : Trace Text). and_then t (λ later x. Done (record later { depth = later.depth - 1 }) x))
       (plain_text (invoke engine) (record taken { depth = taken.depth + 1 }) v plain)
@@ -75,17 +75,22 @@ module _ (engine : Engine) where
 
   pub core_leaves : (w : World) (hook v : Text) (args : List Text) → IsCoreAlone w.table hook → is_hook_name hook ≡ true → 0 < w.calls → w.depth < 32
       → ((names : List Text) → pieces_of names v ≡ plain_between 0 (length v))
-      → filter_pass (invoke engine) w hook v args ≡ left_by_core w hook v
+      → (call : Call) × (filter_pass (invoke engine) w hook v args ≡ left_by_core w hook call v)
   core_leaves w hook v args alone named h d plain =
       let r : Registration = alone.only in
       let entered : World = record w { running = w.running ++ hook ∷ [] } in
       let taken : World = record entered { calls = w.calls - 1 } in
-      filter_named (invoke engine) w hook v args named
-      ∙ pass_begins engine w Filter hook v args
-      ∙ pass_above engine entered Filter hook args v None r.priority (first_of_one w.table hook r alone.alone)
-      ∙ ap (λ (es : List Entry). pass_from engine entered Filter hook args v (Some r.priority) es) (group_of_one w.table hook r alone.alone)
-      ∙ pass_cons engine entered Filter hook args v (Some r.priority) (entry_of r) []
-      ∙ ap (λ (t : Trace Text). and_then t (λ later x. pass_from engine later Filter hook args x (Some r.priority) []))
-      (core_answers entered r.callback (hook_call hook (take r.accepted (v ∷ args))) v alone.core h d (first_argument r.accepted v args alone.takes) plain)
-      ∙ ap (Turn taken) (pass_none engine taken Filter hook args v (Some r.priority) (none_above w.table hook r alone.alone)
-      ∙ ap (λ (hooks : List Text). Done (record taken { running = hooks }) v) (left_again w.running hook))
+      let call : Call = hook_call hook (take r.accepted (v ∷ args)) in (
+        call,
+        filter_named (invoke engine) w hook v args named
+            ∙ pass_begins engine w Filter hook v args
+            ∙ pass_above engine entered Filter hook args v None r.priority (first_of_one w.table hook r alone.alone)
+            ∙ ap (λ (es : List Entry). pass_from engine entered Filter hook args v (Some r.priority) es) (group_of_one w.table hook r alone.alone)
+            ∙ pass_cons engine entered Filter hook args v (Some r.priority) (entry_of r) []
+            ∙ ap (λ (t : Trace Text). and_then t (λ later x. pass_from engine later Filter hook args x (Some r.priority) []))
+            (core_answers entered r.callback call v alone.core h d (first_argument r.accepted v args alone.takes) plain)
+            ∙ ap (Turn (record { callback = r.callback; call = call; world = taken }))
+            (pass_none engine taken Filter hook args v (Some r.priority) (none_above w.table hook r alone.alone)
+            ∙ ap (λ (hooks : List Text). Done (record taken { running = hooks }) v) (left_again w.running hook))
+            ∙ ap (λ k. Turn (record { callback = k; call = call; world = taken }) (Done (record w { calls = w.calls - 1 }) v)) alone.core,
+      )

@@ -29,7 +29,7 @@ use Rattle.hook_machine.specs.declared.run.pieces.Work.{Work}
 use Rattle.hook_machine.specs.declared.run.pieces.Work.TheVariants as work
 use Rattle.plain_data.specs.Texts.{Text}
 use Rattle.hook_meaning.specs.World.{World}
-use Rattle.hook_meaning.specs.Trace.{Trace, Done, Refused, Turn, and_then}
+use Rattle.hook_meaning.specs.Trace.{Event, Trace, Done, Refused, Turn, and_then}
 use Rattle.hook_meaning.specs.Meaning.{Engine, Invocation, hook_call, arguments, value_after, group_pass, priorities_pass, pass, filter_pass, action_pass}
 use Rattle.hook_meaning.specs.Meaning.{piece_pass, pieces_pass, shortcodes_pass, answered, deeper, follow, reply_to_call, invoked, invoked_with, invoke}
 use Rattle.hook_meaning.specs.Meaning.{world_after_reply}
@@ -183,33 +183,35 @@ module _ (engine : Engine) where
 
   -- ---- invocations
 
+  abbrev made : ℕ → Call → World → Event
+  made k call w = record { callback = k; call = call; world = w }
+
   pub invoke_none : (w : World) (k : ℕ) (call : Call) → w.calls ≡ 0 → invoke engine w k call ≡ Refused TooManyCalls
   unfolding invoked_with
   invoke_none w k call h = invoke-step engine w k call ∙ ap (λ n. invoked_with engine (invoke engine) n w k call) h
 
   invoked_core : (w : World) (k : ℕ) (call : Call) → (k == 0) ≡ true
-      → invoked engine (invoke engine) w k call ≡ Turn w (deeper w (λ inside. shortcodes_pass (invoke engine) inside (first_or_empty call.args)))
+      → invoked engine (invoke engine) w k call ≡ Turn (made k call w) (deeper w (λ inside. shortcodes_pass (invoke engine) inside (first_or_empty call.args)))
   unfolding invoked
   invoked_core w k call h = rw h refl
 
   -- core's callback takes a turn, and its shortcode pass is left
   pub turn_core : (w taken : World) (k : ℕ) (call : Call) → 0 < w.calls → (k == 0) ≡ true → taken ≡ record w { calls = w.calls - 1 }
-      → invoke engine w k call ≡ Turn taken (pending_left engine taken k call Core)
+      → invoke engine w k call ≡ Turn (made k call taken) (pending_left engine taken k call Core)
   unfolding pending_left
   turn_core w taken k call h n t = rw t (invoke_some engine w k call h ∙ invoked_core (record w { calls = w.calls - 1 }) k call n)
 
   invoked_other : (w : World) (k : ℕ) (call : Call) → (k == 0) ≡ false → invoked engine (invoke engine) w k call
-      ≡ Turn (world_after_reply engine w (reply_to_call engine k call)) (follow (invoke engine) (world_after_reply engine w (reply_to_call engine k call)) k
-      call (reply_to_call engine k call).next)
+      ≡ Turn (made k call (world_after_reply engine w (reply_to_call engine k call)))
+      (follow (invoke engine) (world_after_reply engine w (reply_to_call engine k call)) k call (reply_to_call engine k call).next)
   unfolding invoked
   invoked_other w k call h = rw h refl
 
   -- a plugin's callback takes a turn: its echo and its changes are carried out, and how it goes on is left
   turn_other : (w taken : World) (k : ℕ) (call : Call) → 0 < w.calls → (k == 0) ≡ false → taken ≡ record w { calls = w.calls - 1 }
       → invoke engine w k call
-      ≡ Turn (world_after_reply engine taken (reply_to_call engine k call)) (pending_left engine (world_after_reply engine taken (reply_to_call engine k call))
-      k call
-      (Next (reply_to_call engine k call).next))
+      ≡ Turn (made k call (world_after_reply engine taken (reply_to_call engine k call)))
+      (pending_left engine (world_after_reply engine taken (reply_to_call engine k call)) k call (Next (reply_to_call engine k call).next))
   unfolding pending_left
   turn_other w taken k call h n t = rw t (invoke_some engine w k call h ∙ invoked_other (record w { calls = w.calls - 1 }) k call n)
 
@@ -217,12 +219,12 @@ module _ (engine : Engine) where
   turn_by : (b : Bool) (w taken : World) (k : ℕ) (call : Call) (found : World × Pending) → (k == 0) ≡ b → 0 < w.calls
       → taken ≡ record w { calls = w.calls - 1 }
       → found ≡ cond b (taken, Core) (world_after_reply engine taken (reply_to_call engine k call), Next (reply_to_call engine k call).next)
-      → invoke engine w k call ≡ Turn found.0 (pending_left engine found.0 k call found.1)
+      → invoke engine w k call ≡ Turn (made k call found.0) (pending_left engine found.0 k call found.1)
   turn_by true w taken k call found n h t e = rw e (turn_core w taken k call h n t)
   turn_by false w taken k call found n h t e = rw e (turn_other w taken k call h n t)
 
   pub turn_begun : (w taken : World) (k : ℕ) (call : Call) (found : World × Pending) → 0 < w.calls → taken ≡ record w { calls = w.calls - 1 }
-      → found ≡ after_call engine taken k call → invoke engine w k call ≡ Turn found.0 (pending_left engine found.0 k call found.1)
+      → found ≡ after_call engine taken k call → invoke engine w k call ≡ Turn (made k call found.0) (pending_left engine found.0 k call found.1)
   turn_begun w taken k call found h t e = turn_by (k == 0) w taken k call found refl h t e
 
   -- a callback's answer is handed on

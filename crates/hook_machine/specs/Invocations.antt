@@ -1,4 +1,4 @@
--- The invocation that is a stopped run's innermost frame.
+-- The invocation that is a stopped run's innermost frame, which its last turn has made.
 use Rattle.std.specs.Prelude.{◌≡◌, ℕ, ℤ, ◌==◌, if◌then◌else◌, List, Option, None, Some, option_map, slice_get}
 use Rattle.hook_changes.specs.declared.reply.Call.{Call}
 use Rattle.hook_changes.specs.declared.reply.Reply.{Reply}
@@ -38,12 +38,12 @@ invoked_in (Some (Pass pass)) = None
 invoked_in (Some (Invocation i)) = Some i
 invoked_in (Some (Shortcodes pass)) = None
 
-abbrev pub made_by : World → Option ℤ → Invoked → Made
-made_by world priority i = record { callback = i.callback; call = i.call; priority = priority; depth = world.depth }
+abbrev pub shown_by : World → Option ℤ → Invoked → Made
+shown_by world priority i = record { callback = i.callback; call = i.call; priority = priority; depth = world.depth }
 
 -- that of the innermost frame, if a job has begun; its pass is the next frame
 abbrev pub made_in : World → Option Job → List Frame → Option Made
-made_in world None frames = option_map (made_by world (reached_by (slice_get frames 1))) (invoked_in (slice_get frames 0))
+made_in world None frames = option_map (shown_by world (reached_by (slice_get frames 1))) (invoked_in (slice_get frames 0))
 made_in world (Some job) frames = None
 
 -- that of a run that is put aside

@@ -2,6 +2,8 @@
 use Rattle.std.specs.Prelude.{◌≡◌, ℕ, zero, suc, ◌+◌, ◌≤◌, List, [], ◌∷◌, Option, None, Some, Result, Ok, Err, ⊤}
 use Rattle.hook_meaning.specs.declared.fault.RunFault.{RunFault}
 use Rattle.hook_machine.specs.declared.run.pieces.Matched.{Matched}
+use Rattle.hook_machine.specs.declared.run.frames.Invoked.{Invoked}
+use Rattle.hook_machine.specs.declared.run.frames.Pending.TheVariants.{Core}
 use Rattle.hook_machine.specs.declared.run.frames.Frame.{Frame}
 use Rattle.hook_machine.specs.declared.run.frames.Frame.TheVariants.{Pass, Invocation, Shortcodes}
 use Rattle.hook_machine.specs.declared.run.frames.Pace.{Pace}
@@ -14,30 +16,42 @@ use Rattle.hook_machine.specs.declared.run.jobs.Turn.{Turn}
 use Rattle.hook_machine.specs.declared.run.jobs.Turn.TheVariants as turn
 use Rattle.plain_data.specs.Texts.{Text}
 use Rattle.hook_meaning.specs.World.{World}
-use Rattle.hook_meaning.specs.Trace.{Trace, Done, Refused, Turn as turned_to}
-use Rattle.hook_meaning.specs.Meaning.{Engine}
+use Rattle.hook_meaning.specs.Trace.{Event, Trace, Done, Refused, Turn as turned_to}
+use Rattle.hook_meaning.specs.Meaning.{Engine, hook_call}
 use Rattle.hook_machine.specs.Outcomes.{UnlessOutOfMemory}
 use Rattle.hook_machine.specs.Rest.{pending_left, rest, rest_with, then_rest}
 
--- what is left of a run after a move: the world of the invocation, and then its frames; or its frames, once the result
+-- the invocation that was just made, with the world that it left
+abbrev pub made_by : World → Invoked → Event
+made_by world invoked = record { callback = invoked.callback; call = invoked.call; world = world }
+
+-- the invocation of the innermost frame; a pass is none, and says nothing
+abbrev pub innermost : List Frame → Invoked
+innermost (Invocation i ∷ frames) = i
+innermost frames = record { callback = 0; call = hook_call [] []; pending = Core }
+
+abbrev pub made_at : World → List Frame → Event
+made_at world frames = made_by world (innermost frames)
+
+-- what is left of a run after a move: the invocation that was made, and then its frames; or its frames, once the result
 -- is handed on
 abbrev pub still_left : Engine → Move → World → List Frame → Trace Text
-still_left engine Turned world frames = turned_to world (rest engine world frames)
+still_left engine Turned world frames = turned_to (made_at world frames) (rest engine world frames)
 still_left engine (Handed x) world frames = rest_with engine world frames x
 
--- the invocations that lead to these worlds, and then what is left
-abbrev pub through : {A : Type 0} → List World → Trace A → Trace A
+-- these invocations, and then what is left
+abbrev pub through : {A : Type 0} → List Event → Trace A → Trace A
 through [] left = left
-through (world ∷ worlds) left = turned_to world (through worlds left)
+through (event ∷ events) left = turned_to event (through events left)
 
 -- a run by turns passes no invocation over
-abbrev pub MayPass : Pace → List World → Type 0
+abbrev pub MayPass : Pace → List Event → Type 0
 MayPass ByTurns passed = passed ≡ []
 MayPass Through passed = ⊤
 
 -- what was left leads to what is left now, after the invocations that were passed over
 pub record Leads (pace : Pace) {A : Type 0} (before now : Trace A) : Type 0 where
-  pub passed : List World
+  pub passed : List Event
   pub may : MayPass pace passed
   pub is : before ≡ through passed now
 
@@ -63,10 +77,15 @@ abbrev pub MayAnswer : Pace → Went → Type 0
 MayAnswer pace (Answered invoked text) = pace ≡ Through
 MayAnswer pace (Waits invoked) = ⊤
 
+-- the invocation that has taken its turn
+abbrev pub went_by : World → Went → Event
+went_by world (Answered invoked text) = made_by world invoked
+went_by world (Waits invoked) = made_by world invoked
+
 -- the invocation takes its turn, and what is left of it is what it came to; or it is the fault; or memory ran out
 abbrev pub Invokes : Engine → Trace Text → Result Went RunFault → World → Type 0
 Invokes engine invocation result world =
-    UnlessOutOfMemory result (λ went. invocation ≡ turned_to world (went_left engine world went)) (λ fault. invocation ≡ Refused fault)
+    UnlessOutOfMemory result (λ went. invocation ≡ turned_to (went_by world went) (went_left engine world went)) (λ fault. invocation ≡ Refused fault)
 
 -- how many frames may come in place of one that is handed a result: a handler's answer goes through a filter
 abbrev pub room_of_match : Option Matched → ℕ
@@ -94,18 +113,18 @@ abbrev pub way_of : Move → List Frame → ℕ
 way_of Turned frames = zero
 way_of (Handed x) frames = suc (weight_of frames)
 
--- what a turn leads to: the next world, and then what is left now; or the result
-abbrev pub trace_of_turn : Turn → World → Trace Text → Trace Text
-trace_of_turn turn.More world now = turned_to world now
-trace_of_turn (turn.Done x) world now = Done world x
+-- what a turn leads to: the invocation that was made, and then what is left now; or the result, in the last world
+abbrev pub trace_of_turn : Turn → Event → Trace Text → Trace Text
+trace_of_turn turn.More made now = turned_to made now
+trace_of_turn (turn.Done x) made now = Done made.world x
 
 -- what was left is what the turn leads to; or it is the fault; or memory ran out
-abbrev pub Turns : Trace Text → Result Turn RunFault → World → Trace Text → Type 0
-Turns left result world now = UnlessOutOfMemory result (λ turn. left ≡ trace_of_turn turn world now) (λ fault. left ≡ Refused fault)
+abbrev pub Turns : Trace Text → Result Turn RunFault → Event → Trace Text → Type 0
+Turns left result made now = UnlessOutOfMemory result (λ turn. left ≡ trace_of_turn turn made now) (λ fault. left ≡ Refused fault)
 
 -- the same of a run that may pass invocations over
-abbrev pub TurnsBy : Pace → Trace Text → Result Turn RunFault → World → Trace Text → Type 0
-TurnsBy pace left result world now = LeadsOn pace left (λ turn. trace_of_turn turn world now) result
+abbrev pub TurnsBy : Pace → Trace Text → Result Turn RunFault → Event → Trace Text → Type 0
+TurnsBy pace left result made now = LeadsOn pace left (λ turn. trace_of_turn turn made now) result
 
 -- nothing is left of a job that is done
 abbrev pub IsOver : Result Turn RunFault → List Frame → Type 0

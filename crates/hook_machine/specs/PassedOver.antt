@@ -1,5 +1,6 @@
 -- A pass that leaves its value as it is.
 use Rattle.std.specs.Prelude.{◌≡◌, ◌-◌, ◌<◌, [], ◌∷◌, ◌++◌}
+use Rattle.hook_changes.specs.declared.reply.Call.{Call}
 use Rattle.hook_registry.specs.declared.registration.Registration.{Registration}
 use Rattle.hook_registry.specs.Table.{Table, registrations}
 use Rattle.plain_data.specs.Texts.{Text}
@@ -13,7 +14,8 @@ pub record IsCoreAlone (table : Table) (hook : Text) : Type 0 where
   pub core : only.callback ≡ 0
   pub takes : 0 < only.accepted
 
--- core's callback takes a call in the hook, and the value is as it was
-abbrev pub left_by_core : World → Text → Text → Trace Text
-left_by_core world hook value =
-    Turn (record world { calls = world.calls - 1; running = world.running ++ hook ∷ [] }) (Done (record world { calls = world.calls - 1 }) value)
+-- core's callback is invoked with this call in the hook, and the value is as it was
+abbrev pub left_by_core : World → Text → Call → Text → Trace Text
+left_by_core world hook call value =
+    Turn (record { callback = 0; call = call; world = record world { calls = world.calls - 1; running = world.running ++ hook ∷ [] } })
+    (Done (record world { calls = world.calls - 1 }) value)

@@ -81,6 +81,7 @@ impl<'a, S: Stated> Run<'a, S> {
     ghost use Rattle.hook_machine.specs.Moves.{Leads, TurnsBy};
     ghost use Rattle.hook_machine.specs.Jobs.{job_left};
     ghost use Rattle.hook_machine.specs.Runs.{world_of, fault_of, engine_of, left_of, left_in};
+    ghost use Rattle.hook_machine.specs.Runs.{last_event, paused_event};
     ghost use Rattle.hook_machine.specs.Runs.{CanBegin, IsIdle, IsReady, IsIdleAtEnd};
     ghost use Rattle.hook_machine.specs.Runs.{Keeps, paused_world, paused_left, IsPausedIdle};
 
@@ -148,7 +149,7 @@ impl<'a, S: Stated> Run<'a, S> {
     pub fn go_on(&mut self, pace: Pace, cache: &mut PieceCache) -> Result<Turn, RunFault>
         ensures turns { fault_of self.old ≡ None →
             TurnsBy pace (left_of (engine_of S.says S.number self.old) self.old) result
-            (world_of self.new)
+            (last_event self.new)
             (left_of (engine_of S.says S.number self.old) self.new) }
         ensures idle { IsIdleAtEnd result self.new }
         ensures keeps { Keeps S.says S.number self.old result self.new }
@@ -250,6 +251,7 @@ impl<'a, S: Stated> Run<'a, S> {
         requires sound { fault_of self ≡ None }
         ensures world { paused_world result ≡ world_of self.entry }
         ensures left { (engine : Engine) → paused_left engine result ≡ left_of engine self.entry }
+        ensures event { paused_event result ≡ last_event self.entry }
         ensures idle { IsIdle self.entry → IsPausedIdle result }
     {
         let Run {
@@ -267,6 +269,7 @@ impl PausedRun {
     ghost use Rattle.hook_meaning.specs.Meaning.{Engine};
     ghost use Rattle.hook_machine.specs.Runs.{world_of, fault_of, engine_of, left_of, IsIdle};
     ghost use Rattle.hook_machine.specs.Runs.{paused_world, paused_left, IsPausedIdle};
+    ghost use Rattle.hook_machine.specs.Runs.{last_event, paused_event};
     ghost use Rattle.hook_machine.specs.Outcomes.{engine_over};
 
     /// Goes on with the run. The plugins are those that it was made with: over others it goes on as
@@ -274,6 +277,7 @@ impl PausedRun {
     pub fn resume<S: Stated>(self, plugins: &Plugins<S>) -> Run<'_, S>
         ensures world { world_of result ≡ paused_world self }
         ensures left { (engine : Engine) → left_of engine result ≡ paused_left engine self }
+        ensures event { last_event result ≡ paused_event self }
         ensures idle { IsPausedIdle self → IsIdle result }
         ensures sound { fault_of result ≡ None }
         ensures engine { engine_of S.says S.number result

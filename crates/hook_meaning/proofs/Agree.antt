@@ -24,7 +24,7 @@ use Rattle.shortcode_scan.specs.declared.Piece.TheVariants.{Plain, Match}
 use Rattle.callback_store.specs.Shape.{Shape}
 use Rattle.plain_data.specs.Texts.{Text}
 use Rattle.hook_meaning.specs.World.{World, world_after_change, world_after_changes}
-use Rattle.hook_meaning.specs.Trace.{Trace, Done, Refused, Turn, and_then, work_if}
+use Rattle.hook_meaning.specs.Trace.{Event, Trace, Done, Refused, Turn, and_then, work_if}
 use Rattle.hook_meaning.specs.Meaning.{Engine, Invocation, deeper, group_pass, priorities_pass, pass, filter_pass, action_pass, shortcode_filter, handled}
 use Rattle.hook_meaning.specs.Meaning.{piece_pass, pieces_pass, shortcodes_pass, answered, follow, reply_to_call, world_after_reply, invoked, invoked_with}
 use Rattle.hook_meaning.specs.Meaning.{invoke_within, invoke}
@@ -39,12 +39,12 @@ Within I c w = (w.calls ≤ c) × I w
 pub data Agree {A : Type 0} (I : World → Type 0) : ℕ → Trace A → Trace A → Type 0 where
   agree_done : {c : ℕ} {w : World} {x : A} → Within I c w → Agree I c (Done w x) (Done w x)
   agree_refused : {c : ℕ} {f : RunFault} → Agree I c (Refused f) (Refused f)
-  agree_turn : {c : ℕ} {w : World} {t u : Trace A} → I w → Agree I c t u → Agree I (suc c) (Turn w t) (Turn w u)
+  agree_turn : {c : ℕ} {e : Event} {t u : Trace A} → I e.world → Agree I c t u → Agree I (suc c) (Turn e t) (Turn e u)
 
 pub agree-same : {A : Type 0} {I : World → Type 0} {c : ℕ} {t u : Trace A} → Agree I c t u → t ≡ u
 agree-same (agree_done h) = refl
 agree-same agree_refused = refl
-agree-same (agree_turn {w = w} i r) = ap (Turn w) (agree-same r)
+agree-same (agree_turn {e = e} i r) = ap (Turn e) (agree-same r)
 
 pub agree_more : {A : Type 0} {I : World → Type 0} {c : ℕ} (d : ℕ) {t u : Trace A} → c ≤ d → Agree I c t u → Agree I d t u
 agree_more d h (agree_done k) = agree_done (omega (arith, h, k.0), k.1)
@@ -237,14 +237,17 @@ module _ (one other : Engine) (I : World → Type 0) (P : ℕ → Type 0) (both 
       follows = agree_follow one other I P both c i j s c (omega arith) later k call reply.next n
           (subst (λ m. m ≤ c) (sym (changed_all-calls one.plugins printed reply.changes)) h.0, kept)
 
-      own : (k == 0) ≡ false → Agree I (suc c) (Turn later (follow i later k call reply.next))
-          (Turn (world_after_reply other w (reply_to_call other k call)) (follow j (world_after_reply other w (reply_to_call other k call)) k call
+      made : World → Event
+      made v = record { callback = k; call = call; world = v }
+
+      own : (k == 0) ≡ false → Agree I (suc c) (Turn (made later) (follow i later k call reply.next))
+          (Turn (made (world_after_reply other w (reply_to_call other k call))) (follow j (world_after_reply other w (reply_to_call other k call)) k call
           (reply_to_call other k call).next))
       own e =
-          subst (λ r. Agree I (suc c) (Turn later (follow i later k call reply.next))
-          (Turn (world_after_reply other w r) (follow j (world_after_reply other w r) k call r.next)))
+          subst (λ r. Agree I (suc c) (Turn (made later) (follow i later k call reply.next))
+          (Turn (made (world_after_reply other w r)) (follow j (world_after_reply other w r) k call r.next)))
           (both.said k call n e)
-          (subst (λ v. Agree I (suc c) (Turn later (follow i later k call reply.next)) (Turn v (follow j v k call reply.next)))
+          (subst (λ v. Agree I (suc c) (Turn (made later) (follow i later k call reply.next)) (Turn (made v) (follow j v k call reply.next)))
           (changed_all-agree printed reply.changes (both.keep.output w _ h.1)) (agree_turn kept follows))
 
   agree_with : (c : ℕ) (i j : Invocation) → ((d : ℕ) → suc d ≤ c → SameBelow I P d i j) → (left : ℕ) → left ≤ c → (w : World) (k : ℕ) (call : Call) → P k → I w

@@ -7,14 +7,14 @@ use Rattle.hook_meaning.specs.declared.fault.RunFault.{RunFault}
 use Rattle.hook_meaning.specs.declared.pass_kind.PassKind.TheVariants.{Action}
 use Rattle.plain_data.specs.Texts.{Text}
 use Rattle.hook_meaning.specs.World.{World}
-use Rattle.hook_meaning.specs.Trace.{Trace, Done, Refused, Turn, and_then, work_if, Ended, outcome_of}
+use Rattle.hook_meaning.specs.Trace.{Event, Trace, Done, Refused, Turn, and_then, work_if, Ended, outcome_of}
 use Rattle.hook_meaning.specs.Meaning.{Invocation, group_pass, priorities_pass, pass, action_pass, with_firing}
 
 -- if the work has a result, it is this one
 pub data Gives {A : Type 0} (x : A) : Trace A → Type 0 where
   gives_done : {w : World} → Gives x (Done w x)
   gives_refused : {f : RunFault} → Gives x (Refused f)
-  gives_turn : {w : World} {t : Trace A} → Gives x t → Gives x (Turn w t)
+  gives_turn : {e : Event} {t : Trace A} → Gives x t → Gives x (Turn e t)
 
 gives_then : {A B : Type 0} (x : B) (t : Trace A) (f : World → A → Trace B) → ((w : World) (y : A) → Gives x (f w y)) → Gives x (and_then t f)
 gives_then x (Done w y) f k = k w y

@@ -15,7 +15,7 @@ use Rattle.hook_meaning.specs.declared.fault.RunFault.TheVariants.{TooManyCalls}
 use Rattle.hook_meaning.specs.declared.pass_kind.PassKind.{PassKind}
 use Rattle.plain_data.specs.Texts.{Text}
 use Rattle.hook_meaning.specs.World.{World}
-use Rattle.hook_meaning.specs.Trace.{Trace, Done, Refused, Turn, and_then, work_if}
+use Rattle.hook_meaning.specs.Trace.{Event, Trace, Done, Refused, Turn, and_then, work_if}
 use Rattle.hook_meaning.specs.Meaning.{Engine, hook_call, group_pass, priorities_pass, reply_to_call, invoked, invoked_with, invoke}
 use Rattle.hook_meaning.proofs.Agree.{Agree, SameBelow, agree_done, agree_refused, agree_turn, agree_group, agree_deeper, agree_shortcodes, agree_follow}
 use Rattle.hook_meaning.proofs.Agree.{changed_all-calls, invoke-agree, Any, keeps_any, Every, every, plain, invoke-step}
@@ -36,7 +36,7 @@ then_under (Turn w t) f g h = ap (Turn w) (then_under t f g h)
 pub data Leaves {A : Type 0} (c : ℕ) : Trace A → Type 0 where
   leaves_done : {w : World} {x : A} → w.calls ≤ c → Leaves c (Done w x)
   leaves_refused : {f : RunFault} → Leaves c (Refused f)
-  leaves_turn : {w : World} {t : Trace A} → Leaves c t → Leaves c (Turn w t)
+  leaves_turn : {e : Event} {t : Trace A} → Leaves c t → Leaves c (Turn e t)
 
 leaves_more : {A : Type 0} {c : ℕ} (d : ℕ) {t : Trace A} → c ≤ d → Leaves c t → Leaves d t
 leaves_more d h (leaves_done k) = leaves_done (omega (arith, h, k))
@@ -63,7 +63,7 @@ pub then_same : {A B : Type 0} {c : ℕ} {t : Trace A} (f g : World → A → Tr
     → and_then t f ≡ and_then t g
 then_same f g (leaves_done {w = w} {x = x} h) k = k w x h
 then_same f g leaves_refused k = refl
-then_same f g (leaves_turn {w = w} r) k = ap (Turn w) (then_same f g r k)
+then_same f g (leaves_turn {e = e} r) k = ap (Turn e) (then_same f g r k)
 
 module _ (engine : Engine) where
   -- an invocation brings no call back

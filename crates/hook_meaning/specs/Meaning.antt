@@ -75,8 +75,9 @@ module _ (invocation : Invocation) (kind : PassKind) (hook : Text) (args : List 
       and_then (invocation world e.callback (hook_call hook (take e.accepted (arguments kind value args))))
       (λ after result. group_pass after (value_after kind value result) es)
 
-  -- the groups from a priority on, each as the table has it when it is reached. Each has an entry, so there are at most
-  -- as many as calls are left
+  -- The groups from a priority on, each as the table has it when it is reached. Each has an entry, so there are at most as
+  -- many as calls are left: their count goes down so that the definition ends, and `zero` is never reached. By the law
+  -- `bounds_change_nothing` a pass goes from the `group` of a priority to what comes `after` it, whatever the count.
   unfoldable pub priorities_pass : ℕ → World → Text → Option ℤ → Trace Text
   priorities_pass calls world value None = Done world value
   priorities_pass zero world value (Some priority) = Refused TooManyCalls
@@ -211,11 +212,13 @@ module _ (engine : Engine) where
   unfoldable pub invoked : Invocation → World → ℕ → Call → Trace Text
   invoked invocation world callback call =
       work_if (callback == 0)
-      (λ w. Turn w (deeper w (λ inside. shortcodes_pass invocation inside (first_or_empty call.args))))
+      (λ w.
+      Turn (record { callback = callback; call = call; world = w })
+      (deeper w (λ inside. shortcodes_pass invocation inside (first_or_empty call.args))))
       (λ w.
       let reply = reply_to_call callback call in
       let later = world_after_reply w reply in
-      Turn later (follow invocation later callback call reply.next))
+      Turn (record { callback = callback; call = call; world = later }) (follow invocation later callback call reply.next))
       world
 
   -- an invocation with that many calls left
@@ -223,7 +226,8 @@ module _ (engine : Engine) where
   invoked_with invocation zero world callback call = Refused TooManyCalls
   invoked_with invocation (suc left) world callback call = invoked invocation (record world { calls = left }) callback call
 
-  -- the invocations with no more calls left than these
+  -- The invocations with no more calls left than these: the count goes down so that the definition ends. By the law
+  -- `bounds_change_nothing` an invocation is `invoked_with`, over itself and the calls that are left.
   unfoldable pub invoke_within : ℕ → Invocation
   invoke_within zero world callback call = Refused TooManyCalls
   invoke_within (suc calls) world callback call = invoked_with (invoke_within calls) world.calls world callback call

@@ -11,7 +11,7 @@ use Rattle.hook_meaning.specs.Meaning.{Engine, invoke, action_pass}
 abbrev pub worlds_of : {A : Type 0} → Trace A → List World
 worlds_of (Done world x) = world ∷ []
 worlds_of (Refused fault) = []
-worlds_of (Turn world rest) = world ∷ worlds_of rest
+worlds_of (Turn event rest) = event.world ∷ worlds_of rest
 
 -- the fact holds in each of them
 abbrev pub Throughout : {A : Type 0} → (World → Type 0) → Trace A → Type 0

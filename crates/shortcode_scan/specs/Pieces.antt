@@ -64,12 +64,13 @@ match_from names text i = do
   k ← first_place (λ k. is_some (match_at names text k)) i (length text)
   match_at names text k
 
--- the pieces from place i on, of which fewer than n are matches
+-- the pieces from place i on, of which fewer than n are matches: n counts down so that the definition ends
 unfoldable pub pieces_within : List (List ℕ) → List ℕ → ℕ → ℕ → List Piece
 pieces_within names text zero i = []
 pieces_within names text (suc n) i =
     option_map_or (λ p. plain_between i (start_of p) ++ (p ∷ pieces_within names text n (end_of p))) (match_from names text i) (plain_between i (length text))
 
--- the pieces of the text, as a list: the only one that `IsPieces` allows (do_shortcode)
+-- The pieces of the text, as a list: the only one that `IsPieces` allows (do_shortcode). A text has fewer matches than
+-- this count, and no other count gives another list: the law `one_cut`.
 abbrev pub pieces_of : List (List ℕ) → List ℕ → List Piece
 pieces_of names text = pieces_within names text (length text + 1) 0

@@ -23,7 +23,7 @@ use Rattle.post_tables.specs.Faults.{IsStoreReadFault}
 use Rattle.site_edits.specs.Late.{rests_on_rows, may_be_late}
 use Rattle.site_program.specs.Requests.{Opened, requested, refusal_of}
 use Rattle.site_program.specs.State.{State, page_in, with_page, without_page, after_turns}
-use Rattle.site_program.specs.Step.{got, begun, turned, over_rows, is_edit, may_be_late_at, max_path, IsLeftBy}
+use Rattle.site_program.specs.Step.{got, begun, turned, over_rows, is_edit, may_be_late_at, max_path, IsLeftBy, unchanged, closed}
 use Rattle.site_program.specs.Site.{opened_as}
 use Rattle.site_program.specs.Carried.{CarriesOn}
 use Rattle.site_program.proofs.Pages.{got-undone}
@@ -47,7 +47,7 @@ over-rows command site meant (Ok reply) rows late done = record { ok = ap (over_
 over-rows command site meant (Err fault) rows late done =
     let same = ap (λ (r : Rows). record site { rows = r }) done.err in record {
       ok = tt;
-      err = inl same;
+      err = unchanged same;
       late = λ is. record { same = same; late = late (done.late is) };
     }
 
@@ -97,7 +97,7 @@ module _ (engine : Engine) (calls : ℕ) (site : State) (path : List ℕ) where
         → IsStoreReadFault site.rows.step_limit why → CarriesOn (Some (asked.begin path)) site (begun engine calls site path) (Err why) new
     begun-stopped place new why free same stopped = record {
       ok = tt;
-      err = inl same;
+      err = unchanged same;
       late = λ is. record { same = same; late = begun-late place why free stopped is };
     }
 
@@ -117,7 +117,7 @@ module _ (site : State) (page count : ℕ) (new : State) where
 
   pub turned-forgone : (why : StoreFault) → new ≡ with_page site (page - 1) None → why ≡ store.OutOfMemory
       → CarriesOn (Some (asked.turns page count)) site (turned site page count) (Err why) new
-  turned-forgone why closed memory = record { ok = tt; err = inr closed; late = λ is. absurd (let clash = sym memory ∙ is in cc) }
+  turned-forgone why gone memory = record { ok = tt; err = closed gone; late = λ is. absurd (let clash = sym memory ∙ is in cc) }
 
   -- a page that is refused is closed, and so is one at which memory ran out
   pub turned-failed : (engine : Engine) (kept : OpenPage) (fault : RunFault) (result : Result SiteReply StoreFault)
@@ -125,11 +125,11 @@ module _ (site : State) (page count : ℕ) (new : State) where
       → (fault ≢ run.OutOfMemory → EndsWithin count (open_left engine kept) × (outcome_of (open_left engine kept) ≡ Fault fault))
       → IfOk result (λ reply. (reply_data reply ≡ refusal_of fault) × (fault ≢ run.OutOfMemory)) → IfErr result (λ why. why ≡ store.OutOfMemory)
       → CarriesOn (Some (asked.turns page count)) site (turned site page count) result new
-  turned-failed engine kept fault (Ok reply) there closed ends is memory =
+  turned-failed engine kept fault (Ok reply) there gone ends is memory =
       let how = ends is.1 in
       turned-on (opened_as engine kept) None reply there
-      (turned-refused engine count kept fault how.0 how.1 ∙ ap (λ (r : ReplyData). (None, r)) (sym is.0)) closed
-  turned-failed engine kept fault (Err why) there closed ends is memory = turned-forgone why closed memory
+      (turned-refused engine count kept fault how.0 how.1 ∙ ap (λ (r : ReplyData). (None, r)) (sym is.0)) gone
+  turned-failed engine kept fault (Err why) there gone ends is memory = turned-forgone why gone memory
 
 -- ---- what is left if memory runs out
 
@@ -138,8 +138,8 @@ without_page-rows None site = refl
 without_page-rows (Some place) site = refl
 
 pub left_rows : (place : Option ℕ) (old new : State) → IsLeftBy place old new → new.rows ≡ old.rows
-left_rows place old new (inl same) = ap (λ site. site.rows) same
-left_rows place old new (inr closed) = ap (λ site. site.rows) closed ∙ without_page-rows place old
+left_rows place old new (unchanged same) = ap (λ site. site.rows) same
+left_rows place old new (closed gone) = ap (λ site. site.rows) gone ∙ without_page-rows place old
 
 pub left_limit : (place : Option ℕ) (old new : State) → IsLeftBy place old new → new.rows.step_limit ≡ old.rows.step_limit
 left_limit place old new left = ap (λ (rows : Rows). rows.step_limit) (left_rows place old new left)

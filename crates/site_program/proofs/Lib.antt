@@ -8,3 +8,4 @@ pub mod Rebuilding
 mod LogAndSite
 pub mod Bounds
 pub mod Isolation
+pub mod OtherPrograms

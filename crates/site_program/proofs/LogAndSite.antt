@@ -12,11 +12,11 @@ use Rattle.site_serving.specs.Served.{Replied}
 use Rattle.site_serving.proofs.Histories.{Serves-split, state_after-append}
 
 -- rows under this limit already
-limited-same : (limit : Option ℕ) (rows : Rows) → rows.step_limit ≡ limit → limited limit rows ≡ rows
+pub limited-same : (limit : Option ℕ) (rows : Rows) → rows.step_limit ≡ limit → limited limit rows ≡ rows
 limited-same limit rows is = subst (λ l. record rows { step_limit = l } ≡ rows) is refl
 
 module _ (engine : Engine) (calls : ℕ) (limit : Option ℕ) where
-  site_after-limit : (site : State) (lines : List (List ℕ)) → (site_after (step engine calls) site lines).rows.step_limit ≡ site.rows.step_limit
+  pub site_after-limit : (site : State) (lines : List (List ℕ)) → (site_after (step engine calls) site lines).rows.step_limit ≡ site.rows.step_limit
   site_after-limit site [] = refl
   site_after-limit site (line ∷ lines) =
       let next = step engine calls site line in site_after-limit next.0 lines ∙ step-limit engine calls site next.0 line next.1 refl

@@ -1,5 +1,5 @@
 -- The edits that were done, done once more, give the same replies and leave the same rows.
-use Rattle.std.proofs.Common.{◌≡◌, inl, inr, ℕ, ◌≤◌, ◌∙◌, List, [], ◌∷◌, Option, Some, true, false, refl, sym, subst, ap, length}
+use Rattle.std.proofs.Common.{◌≡◌, ℕ, ◌≤◌, ◌∙◌, List, [], ◌∷◌, Option, Some, true, false, refl, sym, subst, ap, length}
 use Rattle.std.specs.Prelude.{◌&&◌}
 use Rattle.std.proofs.lemmas.Bool.{cond_both, both_ways, and_parts}
 use Rattle.std.proofs.lemmas.List.{length-map}
@@ -12,7 +12,7 @@ use Rattle.site_replies.specs.Reply.{ReplyData}
 use Rattle.site_edits.specs.Late.{is_done}
 use Rattle.site_edits.proofs.Limits.{limited}
 use Rattle.site_program.specs.State.{State, empty_under}
-use Rattle.site_program.specs.Step.{step, got, place_turned, is_edit, IsReply}
+use Rattle.site_program.specs.Step.{step, got, place_turned, is_edit, IsReply, meant, out_of_memory, by_the_database}
 use Rattle.site_program.specs.History.{is_kept, kept_history, history, Serves, site_after, replies_to}
 use Rattle.site_serving.specs.Served.{AreCarriedOut, IsCarriedOut, Replied, lines_in}
 use Rattle.site_program.proofs.Carrying.{left_rows, left_limit}
@@ -27,15 +27,15 @@ module _ (engine : Engine) (calls : ℕ) (limit : Option ℕ) where
   -- a line that is kept was carried out
   reply-kept : (old new : State) (r : Replied) → IsReply (step engine calls) old r.line r.reply new → is_kept r ≡ true
       → (new, r.reply) ≡ step engine calls old r.line
-  reply-kept old new r (inl done) stands = done
-  reply-kept old new r (inr (inl (memory, left))) stands = absurd (refused_unkept r.line r.reply (ap is_done memory) stands)
-  reply-kept old new r (inr (inr late)) stands = absurd (refused_unkept r.line r.reply (ap is_done late.0) stands)
+  reply-kept old new r (meant done) stands = done
+  reply-kept old new r (out_of_memory memory left) stands = absurd (refused_unkept r.line r.reply (ap is_done memory) stands)
+  reply-kept old new r (by_the_database store same late) stands = absurd (refused_unkept r.line r.reply (ap is_done store) stands)
 
   -- one that isn't kept changed no row
-  reply-unkept : (old new : State) (r : Replied) → IsReply (step engine calls) old r.line r.reply new → is_kept r ≡ false → new.rows ≡ old.rows
-  reply-unkept old new r (inl done) falls = step-keeps engine calls old new r.line r.reply done falls
-  reply-unkept old new r (inr (inl (memory, left))) falls = left_rows (place_turned r.line) old new left
-  reply-unkept old new r (inr (inr late)) falls = ap (λ site. site.rows) late.1
+  pub reply-unkept : (old new : State) (r : Replied) → IsReply (step engine calls) old r.line r.reply new → is_kept r ≡ false → new.rows ≡ old.rows
+  reply-unkept old new r (meant done) falls = step-keeps engine calls old new r.line r.reply done falls
+  reply-unkept old new r (out_of_memory memory left) falls = left_rows (place_turned r.line) old new left
+  reply-unkept old new r (by_the_database store same late) falls = ap (λ site. site.rows) same
 
   -- these lines, carried out in another site, leave the rows of the new one, and are replied to as they were
   abbrev Rebuilds : State → State → List Replied → Type 0
@@ -49,7 +49,7 @@ module _ (engine : Engine) (calls : ℕ) (limit : Option ℕ) where
       cond_both (is_kept r) (r ∷ kept_history later) (kept_history later) (Rebuilds new again)
       (λ stands.
       let done = reply-kept old mid r first stands in
-      let same = step-same engine calls limit old again r.line (and_parts (is_edit (line_command r.line)) (is_done r.reply) stands).0 follows in
+      let same = step-same engine engine calls calls limit (λ name. refl) old again r.line (and_parts (is_edit (line_command r.line)) (is_done r.reply) stands).0 follows in
       let onward : Follows limit mid (step engine calls again r.line).0 = same.0 ∙ ap (λ p. limited limit p.0.rows) (sym done) in
       let told : (step engine calls again r.line).1 ≡ r.reply = same.1 ∙ ap (λ p. p.1) (sym done) in
       let rest = history-rebuilds mid new (step engine calls again r.line).0 later served onward in
@@ -59,9 +59,9 @@ module _ (engine : Engine) (calls : ℕ) (limit : Option ℕ) where
 -- lines keep the limit on steps
 pub reply-limit : (engine : Engine) (calls : ℕ) (old new : State) (line : List ℕ) (reply : ReplyData) → IsReply (step engine calls) old line reply new
     → new.rows.step_limit ≡ old.rows.step_limit
-reply-limit engine calls old new line reply (inl done) = step-limit engine calls old new line reply done
-reply-limit engine calls old new line reply (inr (inl (memory, left))) = left_limit (place_turned line) old new left
-reply-limit engine calls old new line reply (inr (inr late)) = ap (λ site. site.rows.step_limit) late.1
+reply-limit engine calls old new line reply (meant done) = step-limit engine calls old new line reply done
+reply-limit engine calls old new line reply (out_of_memory memory left) = left_limit (place_turned line) old new left
+reply-limit engine calls old new line reply (by_the_database store same late) = ap (λ site. site.rows.step_limit) same
 
 pub Serves-limit : (engine : Engine) (calls : ℕ) (old new : State) (replied : List Replied) → Serves (step engine calls) old replied new
     → new.rows.step_limit ≡ old.rows.step_limit
@@ -99,10 +99,10 @@ module _ (engine : Engine) (calls : ℕ) (limit : Option ℕ) where
   page-agrees one two line path same is = rw is (ap (λ rows. (got engine calls rows path).1) same)
 
   -- what memory and the database don't refuse is carried out
-  done-whole : (old new : State) (r : Replied) → IsReply steps old r.line r.reply new → IsCarriedOut r.reply → (new, r.reply) ≡ steps old r.line
-  done-whole old new r (inl done) is = done
-  done-whole old new r (inr (inl (memory, left))) is = absurd (is.0 memory)
-  done-whole old new r (inr (inr late)) is = absurd (is.1 late.0)
+  pub done-whole : (old new : State) (r : Replied) → IsReply steps old r.line r.reply new → IsCarriedOut r.reply → (new, r.reply) ≡ steps old r.line
+  done-whole old new r (meant done) is = done
+  done-whole old new r (out_of_memory memory left) is = absurd (is.0 memory)
+  done-whole old new r (by_the_database store same late) is = absurd (is.1 store)
 
   pub served-whole : (old new : State) (replied : List Replied) → Serves steps old replied new → AreCarriedOut replied
       → (new ≡ site_after steps old (lines_in replied)) × (replied ≡ replies_to steps old (lines_in replied))

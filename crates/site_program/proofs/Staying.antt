@@ -1,5 +1,5 @@
 -- No line changes an open page but one that gives it turns.
-use Rattle.std.proofs.Common.{◌≡◌, ◌≢◌, inl, inr, ℕ, ◌-◌, List, [], ◌∷◌, ◌∙◌, Option, Some, None, true, false, refl, sym, subst, ap, length}
+use Rattle.std.proofs.Common.{◌≡◌, ◌≢◌, ℕ, ◌-◌, List, [], ◌∷◌, ◌∙◌, Option, Some, None, true, false, refl, sym, subst, ap, length}
 use Rattle.std.specs.Prelude.{nat_le, is_none, position, All}
 use Rattle.std.proofs.lemmas.Bool.{cond_both}
 use Rattle.std.proofs.lemmas.List.{get_or-set_other}
@@ -12,7 +12,7 @@ use Rattle.site_commands.specs.Worked.{line_command}
 use Rattle.site_replies.specs.Reply.{ReplyData}
 use Rattle.site_program.specs.Requests.{Opened}
 use Rattle.site_program.specs.State.{State, page_in, with_page, without_page}
-use Rattle.site_program.specs.Step.{step, begun, opened_in, turned, turned_in, carried_out, place_given, place_turned, max_path, IsReply}
+use Rattle.site_program.specs.Step.{step, begun, opened_in, turned, turned_in, carried_out, place_given, place_turned, max_path, IsReply, meant, out_of_memory, by_the_database, unchanged, closed}
 use Rattle.site_program.specs.Serving.{IsReplies}
 
 module _ (place : ℕ) (page : Opened) where
@@ -76,12 +76,12 @@ module _ (place : ℕ) (page : Opened) where
 
   pub reply-stays : (engine : Engine) (calls : ℕ) (old new : State) (line : List ℕ) (reply : ReplyData) → IsReply (step engine calls) old line reply new
       → Stays old → place_turned line ≢ Some place → Stays new
-  reply-stays engine calls old new line reply (inl done) is_open differ = subst Stays (sym (ap (λ p. p.0) done))
+  reply-stays engine calls old new line reply (meant done) is_open differ = subst Stays (sym (ap (λ p. p.0) done))
       (step-stays engine calls old line is_open differ)
-  reply-stays engine calls old new line reply (inr (inl (memory, inl same))) is_open differ = subst Stays (sym same) is_open
-  reply-stays engine calls old new line reply (inr (inl (memory, inr closed))) is_open differ =
-      subst Stays (sym closed) (without_page-stays old (place_turned line) is_open differ)
-  reply-stays engine calls old new line reply (inr (inr late)) is_open differ = subst Stays (sym late.1) is_open
+  reply-stays engine calls old new line reply (out_of_memory memory (unchanged same)) is_open differ = subst Stays (sym same) is_open
+  reply-stays engine calls old new line reply (out_of_memory memory (closed gone)) is_open differ =
+      subst Stays (sym gone) (without_page-stays old (place_turned line) is_open differ)
+  reply-stays engine calls old new line reply (by_the_database store same late) is_open differ = subst Stays (sym same) is_open
 
   pub replies-stay : (engine : Engine) (calls : ℕ) (old new : State) (lines : List (List ℕ)) (out : List ℕ) → IsReplies (step engine calls) old lines out new
       → Stays old → All (λ line. place_turned line ≢ Some place) lines → Stays new

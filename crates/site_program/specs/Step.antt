@@ -1,5 +1,5 @@
 -- What the site does at a line.
-use Rattle.std.specs.Prelude.{◌≡◌, ◌⊎◌, ℕ, ◌+◌, ◌-◌, ◌&&◌, Bool, true, false, nat_le, List, length, Option, None, Some, is_none, is_some, position}
+use Rattle.std.specs.Prelude.{◌≡◌, ℕ, ◌+◌, ◌-◌, ◌&&◌, Bool, true, false, nat_le, List, length, Option, None, Some, is_none, is_some, position}
 use Rattle.std.specs.Prelude.{if◌then◌else◌}
 use Rattle.hook_meaning.specs.Meaning.{Engine}
 use Rattle.hook_changes.specs.declared.reply.Call.{Call}
@@ -96,20 +96,23 @@ may_be_late_at (Some (asked.begin path)) limit reply = is_some limit && rests_on
 may_be_late_at (Some (asked.turns page count)) limit reply = false
 may_be_late_at (Some _) limit reply = may_be_late limit reply
 
--- what is left if memory runs out: all is as it was, or the page that is given turns is closed and nothing else has
--- changed
-abbrev pub IsLeftBy : Option ℕ → State → State → Type 0
-IsLeftBy place old new = (new ≡ old) ⊎ (new ≡ without_page place old)
+-- what is left if memory runs out, of a line that gives turns to the page in this place, or to none
+pub data IsLeftBy (place : Option ℕ) (old new : State) : Type 0 where
+  -- all is as it was
+  unchanged : new ≡ old → IsLeftBy place old new
+  -- the page is closed, and nothing else has changed
+  closed : new ≡ without_page place old → IsLeftBy place old new
 
-module _ (steps : State → List ℕ → State × ReplyData) where
-  -- The reply to a line, and the site after it: those of its step; or a refusal on allocation failure, after which only the
-  -- page that the line gives turns to may be closed; or a refusal by the database that leaves all as it was, in place of
-  -- the `ok` of an edit or, with a limit on the steps of a statement, of any reply that rests on the rows.
-  abbrev pub IsReply : State → List ℕ → ReplyData → State → Type 0
-  IsReply old line reply new =
-      ((new, reply) ≡ steps old line)
-      ⊎ (((reply ≡ refused OutOfMemory) × IsLeftBy (place_turned line) old new)
-      ⊎ ((reply ≡ refused Store) × (new ≡ old) × (may_be_late_at (line_command line) old.rows.step_limit (steps old line).1 ≡ true)))
+-- The reply to a line, and the site after it.
+pub data IsReply (steps : State → List ℕ → State × ReplyData) (old : State) (line : List ℕ) (reply : ReplyData) (new : State) : Type 0 where
+  -- they are what the line means
+  meant : (new, reply) ≡ steps old line → IsReply steps old line reply new
+  -- memory ran out, and at most the page that the line gives turns to is closed
+  out_of_memory : reply ≡ refused OutOfMemory → IsLeftBy (place_turned line) old new → IsReply steps old line reply new
+  -- The database refused it, and all is as it was: in place of the `ok` of an edit or, with a limit on the steps of a
+  -- statement, of any reply that rests on the rows.
+  by_the_database : reply ≡ refused Store → new ≡ old → may_be_late_at (line_command line) old.rows.step_limit (steps old line).1 ≡ true
+      → IsReply steps old line reply new
 
 -- the steps of a site with this setup
 abbrev pub steps_of : {S : Type 0} → (ℕ → Call → Reply) → (S → ℕ) → Setup S → State → List ℕ → State × ReplyData

@@ -11,6 +11,7 @@ mod history;
 mod laws;
 mod log_law;
 mod page;
+mod programs;
 mod serve;
 mod settings;
 mod setup;
@@ -29,6 +30,7 @@ pub use laws::{
 };
 pub use log_law::the_log_is_the_site;
 pub use page_trace::{PageEnd, PageName, PageTrace, Told, Unwatched, Watch};
+pub use programs::{rows_rest_on_names, sites_given_the_same_edits_agree};
 pub use site::Site;
 pub use site_edits::StoreFault;
 pub use site_replies::{Refusal, ServeFault, SiteReply};

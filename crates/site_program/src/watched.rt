@@ -47,8 +47,8 @@ impl<'p, S: Stated> Setup<'p, S> {
         self.plugins.owner(callback)
     }
 
-    /// Gives the log the invocation of the innermost frame of a page. If memory runs out, nothing is
-    /// told.
+    /// Gives the log the invocation that the last turn of a page has made. If memory runs out,
+    /// nothing is told.
     fn tell_invocation<'t, V: Watch>(
         &'t self,
         page: &'t OpenPage,

@@ -12,7 +12,7 @@ use Rattle.hook_meaning.specs.declared.fault.RunFault.TheVariants.{TooManyCalls,
 use Rattle.hook_machine.specs.declared.run.jobs.Turn as result
 use Rattle.hook_machine.specs.declared.run.jobs.Turn.TheVariants as turn
 use Rattle.hook_machine.specs.declared.run.jobs.Job.TheVariants.{Filters, Action}
-use Rattle.hook_meaning.specs.Trace.{Trace, Done, Turn, outcome_of, and_then}
+use Rattle.hook_meaning.specs.Trace.{Event, Trace, Done, Turn, outcome_of, and_then}
 use Rattle.hook_meaning.specs.Meaning.{Engine, filtered, acted, invoke}
 use Rattle.hook_meaning.proofs.Ending.{filter_unhooked}
 use Rattle.hook_registry.specs.Table.{has}
@@ -77,13 +77,13 @@ module _ (engine : Engine) (settings : Settings) where
   unfolding shown_pass
   shown_passed_over world later shown hook value args leads = leads_under (λ t. and_then t (λ later v. print_text later (shown v))) through_shown leads
     where
-      through_shown : (xs : List World) (t : Trace Text)
+      through_shown : (xs : List Event) (t : Trace Text)
           → and_then (run.through xs t) (λ later v. print_text later (shown v)) ≡ run.through xs (and_then t (λ later v. print_text later (shown v)))
       through_shown [] t = refl
       through_shown (x ∷ xs) t = ap (Turn x) (through_shown xs t)
 
   -- what some work passes over, the page passes over
-  through_items : (items : List Placed) (xs : List World) (t : Work)
+  through_items : (items : List Placed) (xs : List Event) (t : Work)
       → then_items engine settings (run.through xs t) items ≡ run.through xs (then_items engine settings t items)
   through_items items [] t = refl
   through_items items (x ∷ xs) t = ap (Turn x) (through_items items xs t)
@@ -157,14 +157,14 @@ module _ (engine : Engine) (settings : Settings) where
 
   module _ (hand : Hand) (items : List Placed) (world : World) where
     -- what a job passes over, the page passes over
-    through_job : (w : World) (xs : List World) (t : Trace Text)
+    through_job : (w : World) (xs : List Event) (t : Trace Text)
         → then_items engine settings (job_or_nothing w (run.through xs t) (Some hand)) items
         ≡ run.through xs (then_items engine settings (job_or_nothing w t (Some hand)) items)
     through_job w [] t = refl
     through_job w (x ∷ xs) t = ap (Turn x) (through_job w xs t)
 
     -- the job under way is refused
-    pub refused_move : (pace : Pace) (left now : Trace Text) (why : RunFault) (w v : World) (n : Work) → run.TurnsBy pace left (Err why) w now
+    pub refused_move : (pace : Pace) (left now : Trace Text) (why : RunFault) (w v : Event) (n : Work) → run.TurnsBy pace left (Err why) w now
         → Moves pace (then_items engine settings (job_or_nothing world left (Some hand)) items) (Err why) v n
     refused_move pace left now TooManyCalls w v n is = leads_under (λ t. then_items engine settings (job_or_nothing world t (Some hand)) items)
         (through_job world) is
@@ -173,23 +173,23 @@ module _ (engine : Engine) (settings : Settings) where
     refused_move pace left now OutOfMemory w v n is = tt
 
     -- the job under way has made an invocation
-    pub more_move : (pace : Pace) (left now : Trace Text) (x : result.Turn) (later : World) → Leads pace left (run.trace_of_turn x later now) → x ≡ turn.More
+    pub more_move : (pace : Pace) (left now : Trace Text) (x : result.Turn) (made : Event) → Leads pace left (run.trace_of_turn x made now) → x ≡ turn.More
         → Leads pace (then_items engine settings (job_or_nothing world left (Some hand)) items)
-        (Turn later (then_items engine settings (job_or_nothing later now (Some hand)) items))
-    more_move pace left now x later is more =
+        (Turn made (then_items engine settings (job_or_nothing made.world now (Some hand)) items))
+    more_move pace left now x made is more =
         leads_under (λ t. then_items engine settings (job_or_nothing world t (Some hand)) items) (through_job world) (rw more at is)
 
     -- the job under way is done, and its result was handed on
-    pub done_move : (pace : Pace) (left now : Trace Text) (x : result.Turn) (text : Text) (later last : World)
-        → Leads pace left (run.trace_of_turn x later now) → x ≡ turn.Done text
-        → handed_on hand later text ≡ Done last tt
+    pub done_move : (pace : Pace) (left now : Trace Text) (x : result.Turn) (text : Text) (made : Event) (last : World)
+        → Leads pace left (run.trace_of_turn x made now) → x ≡ turn.Done text
+        → handed_on hand made.world text ≡ Done last tt
         → Leads pace (then_items engine settings (job_or_nothing world left (Some hand)) items) (each (placed_pass engine settings) last items)
-    done_move pace left now x text later last is done handed =
+    done_move pace left now x text made last is done handed =
         leads_then (leads_under (λ t. then_items engine settings (job_or_nothing world t (Some hand)) items) (through_job world) (rw done at is))
         (leads_here (ap (λ work. then_items engine settings work items) handed))
 
 -- a page that is printed ends as what was left of it does
-pub print_refused : (pace : Pace) (left now all : Work) (why : RunFault) (w : World) → outcome_of all ≡ outcome_of left → Goes pace left (Err why) w now
+pub print_refused : (pace : Pace) (left now all : Work) (why : RunFault) (w : Event) → outcome_of all ≡ outcome_of left → Goes pace left (Err why) w now
     → IsRefusedBy all why
 print_refused pace left now all TooManyCalls w e is = λ other. e ∙ sym (same_end is)
 print_refused pace left now all TooDeep w e is = λ other. e ∙ sym (same_end is)

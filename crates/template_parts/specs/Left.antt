@@ -10,7 +10,7 @@ use Rattle.hook_meaning.specs.declared.fault.RunFault.{RunFault}
 use Rattle.hook_meaning.specs.declared.fault.RunFault.TheVariants.{OutOfMemory}
 use Rattle.hook_machine.specs.declared.run.frames.Pace.{Pace}
 use Rattle.hook_machine.specs.declared.run.Run.{Run}
-use Rattle.hook_meaning.specs.Trace.{Trace, Done, Turn, and_then}
+use Rattle.hook_meaning.specs.Trace.{Event, Trace, Done, Turn, and_then}
 use Rattle.hook_meaning.specs.Meaning.{Engine}
 use Rattle.hook_machine.specs.Moves.{Leads, LeadsOn}
 use Rattle.hook_machine.specs.Runs.{world_of, fault_of, engine_of, left_of, IsIdle, IsReady}
@@ -116,23 +116,23 @@ module _ {S : Type 0} where
   IsIdleIfOver (Ok None) run = ⊤
   IsIdleIfOver (Err fault) run = ⊤
 
--- the work of a page that stops: a turn, and then what is left now; or none
-abbrev pub work_of_stop : Stop → World → Work → Work
-work_of_stop stop.Turned world now = Turn world now
-work_of_stop stop.Over world now = Done world tt
+-- the work of a page that stops: the invocation that was made, and then what is left now; or none
+abbrev pub work_of_stop : Stop → Event → Work → Work
+work_of_stop stop.Turned made now = Turn made now
+work_of_stop stop.Over made now = Done made.world tt
 
 -- the work of a page after a move: what is left now, if it doesn't stop
-abbrev pub work_of_move : Option Stop → World → Work → Work
-work_of_move None world now = now
-work_of_move (Some stop) world now = work_of_stop stop world now
+abbrev pub work_of_move : Option Stop → Event → Work → Work
+work_of_move None made now = now
+work_of_move (Some stop) made now = work_of_stop stop made now
 
 -- what was left leads to what is left after the move; or to the fault; or memory ran out
-abbrev pub Moves : Pace → Work → Result (Option Stop) RunFault → World → Work → Type 0
-Moves pace left result world now = LeadsOn pace left (λ move. work_of_move move world now) result
+abbrev pub Moves : Pace → Work → Result (Option Stop) RunFault → Event → Work → Type 0
+Moves pace left result made now = LeadsOn pace left (λ move. work_of_move move made now) result
 
 -- what was left leads to the work of a page that stops; or to the fault; or memory ran out
-abbrev pub Stops : Pace → Work → Result Stop RunFault → World → Work → Type 0
-Stops pace left result world now = LeadsOn pace left (λ stop. work_of_stop stop world now) result
+abbrev pub Stops : Pace → Work → Result Stop RunFault → Event → Work → Type 0
+Stops pace left result made now = LeadsOn pace left (λ stop. work_of_stop stop made now) result
 
 -- how many moves may be left without an invocation: each step is begun and ended
 abbrev pub moves_left : PageRest → ℕ

@@ -5,7 +5,7 @@ use Rattle.hook_meaning.specs.World.{World}
 use Rattle.hook_machine.specs.declared.run.Run.{Run}
 use Rattle.hook_meaning.specs.declared.fault.RunFault.{RunFault}
 use Rattle.hook_meaning.specs.declared.fault.RunFault.TheVariants.{OutOfMemory}
-use Rattle.hook_meaning.specs.Trace.{Done, Refused, Turn, Fault, outcome_of, turns_of}
+use Rattle.hook_meaning.specs.Trace.{Event, Done, Refused, Turn, Fault, outcome_of, turns_of}
 use Rattle.hook_meaning.specs.Meaning.{Engine}
 use Rattle.hook_machine.specs.Outcomes.{UnlessOutOfMemory}
 use Rattle.hook_machine.specs.declared.run.frames.Pace.{Pace}
@@ -51,14 +51,14 @@ pub record IsDone (left : Work) (text : Text) : Type 0 where
   pub done : left ≡ Done world tt
   pub whole : text ≡ world.output
 
--- what was left of a page is a world, and then what is left now; or nothing
-abbrev pub TurnsTo : Work → PageTurn → World → Work → Type 0
-TurnsTo left turn.More world now = left ≡ Turn world now
-TurnsTo left (turn.Done status bytes) world now = IsDone left bytes.items
+-- what was left of a page is the invocation that was made, and then what is left now; or nothing
+abbrev pub TurnsTo : Work → PageTurn → Event → Work → Type 0
+TurnsTo left turn.More made now = left ≡ Turn made now
+TurnsTo left (turn.Done status bytes) made now = IsDone left bytes.items
 
 -- the same; or it is the fault; or memory ran out
-abbrev pub Turns : Work → Result PageTurn RunFault → World → Work → Type 0
-Turns left result world now = UnlessOutOfMemory result (λ turn. TurnsTo left turn world now) (λ fault. left ≡ Refused fault)
+abbrev pub Turns : Work → Result PageTurn RunFault → Event → Work → Type 0
+Turns left result made now = UnlessOutOfMemory result (λ turn. TurnsTo left turn made now) (λ fault. left ≡ Refused fault)
 
 -- the same of a page that may pass invocations over
 pub record IsDoneBy (pace : Pace) (left : Work) (text : Text) : Type 0 where
@@ -66,14 +66,14 @@ pub record IsDoneBy (pace : Pace) (left : Work) (text : Text) : Type 0 where
   pub done : Leads pace left (Done world tt)
   pub whole : text ≡ world.output
 
--- what was left of a page leads to a world, and then to what is left now; or to nothing
-abbrev pub GoesTo : Pace → Work → PageTurn → World → Work → Type 0
-GoesTo pace left turn.More world now = Leads pace left (Turn world now)
-GoesTo pace left (turn.Done status bytes) world now = IsDoneBy pace left bytes.items
+-- what was left of a page leads to the invocation that was made, and then to what is left now; or to nothing
+abbrev pub GoesTo : Pace → Work → PageTurn → Event → Work → Type 0
+GoesTo pace left turn.More made now = Leads pace left (Turn made now)
+GoesTo pace left (turn.Done status bytes) made now = IsDoneBy pace left bytes.items
 
 -- the same; or it leads to the fault; or memory ran out
-abbrev pub Goes : Pace → Work → Result PageTurn RunFault → World → Work → Type 0
-Goes pace left result world now = UnlessOutOfMemory result (λ turn. GoesTo pace left turn world now) (λ fault. Leads pace left (Refused fault))
+abbrev pub Goes : Pace → Work → Result PageTurn RunFault → Event → Work → Type 0
+Goes pace left result made now = UnlessOutOfMemory result (λ turn. GoesTo pace left turn made now) (λ fault. Leads pace left (Refused fault))
 
 -- what is left after `count` turns: the page still ends as it did, and has `count` invocations less to make
 pub record IsAfter (count : ℕ) (left now : Work) : Type 0 where
@@ -90,6 +90,12 @@ abbrev pub TurnsBy : ℕ → Work → Result PageTurn RunFault → Work → Type
 TurnsBy count left (Ok turn.More) now = IsAfter count left now
 TurnsBy count left (Ok (turn.Done status bytes)) now = EndsWithin count left × IsPage left bytes.items
 TurnsBy count left (Err fault) now = fault ≢ OutOfMemory → EndsWithin count left × (outcome_of left ≡ Fault fault)
+
+-- if there is more to do after one turn, what was left is the invocation that it made, and then what is left now
+abbrev pub TurnsOnce : Work → Result PageTurn RunFault → Event → Work → Type 0
+TurnsOnce left (Ok turn.More) made now = left ≡ Turn made now
+TurnsOnce left (Ok (turn.Done status bytes)) made now = ⊤
+TurnsOnce left (Err fault) made now = ⊤
 
 abbrev pub HasStatus : ℕ → PageTurn → Type 0
 HasStatus status turn.More = ⊤

@@ -8,7 +8,7 @@ use Rattle.template_parts.specs.declared.steps.Step.{Step}
 use Rattle.template_parts.specs.Pages.{page_items}
 use Rattle.template_parts.specs.Places.{post_at, items_left}
 
--- the invocation that is the innermost frame of its run
+-- the invocation that its last turn made
 abbrev pub made_of : OpenPage → Option Made
 made_of page = last_made page.run
 

@@ -1,6 +1,6 @@
 //! Going on with a page, item by item, until a callback was invoked or nothing is left.
 ghost use Rattle.std.specs.Prelude.{◌≡◌, None, OnOk, option_map};
-ghost use Rattle.hook_machine.specs.Runs.{world_of, fault_of, engine_of, IsIdle, IsReady};
+ghost use Rattle.hook_machine.specs.Runs.{last_event, fault_of, engine_of, IsIdle, IsReady};
 ghost use Rattle.template_parts.specs.Places.{post_at};
 ghost use Rattle.template_parts.specs.Left.{step_pass, BeginsBy, run_left, IsIdleIfOver};
 ghost use Rattle.template_parts.specs.Left.{IsIdleAtEnd, Moves, Stops, Shortens};
@@ -82,7 +82,7 @@ fn one_move<S: Stated>(
     ensures moves { Moves pace
         (run_left (engine_of S.says S.number run.old) settings.now posts.now run.old ahead.old)
         result
-        (world_of run.new) (run_left (engine_of S.says S.number run.old) settings.now posts.now
+        (last_event run.new) (run_left (engine_of S.says S.number run.old) settings.now posts.now
         run.new ahead.new) }
     ensures idle { OnOk result (ahead.new.hand ≡ None → IsIdle run.new) }
     ensures over { IsIdleIfOver result run.new }
@@ -125,7 +125,7 @@ pub(crate) fn next_stop<S: Stated>(
     ensures stops { Stops pace
         (run_left (engine_of S.says S.number run.old) settings.now posts.now run.old ahead.old)
         result
-        (world_of run.new) (run_left (engine_of S.says S.number run.old) settings.now posts.now
+        (last_event run.new) (run_left (engine_of S.says S.number run.old) settings.now posts.now
         run.new ahead.new) }
     ensures idle { OnOk result (ahead.new.hand ≡ None → IsIdle run.new) }
     ensures over { IsIdleAtEnd result run.new }

@@ -41,7 +41,7 @@ pub enum Turned {
 }
 
 impl OpenPage {
-    ghost use Rattle.template_parts.specs.Open.{open_left, status_of, GoesOn};
+    ghost use Rattle.template_parts.specs.Open.{open_left, status_of, GoesOn, MakesOne};
 
     /// Opens a page over what was found. The run has loaded its plugins and done nothing else; this
     /// runs nothing.
@@ -75,6 +75,7 @@ impl OpenPage {
         cache: &mut PieceCache,
     ) -> Result<Turned, RunFault>
         ensures turns { GoesOn (engine_over S.says S.number plugins.now) count self result }
+        ensures one { count ≡ 1 → MakesOne (engine_over S.says S.number plugins.now) self result }
         ensures cache { cache.new ≡ cache.old }
     {
         let mut page = Page::resume(self, plugins);

@@ -4,7 +4,7 @@ ghost use Rattle.plain_data.specs.Texts.{Text};
 ghost use Rattle.hook_meaning.specs.World.{World};
 ghost use Rattle.hook_meaning.specs.Trace.{Trace};
 ghost use Rattle.hook_meaning.specs.Meaning.{Engine};
-ghost use Rattle.hook_machine.specs.Runs.{world_of, fault_of, engine_of, CanBegin, IsIdle};
+ghost use Rattle.hook_machine.specs.Runs.{world_of, last_event, fault_of, engine_of, CanBegin, IsIdle};
 ghost use Rattle.template_parts.specs.Pages.{page_pass, IsPage, IsRefusedBy};
 ghost use Rattle.template_parts.specs.Left.{ahead_of, left_at, hand_in};
 
@@ -70,8 +70,8 @@ impl<'p, S: Stated> Page<'p, S> {
     ghost use Rattle.template_parts.specs.Page.{found_in, settings_in, run_in, refusal_of};
     ghost use Rattle.template_parts.specs.Page.{page_left};
     ghost use Rattle.template_parts.specs.Page.{CanGoOn, IsSamePage, HasStatus, Goes, Turns};
-    ghost use Rattle.template_parts.specs.Page.{TurnsBy};
-    ghost use Rattle.template_parts.specs.Open.{open_left, status_of};
+    ghost use Rattle.template_parts.specs.Page.{TurnsBy, TurnsOnce};
+    ghost use Rattle.template_parts.specs.Open.{open_left, event_of, status_of};
     ghost use Rattle.hook_machine.specs.Outcomes.{engine_over};
 
     /// Makes a page over what was found. The run has loaded its plugins and done nothing else; this
@@ -104,7 +104,7 @@ impl<'p, S: Stated> Page<'p, S> {
         requires { CanGoOn self.old }
         ensures turns { refusal_of self.old ≡ None →
             Turns (page_left (engine_of S.says S.number (run_in self.old)) self.old) result
-            (world_of (run_in self.new))
+            (last_event (run_in self.new))
             (page_left (engine_of S.says S.number (run_in self.old)) self.new) }
         ensures status { IfOk result (HasStatus (found_in self.old).status) }
         ensures ready { CanGoOn self.new }
@@ -124,7 +124,7 @@ impl<'p, S: Stated> Page<'p, S> {
         requires { CanGoOn self.old }
         ensures goes { refusal_of self.old ≡ None →
             Goes pace (page_left (engine_of S.says S.number (run_in self.old)) self.old) result
-            (world_of (run_in self.new))
+            (last_event (run_in self.new))
             (page_left (engine_of S.says S.number (run_in self.old)) self.new) }
         ensures status { IfOk result (HasStatus (found_in self.old).status) }
         ensures ready { CanGoOn self.new }
@@ -155,6 +155,10 @@ impl<'p, S: Stated> Page<'p, S> {
         ensures turns { TurnsBy count
             (page_left (engine_of S.says S.number (run_in self.old)) self.old) result
             (page_left (engine_of S.says S.number (run_in self.old)) self.new) }
+        ensures one { count ≡ 1 → TurnsOnce
+            (page_left (engine_of S.says S.number (run_in self.old)) self.old) result
+            (last_event (run_in self.new))
+            (page_left (engine_of S.says S.number (run_in self.old)) self.new) }
         ensures status { IfOk result (HasStatus (found_in self.old).status) }
         ensures ready { CanGoOn self.new }
         ensures same { IsSamePage self.new self.old }
@@ -176,6 +180,7 @@ impl<'p, S: Stated> Page<'p, S> {
         requires ready { CanGoOn self }
         requires sound { refusal_of self ≡ None }
         ensures left { (engine : Engine) → open_left engine result ≡ page_left engine self.entry }
+        ensures event { event_of result ≡ last_event (run_in self.entry) }
         ensures status { status_of result ≡ (found_in self.entry).status }
     {
         let Page {
@@ -245,7 +250,7 @@ impl<'p, S: Stated> Page<'p, S> {
         requires sound { refusal_of self.old ≡ None }
         ensures goes { Goes pace (page_left (engine_of S.says S.number (run_in self.old)) self.old)
             result
-            (world_of (run_in self.new))
+            (last_event (run_in self.new))
             (page_left (engine_of S.says S.number (run_in self.old)) self.new) }
         ensures status { IfOk result (HasStatus (found_in self.old).status) }
         ensures ready { OnOk result (CanGoOn self.new) }

@@ -1,8 +1,9 @@
 //! What an open page shows between its turns.
-ghost use Rattle.std.specs.Prelude.{◌≡◌, IfOk, option_map};
+ghost use Rattle.std.specs.Prelude.{◌≡◌, IfOk, IfSome, option_map};
 ghost use Rattle.hook_machine.specs.Invocations.{made_as};
 ghost use Rattle.template_parts.specs.Told.{made_of, calls_of, steps_left, post_id};
 ghost use Rattle.template_parts.specs.Told.{ArePostsOfSteps};
+ghost use Rattle.template_parts.specs.Open.{event_of};
 
 use crate::open_page::OpenPage;
 use crate::steps::{Step, steps_of_page};
@@ -21,10 +22,12 @@ fn post_id(posts: &[Post], step: Step) -> Option<u32>
 }
 
 impl OpenPage {
-    /// Returns the invocation that is the innermost frame of the page's run, if there is one. There
-    /// is none before the first turn.
+    /// Returns the invocation that the page's last turn has made. It is `None` before the first
+    /// turn.
     pub fn invocation(&self) -> Option<Invocation<'_>>
-        ensures { option_map made_as result ≡ made_of self.entry.now }
+        ensures made { option_map made_as result ≡ made_of self.entry.now }
+        ensures event { IfSome result (λ i. (i.callback ≡ (event_of self.entry.now).callback)
+            × (i.call.now ≡ (event_of self.entry.now).call)) }
     {
         self.run.invocation()
     }

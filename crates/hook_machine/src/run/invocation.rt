@@ -1,12 +1,11 @@
-//! The invocation that is a stopped run's innermost frame. That the run's last turn made it, no
-//! clause says.
+//! The invocation that a stopped run's last turn has made: the innermost of its frames.
 ghost use Rattle.std.specs.Prelude.{◌≡◌, IfOk, IfSome, option_map, slice_get};
 ghost use Rattle.std.specs.Option.{option_copied};
 ghost use Rattle.hook_machine.specs.Invocations.{made_as, last_made, reached_by, invoked_in};
 ghost use Rattle.hook_machine.specs.Invocations.{reply_made, GoesOnWith};
 ghost use Rattle.hook_meaning.specs.Meaning.{Engine};
 ghost use Rattle.hook_machine.specs.Outcomes.{engine_over};
-ghost use Rattle.hook_machine.specs.Runs.{paused_world};
+ghost use Rattle.hook_machine.specs.Runs.{paused_world, paused_event};
 
 use crate::run::calls::reply_of;
 use crate::run::frames::{Frame, Invoked};
@@ -17,7 +16,7 @@ use hook_changes::{Call, CallbackId, Reply};
 use hook_registry::Priority;
 use std::alloc::{AllocError, Global};
 
-/// An invocation that is the innermost frame of a run: its callback, and its call.
+/// An invocation that the last turn of a run has made: its callback, and its call.
 #[derive(Drop)]
 pub struct Invocation<'r> {
     pub callback: CallbackId,
@@ -67,10 +66,12 @@ fn innermost(stack: &Stack) -> Option<&Invoked>
 }
 
 impl PausedRun {
-    /// Returns the invocation that is the innermost frame. There is none before the first turn of a
-    /// job, and none if the innermost frame is no invocation, as after the last turn.
+    /// Returns the invocation that the last turn has made. It is `None` before the first turn of a
+    /// job, and after the last.
     pub fn invocation(&self) -> Option<Invocation<'_>>
         ensures made { option_map made_as result ≡ last_made self.entry.now }
+        ensures event { IfSome result (λ i. (i.callback ≡ (paused_event self.entry.now).callback)
+            × (i.call.now ≡ (paused_event self.entry.now).call)) }
         ensures left { (engine : Engine) → IfSome result (λ i.
             GoesOnWith engine self.entry.now i.callback i.call.now) }
     {

@@ -6,7 +6,7 @@ ghost use Rattle.hook_machine.specs.Outcomes.{engine_over};
 ghost use Rattle.hook_machine.specs.Rest.{rest, rest_with};
 ghost use Rattle.hook_machine.specs.Jobs.{job_left, left_from};
 ghost use Rattle.hook_machine.specs.Moves.{Does, Moves, AddsWeight, room_of, still_left, TurnsBy};
-ghost use Rattle.hook_machine.specs.Moves.{IsOver};
+ghost use Rattle.hook_machine.specs.Moves.{IsOver, made_at};
 
 use crate::run::asks::{invocation_turn, waiting_turn};
 use crate::run::frames::{Frame, Move, Pace};
@@ -106,7 +106,8 @@ fn hand_on<S: Stated>(
 ) -> Result<Turn, RunFault>
     ensures turns { TurnsBy pace
         (still_left (engine_over S.says S.number plugins.now) moved state.old stack.old) result
-        state.new (rest (engine_over S.says S.number plugins.now) state.new stack.new) }
+        (made_at state.new stack.new)
+        (rest (engine_over S.says S.number plugins.now) state.new stack.new) }
     ensures over { IsOver result stack.new }
 {
     let mut moved = moved;
@@ -177,7 +178,8 @@ pub fn next_turn<S: Stated>(
 ) -> Result<Turn, RunFault>
     ensures turns { TurnsBy pace
         (left_from (engine_over S.says S.number plugins.now) state.old job stack.old) result
-        state.new (rest (engine_over S.says S.number plugins.now) state.new stack.new) }
+        (made_at state.new stack.new)
+        (rest (engine_over S.says S.number plugins.now) state.new stack.new) }
     ensures over { IsOver result stack.new }
     ensures cache { cache.new ≡ cache.old }
 {

@@ -8,6 +8,7 @@
 //! often a result is handed on, so `jobs` comes to an end.
 ghost use Rattle.std.specs.Prelude.{◌≡◌, ◌<◌, ℕ, List, IfOk, IfErr, IsTrue, OnOk, take};
 ghost use Rattle.hook_machine.specs.declared.run.frames.Pace.TheVariants.{Through};
+ghost use Rattle.hook_changes.specs.declared.reply.Call.{Call};
 ghost use Rattle.hook_meaning.specs.World.{World};
 ghost use Rattle.hook_meaning.specs.Meaning.{Engine, pass, filter_pass, action_pass, invoke};
 ghost use Rattle.hook_meaning.specs.Meaning.{hook_call, arguments, value_after};
@@ -15,6 +16,7 @@ ghost use Rattle.hook_machine.specs.Outcomes.{engine_over};
 ghost use Rattle.hook_machine.specs.PassedOver.{left_by_core};
 ghost use Rattle.hook_machine.specs.Rest.{after_call, pass_left, pending_left};
 ghost use Rattle.hook_machine.specs.Moves.{Does, AddsWeight, Invokes, MayAnswer, went_left};
+ghost use Rattle.hook_machine.specs.Moves.{made_by, went_by};
 
 use crate::run::calls::reply_of;
 use crate::run::frames::{Frame, HookPass, Invoked, Move, Pace, PassParts, Pending, Went};
@@ -54,6 +56,7 @@ fn went(invoked: Invoked, pending: Pending, pace: Pace) -> Went
     ensures left { (engine : Engine) (world : World)
         → pending_left engine world invoked.callback invoked.call pending
         ≡ went_left engine world result }
+    ensures made { (world : World) → went_by world result ≡ made_by world invoked }
     ensures may { MayAnswer pace result }
 {
     let mut invoked = invoked;
@@ -207,8 +210,8 @@ pub fn begin_pass<S: Stated>(
 /// it is.
 pub fn may_pass_over(state: &State, hook: &str, value: &str, pace: Pace) -> bool
     ensures { IsTrue result → (pace ≡ Through) × ((engine : Engine) (args : List (List ℕ))
-        → filter_pass (invoke engine) state.now hook.now value.now args
-        ≡ left_by_core state.now hook.now value.now) }
+        → (call : Call) × (filter_pass (invoke engine) state.now hook.now value.now args
+        ≡ left_by_core state.now hook.now call value.now)) }
 {
     match pace {
         Pace::ByTurns => false,

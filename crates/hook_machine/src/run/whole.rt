@@ -161,7 +161,7 @@ impl<'a, S: Stated> Run<'a, S> {
     ghost use Rattle.hook_meaning.specs.Meaning.{filtered, acted, replaced};
     ghost use Rattle.hook_machine.specs.Outcomes.{RunsAs, engine_with};
     ghost use Rattle.hook_machine.specs.Moves.{Turns};
-    ghost use Rattle.hook_machine.specs.Runs.{world_of, fault_of, engine_of, left_of};
+    ghost use Rattle.hook_machine.specs.Runs.{world_of, fault_of, engine_of, left_of, last_event};
     ghost use Rattle.hook_machine.specs.Runs.{CanBegin, IsIdle, IsIdleAtEnd, Keeps};
 
     /// Makes a run with nothing registered and nothing printed, of a site with these active plugins
@@ -311,7 +311,8 @@ impl<'a, S: Stated> Run<'a, S> {
     /// out, or until the job's end.
     pub fn turn(&mut self, cache: &mut PieceCache) -> Result<Turn, RunFault>
         ensures turns { fault_of self.old ≡ None →
-            Turns (left_of (engine_of S.says S.number self.old) self.old) result (world_of self.new)
+            Turns (left_of (engine_of S.says S.number self.old) self.old) result
+            (last_event self.new)
             (left_of (engine_of S.says S.number self.old) self.new) }
         ensures idle { IsIdleAtEnd result self.new }
         ensures keeps { Keeps S.says S.number self.old result self.new }

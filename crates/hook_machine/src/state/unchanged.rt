@@ -1,6 +1,7 @@
 //! Passes that change nothing but the number of calls left. They need not be made.
 ghost use Rattle.std.specs.Prelude.{◌≡◌, ◌<◌, List, IsTrue};
 ghost use Rattle.plain_data.specs.Texts.{Text};
+ghost use Rattle.hook_changes.specs.declared.reply.Call.{Call};
 ghost use Rattle.hook_meaning.specs.Meaning.{Engine, filter_pass, invoke};
 ghost use Rattle.hook_machine.specs.PassedOver.{IsCoreAlone, left_by_core};
 
@@ -31,8 +32,8 @@ impl State {
     /// on the hook and the value is a text without shortcodes. That takes one call.
     pub fn leaves(&self, hook: &str, value: &str) -> bool
         ensures { IsTrue result → (engine : Engine) (args : List Text)
-            → filter_pass (invoke engine) self.now hook.now value.now args
-            ≡ left_by_core self.now hook.now value.now }
+            → (call : Call) × (filter_pass (invoke engine) self.now hook.now value.now args
+            ≡ left_by_core self.now hook.now call value.now) }
     {
         if !self.has_room() || !is_hook_name(hook) {
             return false;

@@ -1,7 +1,7 @@
 use Rattle.std.proofs.Common.{◌∙◌, Err, subst}
 use Rattle.hook_meaning.specs.Meaning.{Engine}
 use Rattle.std.proofs.lemmas.Result.{err_from_is_err_and}
-use Rattle.hook_machine.specs.Runs.{engine_of, world_of}
+use Rattle.hook_machine.specs.Runs.{engine_of, last_event}
 use Rattle.hook_machine.proofs.Going.{leads_then, refused_then}
 use Rattle.template_parts.specs.Left.{run_left, Moves, work_of_move, work_of_stop}
 use Rattle.template_parts.proofs.moves.next_stop.Goals as goal
@@ -35,8 +35,8 @@ returns-in_err-moved-in-None-clause-stops g c =
     let p = err_from_is_err_and c.from_residual-in_err-moved-in-None.result c.from_residual-in_err-moved-in-None.ensures.1 in
     rw (p.1, p.2) (refused_then c.args.pace (run_left engine settings posts c.args.run.now c.args.ahead.now)
     (run_left engine settings posts c.moves.run c.moves.ahead)
-    (λ move. work_of_move move (world_of now.run) (run_left engine settings posts now.run now.ahead))
-    (λ stop. work_of_stop stop (world_of now.run) (run_left engine settings posts now.run now.ahead)) c.in_err-moved-in-None.field-0.0
+    (λ move. work_of_move move (last_event now.run) (run_left engine settings posts now.run now.ahead))
+    (λ stop. work_of_stop stop (last_event now.run) (run_left engine settings posts now.run now.ahead)) c.in_err-moved-in-None.field-0.0
     (rw c.in-None.is at c.moves.invariant.leads)
-    (subst (λ (e : Engine). Moves c.args.pace (run_left e settings posts c.moves.run c.moves.ahead) (Err c.in_err-moved-in-None.field-0.0) (world_of now.run)
+    (subst (λ (e : Engine). Moves c.args.pace (run_left e settings posts c.moves.run c.moves.ahead) (Err c.in_err-moved-in-None.field-0.0) (last_event now.run)
     (run_left e settings posts now.run now.ahead)) c.moves.invariant.engine c.in_err-moved-in-None.ensures.moves))

@@ -1,5 +1,5 @@
 use Rattle.std.proofs.Common.{◌≡◌, None, Ok}
-use Rattle.hook_machine.specs.Runs.{world_of, fault_of, engine_of, IsIdle}
+use Rattle.hook_machine.specs.Runs.{last_event, fault_of, engine_of, IsIdle}
 use Rattle.template_parts.specs.Left.{run_left, IsIdleIfOver, work_of_move, moves_after}
 use Rattle.hook_machine.specs.Moves.{Leads}
 use Rattle.template_parts.proofs.moves.next_stop.Given as goal
@@ -10,7 +10,7 @@ invariant-moves g l =
     let engine = engine_of g.S.Stated.says g.S.Stated.number l.fn.run in
     record {
       leads : Leads l.pace (run_left engine l.settings l.posts l.fn.run l.fn.ahead)
-          (work_of_move l.moved (world_of l.run) (run_left engine l.settings l.posts l.run l.ahead));
+          (work_of_move l.moved (last_event l.run) (run_left engine l.settings l.posts l.run l.ahead));
       over : IsIdleIfOver (Ok l.moved) l.run;
       idle : l.ahead.hand ≡ None → IsIdle l.run;
       sound : fault_of l.run ≡ None;

@@ -1,7 +1,7 @@
 use Rattle.std.proofs.Common.{Option, Err, sym, subst}
 use Rattle.template_parts.specs.declared.item.Hand.{Hand}
 use Rattle.template_parts.specs.Left.{Moves, job_or_nothing, then_items, run_left}
-use Rattle.hook_machine.specs.Runs.{world_of, engine_of, left_of}
+use Rattle.hook_machine.specs.Runs.{world_of, last_event, engine_of, left_of}
 use Rattle.std.proofs.lemmas.Result.{err_from_is_err_and}
 use Rattle.hook_machine.proofs.Going.{leads_here}
 use Rattle.template_parts.specs.Places.{items_left}
@@ -34,8 +34,8 @@ returns-in_err-go_on-in-Some-clause-moves g c =
     let now = run_left engine settings c.args.posts.now c.go_on.new.self c.args.ahead.now in
     rw (p.1, p.2) (subst (λ (hand : Option Hand). Moves c.args.pace
     (then_items engine settings (job_or_nothing (world_of c.args.run.now) (left_of engine c.args.run.now) hand) items) (Err c.in_err-go_on-in-Some.field-0.0)
-    (world_of c.go_on.new.self) now) (sym c.in-Some.is) (refused_move engine settings c.in-Some.hand items (world_of c.args.run.now) c.args.pace
-    (left_of engine c.args.run.now) (left_of engine c.go_on.new.self) c.in_err-go_on-in-Some.field-0.0 (world_of c.go_on.new.self) (world_of c.go_on.new.self)
+    (last_event c.go_on.new.self) now) (sym c.in-Some.is) (refused_move engine settings c.in-Some.hand items (world_of c.args.run.now) c.args.pace
+    (left_of engine c.args.run.now) (left_of engine c.go_on.new.self) c.in_err-go_on-in-Some.field-0.0 (last_event c.go_on.new.self) (last_event c.go_on.new.self)
     now
     (c.in_err-go_on-in-Some.ensures.turns c.requires.sound)))
 
@@ -45,7 +45,7 @@ returns-in-More-clause-moves g c =
     let engine = engine_of g.S.Stated.says g.S.Stated.number c.args.run.now in
     rw c.in-Some.is (more_move engine c.args.settings.now c.in-Some.hand (items_left c.args.settings.now c.args.posts.now c.args.ahead.now.steps)
     (world_of c.args.run.now) c.args.pace (left_of engine c.args.run.now) (left_of engine c.go_on.new.self) c.in_ok-go_on-in-Some.field-0
-    (world_of c.go_on.new.self) (c.in_ok-go_on-in-Some.ensures.turns c.requires.sound) c.in-More.is)
+    (last_event c.go_on.new.self) (c.in_ok-go_on-in-Some.ensures.turns c.requires.sound) c.in-More.is)
 
 -- it is done, and its result was handed on
 pub returns-in_ok-hand_on-in-Done-clause-moves : goal.returns-in_ok-hand_on-in-Done-clause-moves
@@ -53,5 +53,5 @@ returns-in_ok-hand_on-in-Done-clause-moves g c =
     let engine = engine_of g.S.Stated.says g.S.Stated.number c.args.run.now in
     rw c.in-Some.is (done_move engine c.args.settings.now c.in-Some.hand (items_left c.args.settings.now c.args.posts.now c.args.ahead.now.steps)
     (world_of c.args.run.now) c.args.pace (left_of engine c.args.run.now) (left_of engine c.go_on.new.self) c.in_ok-go_on-in-Some.field-0 c.in-Done.text
-    (world_of c.go_on.new.self) (world_of c.hand_on.new.run) (c.in_ok-go_on-in-Some.ensures.turns c.requires.sound) c.in-Done.is
+    (last_event c.go_on.new.self) (world_of c.hand_on.new.run) (c.in_ok-go_on-in-Some.ensures.turns c.requires.sound) c.in-Done.is
     c.in_ok-hand_on-in-Done.ensures.done)

@@ -1,7 +1,8 @@
-use Rattle.std.proofs.Common.{ap, ◌∙◌}
+use Rattle.std.proofs.Common.{ap, sym, ◌∙◌}
 use Rattle.std.proofs.lemmas.Result.{err_from_is_err_and}
 use Rattle.hook_machine.specs.Outcomes.{engine_over}
 use Rattle.hook_meaning.specs.Trace.{Turn}
+use Rattle.hook_machine.specs.Moves.{made_by, went_left}
 use Rattle.hook_machine.proofs.Steps.{turn_begun}
 use Rattle.hook_machine.proofs.Going.{refused_invokes}
 use Rattle.hook_machine.proofs.run.passes.invoke.Goals as goal
@@ -17,4 +18,5 @@ returns-clause-invokes g c =
     let engine = engine_over g.S.Stated.says g.S.Stated.number c.args.plugins.now in
     turn_begun engine c.args.state.now c.take_call.new.self c.args.invoked.callback c.args.invoked.call (c.call_and_apply.new.state, c.in_ok-pending.pending)
     c.in_ok-take_call.ensures.left c.in_ok-take_call.ensures.ok c.in_ok-pending.ensures.ok
-    ∙ ap (Turn c.call_and_apply.new.state) (c.went.ensures.left engine c.call_and_apply.new.state)
+    ∙ ap (Turn (made_by c.call_and_apply.new.state c.args.invoked)) (c.went.ensures.left engine c.call_and_apply.new.state)
+    ∙ ap (λ made. Turn made (went_left engine c.call_and_apply.new.state c.went.result)) (sym (c.went.ensures.made c.call_and_apply.new.state))

@@ -14,7 +14,7 @@ returns-in_err-went-clause-moves g c =
 pub returns-in-Answered-clause-moves : goal.returns-in-Answered-clause-moves
 returns-in-Answered-clause-moves g c =
     let engine = engine_over g.S.Stated.says g.S.Stated.number c.args.plugins.now in
-    rw c.keep_spare.ensures (answer_handed engine (invoke engine c.args.state.now c.args.invoked.callback c.args.invoked.call) c.invoke.new.state
+    rw c.keep_spare.ensures (answer_handed engine (invoke engine c.args.state.now c.args.invoked.callback c.args.invoked.call) _ c.invoke.new.state
     c.in-Answered.text c.args.stack.now (rw c.in-Answered.is at c.in_ok-went.ensures.invokes) (rw c.in-Answered.is at c.in_ok-went.ensures.may))
 
 pub returns-in_ok-put_first-in-Waits-clause-moves : goal.returns-in_ok-put_first-in-Waits-clause-moves

@@ -39,7 +39,7 @@ entries-preserved g c =
       frames = c.keep_spare.ensures ∙ c.next_invocation.ensures.stack ∙ c.entries.invariant.frames;
       leads = rw (c.keep_spare.ensures, c.next_invocation.ensures.stack) (goes_over engine (then_rest engine (pass_left engine c.args.state.now c.args.pass) c.args.stack.now)
           (pass_left engine c.entries.state c.entries.pass) c.entries.state c.in_ok-invoked-in-Some.invoked.callback
-          c.in_ok-invoked-in-Some.invoked.call (frame.Pass c.next_invocation.new.pass) c.entries.stack goes c.entries.invariant.leads c.invoke.new.state
+          c.in_ok-invoked-in-Some.invoked.call (frame.Pass c.next_invocation.new.pass) c.entries.stack goes c.entries.invariant.leads _ c.invoke.new.state
           c.in-Answered.answer (pass_left engine c.invoke.new.state c.hand_in_turn.new.self)
           (rw c.in-Answered.is at c.in_ok-went-in-Some.ensures.invokes)
           (rw c.in-Answered.is at c.in_ok-went-in-Some.ensures.may)

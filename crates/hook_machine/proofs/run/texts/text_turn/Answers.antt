@@ -6,7 +6,7 @@ use Rattle.hook_machine.specs.declared.run.frames.Pending.TheVariants.{Next}
 use Rattle.hook_meaning.specs.Trace.{Turn}
 use Rattle.hook_meaning.specs.World.{World}
 use Rattle.hook_meaning.specs.Meaning.{invoke}
-use Rattle.hook_machine.specs.Moves.{Invokes}
+use Rattle.hook_machine.specs.Moves.{Invokes, made_by}
 use Rattle.hook_machine.specs.Outcomes.{engine_over}
 use Rattle.hook_machine.specs.Rest.{text_left, then_rest}
 use Rattle.hook_machine.proofs.Steps.{answer_goes}
@@ -39,7 +39,7 @@ returns-then-filters_shortcodes-clause-moves g c =
     c.pieces.state c.in-Some.handling.invoked.callback c.in-Some.handling.invoked.call (frame.Shortcodes c.next_handling.new.self) c.pieces.stack goes
     c.pieces.invariant.leads c.invoke.new.state later _
     ((rw (c.next_handling.ensures.state, c.in-Answered.is) at c.in_ok-went-in-Some.ensures.invokes)
-    ∙ ap (Turn c.invoke.new.state) (sym (answer_goes engine c.invoke.new.state c.in-Answered.invoked.callback c.in-Answered.invoked.call c.in-Answered.answer)))
+    ∙ ap (Turn (made_by c.invoke.new.state c.in-Answered.invoked)) (sym (answer_goes engine c.invoke.new.state c.in-Answered.invoked.callback c.in-Answered.invoked.call c.in-Answered.answer)))
     refl))
 
 pub pieces-preserved : goal.pieces-preserved
@@ -52,7 +52,7 @@ pieces-preserved g c =
       leads = rw (c.keep_spare.ensures, c.next_handling.ensures.stack, c.filters_shortcodes.ensures.same)
           (goes_over engine (then_rest engine (text_left engine c.args.state.now c.args.pass) c.args.stack.now)
           (text_left engine c.pieces.state c.pieces.pass) c.pieces.state c.in-Some.handling.invoked.callback
-          c.in-Some.handling.invoked.call (frame.Shortcodes c.next_handling.new.self) c.pieces.stack goes c.pieces.invariant.leads c.invoke.new.state
+          c.in-Some.handling.invoked.call (frame.Shortcodes c.next_handling.new.self) c.pieces.stack goes c.pieces.invariant.leads _ c.invoke.new.state
           c.in-Answered.answer (text_left engine c.invoke.new.state c.append.new.self)
           (rw (c.next_handling.ensures.state, c.in-Answered.is) at c.in_ok-went-in-Some.ensures.invokes)
           (rw c.in-Answered.is at c.in_ok-went-in-Some.ensures.may)

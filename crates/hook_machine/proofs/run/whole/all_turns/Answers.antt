@@ -4,7 +4,7 @@ use Rattle.hook_machine.specs.declared.run.frames.Pace.TheVariants.{Through}
 use Rattle.hook_machine.specs.Outcomes.{engine_over}
 use Rattle.hook_machine.specs.Jobs.{left_from}
 use Rattle.hook_machine.specs.Rest.{rest}
-use Rattle.hook_machine.specs.Moves.{trace_of_turn}
+use Rattle.hook_machine.specs.Moves.{made_at, trace_of_turn}
 use Rattle.hook_machine.proofs.Outcomes.{ends_alike}
 use Rattle.hook_machine.proofs.Going.{ends_refused, same_end, fewer_turns}
 use Rattle.hook_machine.proofs.run.whole.all_turns.Goals as goal
@@ -14,7 +14,7 @@ returns-in_err-turned-clause-ends g c =
     let engine = engine_over g.S.Stated.says g.S.Stated.number c.args.plugins.now in
     let p = err_from_is_err_and c.from_residual.result c.from_residual.ensures.1 in
     rw (p.1, p.2) (ends_refused Through (left_from engine c.args.state.now c.args.job c.args.stack.now)
-    (λ turn. trace_of_turn turn c.next_turn.new.state (rest engine c.next_turn.new.state c.next_turn.new.stack)) c.in_err-turned.field-0.0
+    (λ turn. trace_of_turn turn (made_at c.next_turn.new.state c.next_turn.new.stack) (rest engine c.next_turn.new.state c.next_turn.new.stack)) c.in_err-turned.field-0.0
     c.in_err-turned.ensures.turns _)
 
 pub turns-init : goal.turns-init
@@ -27,7 +27,7 @@ returns-in_err-turned-in-More-clause-ends g c =
     rw (p.1, p.2) (ends_alike (rest engine c.turns.state c.turns.stack) (left_from engine c.args.state.now c.args.job c.args.stack.now)
     (Err c.in_err-turned-in-More.field-0.0) c.next_turn-in-More.new.state (rw c.in-More.is at c.turns.invariant.ends)
     (ends_refused Through (rest engine c.turns.state c.turns.stack)
-    (λ turn. trace_of_turn turn c.next_turn-in-More.new.state (rest engine c.next_turn-in-More.new.state c.next_turn-in-More.new.stack))
+    (λ turn. trace_of_turn turn (made_at c.next_turn-in-More.new.state c.next_turn-in-More.new.stack) (rest engine c.next_turn-in-More.new.state c.next_turn-in-More.new.stack))
     c.in_err-turned-in-More.field-0.0 c.in_err-turned-in-More.ensures.turns _))
 
 pub turns-smaller : goal.turns-smaller

@@ -2,7 +2,7 @@ use Rattle.std.proofs.Common.{◌∙◌, Err, sym, subst}
 use Rattle.hook_meaning.specs.Meaning.{Engine}
 use Rattle.std.proofs.lemmas.Result.{err_from_is_err_and}
 use Rattle.hook_machine.specs.declared.run.frames.Pace.TheVariants.{Through}
-use Rattle.hook_machine.specs.Runs.{engine_of, world_of}
+use Rattle.hook_machine.specs.Runs.{engine_of, last_event}
 use Rattle.hook_machine.proofs.Going.{same_end, fewer_turns}
 use Rattle.template_parts.specs.Page.{page_left, run_in, Goes}
 use Rattle.template_parts.proofs.Moving.{print_refused, print_done}
@@ -13,8 +13,8 @@ returns-in_err-turned-clause-err g c =
     let engine = engine_of g.S.Stated.says g.S.Stated.number (run_in c.args.self.now) in
     let p = err_from_is_err_and c.from_residual.result c.from_residual.ensures.1 in
     λ sound. rw (p.1, p.2) (print_refused Through (page_left engine c.turns.self) (page_left engine c.advance.new.self) (page_left engine c.args.self.now)
-    c.in_err-turned.field-0.0 (world_of (run_in c.advance.new.self)) c.turns.invariant.ends
-    (subst (λ (e : Engine). Goes Through (page_left e c.turns.self) (Err c.in_err-turned.field-0.0) (world_of (run_in c.advance.new.self))
+    c.in_err-turned.field-0.0 (last_event (run_in c.advance.new.self)) c.turns.invariant.ends
+    (subst (λ (e : Engine). Goes Through (page_left e c.turns.self) (Err c.in_err-turned.field-0.0) (last_event (run_in c.advance.new.self))
     (page_left e c.advance.new.self)) c.turns.invariant.engine (c.in_err-turned.ensures.goes c.turns.invariant.sound)))
 
 pub returns-in-Done-clause-bytes : goal.returns-in-Done-clause-bytes
