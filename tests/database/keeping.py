@@ -60,6 +60,14 @@ MIXED = (
     b'{"cmd":"begin","path":"/?p=1"}',
 )
 
+# A site with a page of some twenty calls, and limits by which it is refused and printed in turn.
+LIMITED = (
+    line_of(cmd="activate", plugin="bold"),
+    put(title="T", content="[b]x[/b]" * 20),
+    put(title="U"),
+)
+CALLS = ("19", "10000", "1", "100000", "20")
+
 
 def check_identity(program, file):
     """A new file has one line: a JSON object that is no command, with the plugins' names in order and their numbers."""
@@ -189,6 +197,31 @@ def takes_options(program, file):
         raise Wrong(f"with --trace it ended with status {ran.returncode}, or told something else: {shown(ran.stderr)}")
 
 
+def takes_another_limit(program, file):
+    """Another --calls at a new start: the same edits, the same export, and pages by the new limit."""
+    lines = [*check_identity(program, file).splitlines(), *LIMITED]
+    replies(program, LIMITED, *over(file))
+    gets, seen = [get("/?p=1"), get("/?p=2")], set()
+    export = run(program, b"", *over(file, "--export")).stdout
+    for number, calls in enumerate(CALLS, 3):
+        words = ("--calls", calls)
+        came = replies(program, gets, *over(file, *words))
+        if came != replies(program, [*lines[1:], *gets], *words)[-2:]:
+            raise Wrong(f"with --calls {calls} the pages are {came}, others than in memory")
+        seen.add(came[0])
+        check_equal(history(file), lines)
+        if run(program, b"", *over(file, "--export", *words)).stdout != export:
+            raise Wrong(f"with --calls {calls} the export is another")
+        # An edit is done under any limit, and the next start finds it; its draft changes no export's other lines.
+        line = put(title=f"with {calls}", status="draft")
+        if replies(program, [line], *over(file, *words)) != [b"ok %d\n" % number]:
+            raise Wrong(f"with --calls {calls} an edit has another reply")
+        lines.append(line)
+        export = run(program, b"", *over(file, "--export")).stdout
+    if b"refused 9 TooManyCalls\n" not in seen or len(seen) != 2:
+        raise Wrong(f"the page of many calls was {sorted(map(shown, seen))}")
+
+
 def takes_paths(program, file):
     """The path may be relative, have any letters, be a link or an empty file; only the log is beside it."""
     folder = file.parent
@@ -277,7 +310,7 @@ def cases(program):
     """Each check by its name, with what judges it."""
     checks = (
         keeps, acknowledges, syncs_before_replies, takes_chunks, waits_in_bounds, holds_little_back, loses_open_pages,
-        takes_options, takes_paths, loses_no_edit_to_a_reader, keeps_at_other_ends, bad_arguments,
+        takes_options, takes_another_limit, takes_paths, loses_no_edit_to_a_reader, keeps_at_other_ends, bad_arguments,
     )
     for check in checks:
         yield check.__doc__, lambda check=check: in_a_folder(check, program)

@@ -4,7 +4,10 @@ import sys
 import tempfile
 from pathlib import Path
 
+import keeping
+import readers
 from clients import over, put, replies, same_pages
+from commits import check_found
 from files import check_after_a_crash, check_equal, doctored, history
 
 HERE = Path(__file__).resolve().parent
@@ -40,6 +43,19 @@ DOCTORED = {
 }
 # Leaves out the last line of what it is given, and has the program serve the rest.
 FORGETS = '#!/bin/sh\nsed "\\$d" | {program} "$@"; echo ok 12\n'
+# Of what a site in a file is given, reads some lines, and has the program serve these alone.
+READS_LESS = """#!/bin/sh
+[ "$1" = --database ] || exec {program} "$@"
+head -n 150 >"$2.given" && exec {program} "$@" <"$2.given"
+"""
+# Never lets the program know of a limit on calls.
+UNLIMITED = '#!/bin/sh\n[ "$3" != --calls ] || set -- "$1" "$2"\nexec {program} "$@"\n'
+# Histories after a commit of the last six edits has failed.
+AFTER_A_COMMIT = {
+    "half of a commit is there": [("DELETE FROM command WHERE number > ?", (10,))],
+    "an edit before a commit that failed is lost": [("DELETE FROM command WHERE number > ?", (6,))],
+    "the first edit of a commit that failed is lost": [("DELETE FROM command WHERE number = ?", (8,)), (RENUMBER, (8,))],
+}
 
 
 def check(file, identity):
@@ -75,6 +91,19 @@ def forgetful(program, folder):
     noticed(lambda: check_equal(history(file), [identity, *EDITS]))
 
 
+def otherwise(program, text, check):
+    """A program that does otherwise is noticed by a check that the program itself passes."""
+    with tempfile.TemporaryDirectory() as folder:
+        check(program, Path(folder, "site.db"))
+    with tempfile.TemporaryDirectory() as folder:
+        path = executable(folder, "otherwise", text.format(program=program))
+        noticed(lambda: check(str(path), Path(folder, "site.db")))
+
+
+def check_commit(file, identity):
+    check_found(history(file), [identity, *EDITS[:BEFORE]], EDITS[BEFORE:6], EDITS[6:])
+
+
 def cases(program):
     """What must be noticed, by its name."""
     with tempfile.TemporaryDirectory() as folder:
@@ -86,5 +115,14 @@ def cases(program):
             copy = doctored(file, statements, folder)
             yield name, lambda copy=copy: noticed(lambda: check(copy, identity))
             copy.unlink()
+        yield "all of a commit that failed", lambda: check_commit(file, identity)
+        for name, statements in AFTER_A_COMMIT.items():
+            copy = doctored(file, statements, folder)
+            yield name, lambda copy=copy: noticed(lambda: check_commit(copy, identity))
+            copy.unlink()
+        for check_of in (readers.without_a_reader, readers.never_read, readers.reads_ahead):
+            name = f"fewer edits than were read: {check_of.__name__}"
+            yield name, lambda check_of=check_of: otherwise(program, READS_LESS, check_of)
+        yield "pages without a limit", lambda: otherwise(program, UNLIMITED, keeping.takes_another_limit)
         yield "other pages", lambda: changed_pages(program, file)
         yield "a program that forgets an edit", lambda: forgetful(program, folder)

@@ -50,20 +50,31 @@ class Program:
     def __init__(self, path):
         self.path = path
 
-    def replies(self, lines, calls=CALLS, cache=None):
-        """The replies to some lines, one for each."""
-        words = [self.path, "--calls", str(calls), *(["--cache", str(cache)] if cache else [])]
+    def replies(self, lines, calls=CALLS, cache=None, file=None):
+        """The replies to some lines, one for each, by a site in memory or in a file."""
+        words = ["--calls", str(calls), *(["--cache", str(cache)] if cache else [])]
+        output = self.output(lines, *words, *(["--database", str(file)] if file else []))
+        replies, rest = read_replies(output)
+        if rest or len(replies) != len(lines):
+            raise Wrong(f"{len(lines)} lines have {len(replies)} replies, and {len(rest)} bytes after them")
+        return replies
+
+    def compact(self, file):
+        """Shortens the history in a file."""
+        output = self.output([], "--database", str(file), "--compact")
+        if output:
+            raise Wrong(f"--compact writes {shown(output)}")
+
+    def output(self, lines, *words):
+        """What a run over some lines writes, which has to end well."""
         given = b"".join(line + b"\n" for line in lines)
         try:
-            run = subprocess.run(words, input=given, capture_output=True, timeout=SECONDS)
+            run = subprocess.run([self.path, *words], input=given, capture_output=True, timeout=SECONDS)
         except subprocess.TimeoutExpired:
             raise Wrong(f"it had not ended after {SECONDS} seconds") from None
         if run.returncode or run.stderr:
             raise Wrong(f"it ended with status {run.returncode} and says {shown(run.stderr)}")
-        replies, rest = read_replies(run.stdout)
-        if rest or len(replies) != len(lines):
-            raise Wrong(f"{len(lines)} lines have {len(replies)} replies, and {len(rest)} bytes after them")
-        return replies
+        return run.stdout
 
 
 def same(lines, replies, others, what):

@@ -1,13 +1,16 @@
 """The checks' own test: each of them must notice a program that breaks what it says."""
 
+import json
+import sqlite3
 from collections import namedtuple
+from contextlib import closing
 
 from checks import CALLS, Program
 from replies import Wrong, refusal_of
 from values import command_of
 
 # A reply, its line, the lines and replies before it, and the options of the run.
-Seen = namedtuple("Seen", "before replies line reply calls cache")
+Seen = namedtuple("Seen", "before replies line reply calls cache file")
 
 
 class Broken(Program):
@@ -17,8 +20,37 @@ class Broken(Program):
         super().__init__(program.path)
         self.broken = broken
 
-    def replies(self, lines, calls=CALLS, cache=None):
-        return self.broken(lines, super().replies(lines, calls, cache), calls, cache)
+    def replies(self, lines, calls=CALLS, cache=None, file=None):
+        return self.broken(lines, super().replies(lines, calls, cache, file), calls, cache, file)
+
+
+class Forgetful(Program):
+    """Runs of a program whose shortened histories are changed on purpose."""
+
+    def __init__(self, program, forget):
+        super().__init__(program.path)
+        self.forget = forget
+
+    def compact(self, file):
+        super().compact(file)
+        with closing(sqlite3.connect(file, isolation_level=None)) as connection:
+            self.forget(connection)
+
+
+class Stale(Program):
+    """Runs of a program whose pages are others after a history was shortened."""
+
+    def __init__(self, program):
+        super().__init__(program.path)
+        self.shortened = set()
+
+    def compact(self, file):
+        super().compact(file)
+        self.shortened.add(file)
+
+    def replies(self, lines, calls=CALLS, cache=None, file=None):
+        replies = super().replies(lines, calls, cache, file)
+        return [other(it) if is_get(line) else it for line, it in zip(lines, replies)] if file in self.shortened else replies
 
 
 def other(reply):
@@ -34,10 +66,10 @@ def other(reply):
 
 def where(is_wrong):
     """A program with another reply at each place that is wrong."""
-    def broken(lines, replies, calls, cache):
-        seen = (Seen(lines[:at], replies[:at], *pair, calls, cache) for at, pair in enumerate(zip(lines, replies)))
+    def broken(lines, replies, *how):
+        seen = (Seen(lines[:at], replies[:at], *pair, *how) for at, pair in enumerate(zip(lines, replies)))
         return [other(it.reply) if is_wrong(it) else it.reply for it in seen]
-    return broken
+    return lambda program: Broken(program, broken)
 
 
 def is_a(cmd, line):
@@ -60,16 +92,30 @@ def end_of(lines, replies):
     return next((at for at in range(begin + 1, len(lines)) if replies[at] != b"ok\n"), None)
 
 
-def ends_late(lines, replies, calls, cache):
+def ends_late(lines, replies, *_):
     """A page ends a turn too late."""
     at = end_of(lines, replies)
     return replies if at is None else replies[:at] + [b"ok\n"] + replies[at:-1]
 
 
-def ends_early(lines, replies, calls, cache):
+def ends_early(lines, replies, *_):
     """A page ends a turn too early, unless it has only one."""
     at = end_of(lines, replies)
     return replies if at is None or lines[at - 1] != lines[at] else replies[: at - 1] + replies[at:] + replies[-1:]
+
+
+def forgets_the_last_line(connection):
+    """The last line of a shortened history is lost."""
+    connection.execute("DELETE FROM command WHERE number > 1 AND number = (SELECT max(number) FROM command)")
+
+
+def publishes_drafts(connection):
+    """The posts of a shortened history have another status, which no page of a draft shows."""
+    for number, line in connection.execute("SELECT number, line FROM command WHERE number > 1").fetchall():
+        command = json.loads(line)
+        for post in command["site"].get("posts", []) if command["cmd"] == "import" else ():
+            post["status"] = "publish"
+        connection.execute("UPDATE command SET line = ? WHERE number = ?", (json.dumps(command), number))
 
 
 # By the name of each check, the programs that it must notice.
@@ -96,7 +142,13 @@ BREAKS = {
         where(lambda it: is_get(it.line) and any(is_a("begin", line) for line in it.before)),
         where(lambda it: is_get(it.line) and any(is_a("turns", line) for line in it.before)),
     ],
-    "counts": [ends_late, ends_early],
+    "counts": [lambda program: Broken(program, ends_late), lambda program: Broken(program, ends_early)],
+    "compacted": [
+        where(lambda it: is_get(it.line) and it.file),
+        lambda program: Forgetful(program, forgets_the_last_line),
+        lambda program: Forgetful(program, publishes_drafts),
+        Stale,
+    ],
 }
 
 
@@ -110,5 +162,5 @@ def says_wrong(check, program, lines):
 
 def is_noticed(check, program, lists):
     """Whether the check has something to say against each program that breaks it, over one of the lists."""
-    broken = [Broken(program, it) for it in BREAKS[check.__name__]]
+    broken = [broken_by(program) for broken_by in BREAKS[check.__name__]]
     return all(any(says_wrong(check, it, lines) for lines in lists) for it in broken)
