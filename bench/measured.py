@@ -18,7 +18,8 @@ from pathlib import Path
 from exchanges import CHANGE
 
 sys.path.append(str(Path(__file__).resolve().parents[1] / "tools"))
-from quiet import quiet_output  # noqa: E402, F401
+sys.path.append(str(Path(__file__).resolve().parents[1] / "python"))
+from geanmarbles.output import quiet_output  # noqa: E402, F401
 
 CRATES = Path(__file__).resolve().parents[1] / "crates"
 SITE = CRATES / "site" / "out" / "site"

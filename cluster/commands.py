@@ -5,8 +5,8 @@ It is a module, and runs nothing by itself.
 
 from typing import NamedTuple
 
-from edit_bodies import Bad, key_of, lines_of_body
-from edit_bodies import check_token as check_bearer
+from geanmarbles.web.edit_bodies import Bad, key_of, lines_of_body
+from geanmarbles.web.edit_bodies import check_token as check_bearer
 from etcd import Refused, Unreachable, WentBack, reason_of
 from history import OtherBody, sum_of
 

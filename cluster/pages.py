@@ -9,10 +9,10 @@ import threading
 from contextlib import contextmanager
 
 from commands import carry_out, check_token, request_of
-from edit_bodies import Bad, check_length
+from geanmarbles.web.edit_bodies import Bad, check_length
 from etcd import Refused, Unreachable, WentBack, reason_of
 from replica import Fault
-from serving import NoPage, PageHandler, PageServer
+from geanmarbles.web.pages import NoPage, PageHandler, PageServer
 from site_node import WAIT_SECONDS
 
 # How long a client may take to send a body.

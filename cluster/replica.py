@@ -15,8 +15,7 @@ import snapshots
 from etcd import Refused, Unreachable, WentBack, reason_of
 from following import Following
 from history import NONE, Gap
-from program import LINE_BYTES, Ended, NoReply, Program
-from serving import get_line
+from geanmarbles.client.program import LINE_BYTES, Ended, NoReply, Program, get_line
 
 # What a program may refuse an edit with that isn't a function of the lines before it.
 BY_CHANCE = {"11", "12"}

@@ -12,7 +12,7 @@ import traceback
 from etcd import Refused, Unreachable, WentBack, reason_of
 from history import NONE, Gap
 from identity import claimed
-from program import Ended, NoReply
+from geanmarbles.client.program import Ended, NoReply
 from replica import Fault, Replica
 from snapshots import NotMade, OtherMaker, make
 

@@ -21,7 +21,7 @@ from pathlib import Path
 from etcd import Refused, Unreachable, WentBack, decoded, encoded, end_of
 from following import Following
 from history import KEYS_LISTED, NONE, Gap, delete, get, is_absent, is_changed_at, is_made_at, put, sum_of
-from program import LINES, Program
+from geanmarbles.client.program import LINES, Program
 
 # The most bytes of a part: with what goes around them less than the 1.5 MiB that etcd takes in a request.
 PART_BYTES = 1_000_000

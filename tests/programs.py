@@ -7,9 +7,8 @@ import subprocess
 import sys
 from pathlib import Path
 
-from repository import ROOT
-
-BUILT_PROGRAM = ROOT / "crates" / "site" / "out" / "site"
+sys.path.append(str(Path(__file__).resolve().parents[1] / "python"))
+from geanmarbles.paths import BUILT_PROGRAM  # noqa: E402
 
 
 def missing(program):
@@ -57,7 +56,7 @@ def executable(folder, name, text):
 def without_toolchain(folder):
     """The environment in which the few commands that scripts here use are found, and the command `rt` isn't."""
     Path(folder, "python3").symlink_to(sys.executable)
-    for name in ("sh", "cat", "cp", "mkdir", "git"):
+    for name in ("sh", "cat", "cp", "dirname", "git", "mkdir", "readlink"):
         found = shutil.which(name)
         if found:
             Path(folder, name).symlink_to(found)

@@ -17,8 +17,9 @@ from typing import NamedTuple
 ROOT = Path(__file__).resolve().parent.parent.parent
 EXAMPLES = ROOT / "examples"
 sys.path[:0] = [str(EXAMPLES), str(ROOT / "tests")]
-from program import read_reply  # noqa: E402
-from replies import Wrong  # noqa: E402
+sys.path.append(str(Path(__file__).resolve().parents[2] / "python"))
+from geanmarbles.client.program import read_reply  # noqa: E402
+from geanmarbles.client.replies import Wrong  # noqa: E402
 
 SECONDS = 30
 PLAIN = "text/plain; charset=utf-8"

@@ -13,7 +13,8 @@ from judged import judge_at_rest
 from nodes import Cluster
 
 sys.path.insert(0, str(Path(__file__).resolve().parent.parent))
-from replies import Wrong
+sys.path.append(str(Path(__file__).resolve().parents[2] / "python"))
+from geanmarbles.client.replies import Wrong
 
 # A cluster goes on over so many rounds, and then a new one begins.
 ROUNDS_OF_A_CLUSTER = 10

@@ -12,7 +12,8 @@ from clients import PATHS, joined, line_of, name_of, page_of
 from history import violations_of
 
 sys.path.insert(0, str(Path(__file__).resolve().parent.parent))
-from replies import Wrong, shown, whole_replies
+sys.path.append(str(Path(__file__).resolve().parents[2] / "python"))
+from geanmarbles.client.replies import Wrong, shown, whole_replies
 
 SECONDS = 120
 # How long edits may come once no client asks for any: a node tries for some seconds.

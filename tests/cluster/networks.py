@@ -18,7 +18,8 @@ from judged import Skipped, counted, judge_at_rest, must
 from nodes import Cluster
 
 sys.path.insert(0, str(Path(__file__).resolve().parent.parent))
-from replies import Wrong
+sys.path.append(str(Path(__file__).resolve().parents[2] / "python"))
+from geanmarbles.client.replies import Wrong
 
 HERE = Path(__file__).resolve().parent
 # The network, whose addresses nothing else has, and an address of the link layer that nobody has.

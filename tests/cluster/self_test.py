@@ -11,7 +11,8 @@ from history import asked_of, violations_of
 
 HERE = Path(__file__).resolve().parent
 sys.path.insert(0, str(HERE.parent))
-from replies import Wrong
+sys.path.append(str(Path(__file__).resolve().parents[2] / "python"))
+from geanmarbles.client.replies import Wrong
 
 # How many right histories are made, and how many shuffled ones are judged by each pair of edits as well.
 RIGHT, SHUFFLED = 200, 200

@@ -15,8 +15,9 @@ from nodes import Cluster
 from processes import wait_for
 
 sys.path.insert(0, str(Path(__file__).resolve().parent.parent))
+sys.path.append(str(Path(__file__).resolve().parents[2] / "python"))
 from programs import executable
-from replies import Wrong
+from geanmarbles.client.replies import Wrong
 
 # After how many edits a snapshot is made, for how long a client edits, and how long a snapshot may take to be there.
 EVERY, LOAD_SECONDS, SECONDS = 40, 2.0, 120

@@ -12,7 +12,8 @@ from nodes import Cluster
 from processes import wait_for
 
 sys.path.insert(0, str(Path(__file__).resolve().parent.parent))
-from replies import Wrong
+sys.path.append(str(Path(__file__).resolve().parents[2] / "python"))
+from geanmarbles.client.replies import Wrong
 
 # How much etcd may keep, in bytes, and the size of what fills it up.
 QUOTA, LARGE = 8_000_000, 200_000

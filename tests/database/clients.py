@@ -9,7 +9,8 @@ from pathlib import Path
 
 HERE = Path(__file__).resolve().parent
 sys.path[:0] = [str(HERE.parent), str(HERE.parent / "fuzz")]
-from replies import Wrong, read_reply, refusal_of, shown, whole_replies
+sys.path.append(str(Path(__file__).resolve().parents[2] / "python"))
+from geanmarbles.client.replies import Wrong, read_reply, refusal_of, shown, whole_replies
 from values import command_of
 
 SECONDS = 120

@@ -11,8 +11,9 @@ from files import check_equal, copied, history
 
 HERE = Path(__file__).resolve().parent
 sys.path.insert(0, str(HERE.parent))
+sys.path.append(str(Path(__file__).resolve().parents[2] / "python"))
 from programs import compiled
-from replies import Wrong, refusal_of, shown
+from geanmarbles.client.replies import Wrong, refusal_of, shown
 
 FAILED = b"site: the database failed: the disk failed\n"
 # Why a start is refused whose disk fails: as the files are opened, and once they are.

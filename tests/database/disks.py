@@ -12,7 +12,8 @@ from clients import Client, Skipped, check_end, get, joined, line_of, over, put,
 from files import check_equal, copied, found_by_sqlite, history, log_of
 
 sys.path.insert(0, str(Path(__file__).resolve().parent.parent))
-from replies import Wrong
+sys.path.append(str(Path(__file__).resolve().parents[2] / "python"))
+from geanmarbles.client.replies import Wrong
 
 FULL = b"site: the database failed: the disk is full\n"
 # How large the small disk is, and what is taken of it to be given back later: the log may grow by 256 KB at a time.

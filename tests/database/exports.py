@@ -11,9 +11,10 @@ from files import check_equal, copied, history
 
 HERE = Path(__file__).resolve().parent
 sys.path[:0] = [str(HERE.parent), str(HERE.parent / "fuzz")]
+sys.path.append(str(Path(__file__).resolve().parents[2] / "python"))
 from checks import same
 from lines import BY_TURNS, Lines
-from replies import Wrong, shown
+from geanmarbles.client.replies import Wrong, shown
 from sites import Stored, bared
 from values import command_of
 

@@ -8,7 +8,8 @@ import tempfile
 from pathlib import Path
 
 sys.path.insert(0, str(Path(__file__).resolve().parent.parent))
-from replies import Wrong, shown
+sys.path.append(str(Path(__file__).resolve().parents[2] / "python"))
+from geanmarbles.client.replies import Wrong, shown
 
 TABLE = "CREATE TABLE command (number INTEGER PRIMARY KEY, line TEXT NOT NULL) STRICT"
 LINES = "SELECT line FROM command ORDER BY number"

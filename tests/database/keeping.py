@@ -17,8 +17,9 @@ from files import check_equal, history
 
 HERE = Path(__file__).resolve().parent
 sys.path[:0] = [str(HERE.parent), str(HERE.parent / "fuzz")]
+sys.path.append(str(Path(__file__).resolve().parents[2] / "python"))
 from lines import BY_TURNS, Lines
-from replies import Wrong, shown
+from geanmarbles.client.replies import Wrong, shown
 from values import command_of
 
 EXAMPLES = HERE.parents[1] / "examples"

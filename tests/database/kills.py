@@ -15,7 +15,8 @@ from clients import Client, get, is_edit, joined, line_of, over, put, replies, r
 from files import check_after_a_crash, check_equal, copied, history
 
 sys.path.insert(0, str(Path(__file__).resolve().parent.parent))
-from replies import Wrong, refusal_of, shown
+sys.path.append(str(Path(__file__).resolve().parents[2] / "python"))
+from geanmarbles.client.replies import Wrong, refusal_of, shown
 
 # A file goes on over so many rounds, and then a new one begins.
 ROUNDS_OF_A_FILE = 25

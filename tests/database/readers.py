@@ -15,7 +15,8 @@ from files import check_equal, history
 
 HERE = Path(__file__).resolve().parent
 sys.path.insert(0, str(HERE.parent))
-from replies import Wrong
+sys.path.append(str(Path(__file__).resolve().parents[2] / "python"))
+from geanmarbles.client.replies import Wrong
 
 FAILURES = HERE.parents[1] / "docs" / "FAILURES.md"
 WRITE_FAILED = b"site: write failed\n"

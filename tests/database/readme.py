@@ -9,8 +9,9 @@ from pathlib import Path
 
 HERE = Path(__file__).resolve().parent
 sys.path.insert(0, str(HERE.parent))
+sys.path.append(str(Path(__file__).resolve().parents[2] / "python"))
 from programs import executable
-from replies import Wrong
+from geanmarbles.client.replies import Wrong
 
 ROOT = HERE.parents[1]
 SECONDS = 30

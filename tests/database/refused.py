@@ -11,7 +11,8 @@ from clients import Client, check_end, over, put, replies, run
 from files import doctored, history, opened
 
 sys.path.insert(0, str(Path(__file__).resolve().parent.parent))
-from replies import Wrong, shown
+sys.path.append(str(Path(__file__).resolve().parents[2] / "python"))
+from geanmarbles.client.replies import Wrong, shown
 
 # Somebody who isn't root, for whom the system looks at a file's permissions.
 NOBODY = 65_534

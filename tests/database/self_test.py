@@ -12,8 +12,9 @@ from files import check_after_a_crash, check_equal, doctored, history
 
 HERE = Path(__file__).resolve().parent
 sys.path.insert(0, str(HERE.parent))
+sys.path.append(str(Path(__file__).resolve().parents[2] / "python"))
 from programs import executable
-from replies import Wrong
+from geanmarbles.client.replies import Wrong
 
 EDITS = [put(title=f"post {number}", n=number) for number in range(1, 13)]
 # How many of them were there before, and how many of the others were acknowledged.

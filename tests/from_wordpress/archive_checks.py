@@ -28,18 +28,19 @@ HERE = Path(__file__).resolve().parent
 ROOT = HERE.parent.parent
 EXAMPLES = ROOT / "examples"
 sys.path[:0] = [str(EXAMPLES), str(HERE.parent)]
+sys.path.append(str(Path(__file__).resolve().parents[2] / "python"))
 from access_checks import faults_of, faults_of_colours  # noqa: E402
-from archive_check import file_of  # noqa: E402
-from archive_html import harmless, shortened  # noqa: E402
-from archive_search import file_number, words_in  # noqa: E402
-from archive_words import formatted  # noqa: E402
+from geanmarbles.archive.check import file_of  # noqa: E402
+from geanmarbles.archive.html import harmless, shortened  # noqa: E402
+from geanmarbles.archive.search import file_number, words_in  # noqa: E402
+from geanmarbles.wordpress.words import formatted  # noqa: E402
 from browser_checks import browser, check_in_browser  # noqa: E402
 from page_lines import lines_of, outline_of  # noqa: E402
-from replies import Wrong  # noqa: E402
+from geanmarbles.client.replies import Wrong  # noqa: E402
 from text_cases import by_wordpress, cases  # noqa: E402
-from wordpress_addresses import path_or_none, slug_of  # noqa: E402
-from wordpress_items import unserialized  # noqa: E402
-from wordpress_texts import QUOTES, paragraphs, texturize, with_characters  # noqa: E402
+from geanmarbles.wordpress.addresses import path_or_none, slug_of  # noqa: E402
+from geanmarbles.wordpress.items import unserialized  # noqa: E402
+from geanmarbles.wordpress.texts import QUOTES, paragraphs, texturize, with_characters  # noqa: E402
 
 SECONDS = 120
 SITES = ("pottery", "fournil")

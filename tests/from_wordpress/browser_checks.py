@@ -21,7 +21,8 @@ from http.server import SimpleHTTPRequestHandler, ThreadingHTTPServer
 from pathlib import Path
 
 sys.path.insert(0, str(Path(__file__).resolve().parents[1]))
-from replies import Wrong  # noqa: E402
+sys.path.append(str(Path(__file__).resolve().parents[2] / "python"))
+from geanmarbles.client.replies import Wrong  # noqa: E402
 
 # Widths in pixels: of a phone, and of a window on a desk.
 WIDTHS = (390, 1000)

@@ -13,9 +13,9 @@ from datetime import datetime, timedelta
 from pathlib import Path
 from typing import TextIO
 
-from replies import Wrong
+from geanmarbles.client.replies import Wrong
 
-PUBLISH = Path(__file__).resolve().parents[2] / "examples" / "publish"
+PYTHON = Path(__file__).resolve().parents[2] / "python"
 SECONDS = 300
 # Posts of the sites, and how many bytes more for each of them the larger one may take. What is at hand of the tables
 # isn't full in the smaller one, which makes 300 to 600. With all of it in memory there were 10,900.
@@ -42,7 +42,6 @@ def say():
 
 atexit.register(say)
 sys.argv = sys.argv[1:]
-sys.path[0] = sys.argv[0].rpartition("/")[0]
 runpy.run_path(sys.argv[0], run_name="__main__")
 """
 HEAD = """<?xml version="1.0"?>
@@ -110,7 +109,8 @@ def peak(count: int) -> int:
         standin.chmod(0o700)
         with export.open("w", encoding="utf-8") as one, site.open("w", encoding="utf-8") as other:
             write_site(count, one, other)
-        words = [sys.executable, "-c", MEASURED, PUBLISH, "--check", "--program", standin, export, site, f"{room}/made"]
+        words = [sys.executable, "-B", "-c", MEASURED, PYTHON, "examples/publish", "publish", "--check"]
+        words += ["--program", standin, export, site, f"{room}/made"]
         ran = subprocess.run(words, capture_output=True, text=True, timeout=SECONDS, check=False)
         # (the links and pictures of the pages lead nowhere)
         must(ran.returncode == 1 and "addresses lead nowhere" in ran.stderr, f"publish: {ran.stderr[-600:]}")

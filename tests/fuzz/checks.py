@@ -9,7 +9,8 @@ from sites import Stored, bared, line_of
 from values import Unreadable, command_of, read, rewritten
 
 sys.path.insert(0, str(Path(__file__).resolve().parent.parent))
-from replies import Wrong, read_replies, refusal_of, shown
+sys.path.append(str(Path(__file__).resolve().parents[2] / "python"))
+from geanmarbles.client.replies import Wrong, read_replies, refusal_of, shown
 
 SECONDS = 60
 CALLS = 1_000

@@ -16,8 +16,9 @@ from values import command_of
 HERE = Path(__file__).resolve().parent
 sys.path.insert(0, str(HERE.parent))
 sys.path.append(str(HERE.parent / "database"))
+sys.path.append(str(Path(__file__).resolve().parents[2] / "python"))
 from files import history
-from replies import Wrong, refusal_of, shown
+from geanmarbles.client.replies import Wrong, refusal_of, shown
 
 # Where the files are: in memory if there is such a place, since a list takes some hundred syncs, which say nothing here.
 SHARED = "/dev/shm"

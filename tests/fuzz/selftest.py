@@ -6,7 +6,7 @@ from collections import namedtuple
 from contextlib import closing
 
 from checks import CALLS, Program
-from replies import Wrong, refusal_of
+from geanmarbles.client.replies import Wrong, refusal_of
 from values import command_of
 
 # A reply, its line, the lines and replies before it, and the options of the run.

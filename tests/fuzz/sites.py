@@ -8,7 +8,8 @@ from lines import PLUGINS, TEMPLATES
 from values import command_of
 
 sys.path.insert(0, str(Path(__file__).resolve().parent.parent))
-from replies import Wrong, shown
+sys.path.append(str(Path(__file__).resolve().parents[2] / "python"))
+from geanmarbles.client.replies import Wrong, shown
 
 DATE = "2024-05-01 10:00:00"
 

@@ -8,7 +8,8 @@ from sites import line_of
 from values import command_of
 
 sys.path.insert(0, str(Path(__file__).resolve().parent.parent))
-from replies import Wrong, refusal_of, shown
+sys.path.append(str(Path(__file__).resolve().parents[2] / "python"))
+from geanmarbles.client.replies import Wrong, refusal_of, shown
 
 # How many pages are open at most, and how many turns a line gives at most.
 PAGES, MOST_TURNS = 8, 1_000_000

@@ -11,7 +11,7 @@ from pathlib import Path
 
 from declared import declared, has_member
 from reading import BEHAVIOUR, CRATES, DEFINITIONS_HEAD, FENCE, QUOTED, ROOT, cells_of, edits_of, libraries, text_of
-from repository import below, read_crates
+from geanmarbles.repository.crates import below, read_crates
 
 # A function of a type, a type, and a file of a crate, which are the whole of what is quoted but for arguments.
 MEMBER = re.compile(r"(?:\w+::)*(\w+)::(\w+)(?:\(.*\))?", re.S)

@@ -12,7 +12,7 @@ import hashlib
 import re
 from pathlib import Path
 
-from repository import SOURCES
+from geanmarbles.repository.crates import SOURCES
 
 # The files that a function's own proof is written in.
 OF_FUNCTIONS = ("Answers.antt", "Invariants.antt", "Proof.antt")

@@ -8,7 +8,7 @@ import threading
 from pathlib import Path
 
 from exports import sum_of_exports, sum_of_sources
-from repository import locked
+from geanmarbles.repository.crates import locked
 from rounds import try_edits
 
 HERE = Path(__file__).resolve().parent

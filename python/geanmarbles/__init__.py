@@ -1,0 +1,1 @@
+"""The Python of this repository: a client of the program, what serves sites by it, and what tries and builds them."""

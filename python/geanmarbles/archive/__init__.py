@@ -1,0 +1,1 @@
+"""A site that came from WordPress as files for any web server, at the addresses that it had there."""

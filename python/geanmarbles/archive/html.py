@@ -1,0 +1,228 @@
+"""Pieces of HTML for an archive: places in a printed page, shortened contents, and comments made harmless.
+
+A page is what the program printed; what is added to it is put where the
+templates have marks for it, or else at the usual elements.
+"""
+
+import re
+from collections.abc import Callable, Iterator
+from html import escape, unescape
+
+from geanmarbles.wordpress.texts import TAGS
+
+ATTRIBUTE = re.compile(r"(?<![\w-])([\w-]+)\s*=\s*(?:\"([^\"]*)\"|'([^']*)'|([^\s'\"<>]+))")
+VOID = set("area base br col embed hr img input link meta source track wbr".split())
+TIME = re.compile(r"<time>(\d{4}-\d\d-\d\d \d\d:\d\d:\d\d)</time>")
+MORE = re.compile(r"<span id=\"more-\d+\"(?: data-more=\"([^\"]*)\")?></span>")
+# The links to the parts of the front, as `from_wordpress` writes them into templates.
+FRONT_PARTS = re.compile(r"(?:<li><a href=\"/(?:\?paged=\d+)?\">\d+</a></li>\n)+")
+THUMBNAIL = re.compile(r"\s*<figure class=\"post-thumbnail\">.*?</figure>\s*", re.S)
+LINK = re.compile(r"(<(?:a|area|link|form)\b[^<>]*?\s(?:href|action)=)(\"[^\"]*\"|'[^']*')", re.I)
+
+
+def region(page: str, name: str, html: str, is_last: bool = False) -> str | None:
+    """A page with this between the marks of a region, or None if it has no such region."""
+    begin, end = f"<!--archive:{name}-->", f"<!--/archive:{name}-->"
+    at = page.rfind(begin) if is_last else page.find(begin)
+    until = page.find(end, at)
+    if at < 0 or until < 0:
+        return None
+    return page[:at] + html + page[until + len(end) :]
+
+
+def with_heading(page: str, heading: str) -> str:
+    """A list's page with its heading."""
+    if not heading:
+        return page
+    made = region(page, "heading", f"<h1>{heading}</h1>")
+    if made is not None:
+        return made
+    name = "main" if re.search(r"<main\b", page) else "body"
+    return re.sub(rf"<{name}\b[^<>]*>", lambda it: f"{it[0]}\n<h1>{heading}</h1>", page, count=1)
+
+
+def with_parts(page: str, items: list[str]) -> str:
+    """A list's page with the links to its parts."""
+    html = "".join(f"<li>{it}</li>\n" for it in items)
+    made = region(page, "parts", html, is_last=True)
+    if made is None and FRONT_PARTS.search(page):
+        made = FRONT_PARTS.sub(lambda _: html, page)
+    if made is not None or not items:
+        return made if made is not None else page
+    return before_last(page, "</main>", f'<nav><ul class="links">{html}</ul></nav>\n')
+
+
+def with_search(page: str, form: str) -> str:
+    """A page with the form that leads to the search: at its mark, or at the end of its header if it has one."""
+    mark = "<!--archive:search-->"
+    return page.replace(mark, form, 1) if mark in page else page.replace("</header>", f"{form}</header>", 1)
+
+
+def after_post(page: str, html: str) -> str:
+    """A post's page with something after the post."""
+    at = page.rfind("<!--archive:after-->")
+    if at >= 0:
+        return page[:at] + html + page[at + len("<!--archive:after-->") :]
+    return before_last(page, "</main>", html)
+
+
+def before_last(page: str, mark: str, html: str) -> str:
+    """A page with something before the last of a mark, or before its end."""
+    for it in (mark, "</body>"):
+        at = page.rfind(it)
+        if at >= 0:
+            return page[:at] + html + page[at:]
+    return page + html
+
+
+def with_title(page: str, title: str) -> str:
+    return re.sub(r"<title>[^<]*</title>", lambda _: f"<title>{title}</title>", page, count=1)
+
+
+def with_plain_title(page: str, title: str, plain: str) -> str:
+    """A post's page whose title has no tags, and no entities that were escaped once more."""
+    escaped = escape(title).replace("&#x27;", "&#039;")
+    shown = escape(plain, quote=False)
+    return re.sub(r"<title>[^<]*</title>", lambda it: it[0].replace(escaped, shown, 1), page, count=1)
+
+
+def with_head(page: str, html: str) -> str:
+    """A page with something at the end of its head."""
+    at = page.find("</head>")
+    return page[:at] + html + page[at:] if at >= 0 else page
+
+
+def with_times(page: str, shown: list[tuple[str, str]]) -> str:
+    """A page whose dates, in order, are those of some posts, and are written otherwise: each as its text and HTML."""
+    made, at = [], 0
+    for date, html in shown:
+        mark = f"<time>{date}</time>"
+        found = page.find(mark, at)
+        if found >= 0:
+            made += [page[at:found], html]
+            at = found + len(mark)
+    return "".join(made) + page[at:]
+
+
+def with_links(page: str, target: Callable[[str], str], known: dict[str, str]) -> str:
+    """A page whose links of the site lead where `target` says. `known` has what it said of links, as pages have them;
+    those to parts of a list depend on the list, and aren't kept."""
+
+    def change(found: re.Match[str]) -> str:
+        given = found[2]
+        if given in known:
+            return found[1] + known[given]
+        mark, value = given[0], unescape(given[1:-1])
+        is_here = value.startswith("/") and not value.startswith("//")
+        shown = f"{mark}{escape(target(value))}{mark}" if is_here else given
+        if "paged=" not in given:
+            known[given] = shown
+        return found[1] + shown
+
+    return LINK.sub(change, page)
+
+
+def balanced(text: str) -> str:
+    """A text that was cut, with the ends of its elements."""
+    at = text.rfind("<")
+    text = text[:at] if at > text.rfind(">") else text
+    opened: list[str] = []
+    for part in TAGS.split(text)[1::2]:
+        name = tag_name(part)
+        if part.startswith("</") and name in opened:
+            while opened.pop() != name:
+                pass
+        elif not part.startswith("</") and name and name not in VOID:
+            opened.append(name)
+    return text + "".join(f"</{it}>" for it in reversed(opened))
+
+
+def shortened(content: str, excerpt: str, link: Callable[[str], str]) -> str:
+    """A post as a list shows it: its excerpt, or what comes before its mark or its first page break, with a link."""
+    thumbnail = THUMBNAIL.match(content)
+    before = thumbnail[0] if thumbnail else ""
+    more = MORE.search(content)
+    at_page = content.find("<!--nextpage-->")
+    if excerpt:
+        return before + excerpt + link("")
+    if more and not 0 <= at_page < more.start():
+        # The mark may be in a paragraph of its own.
+        cut = re.sub(r"(?:<p>|<br />|\s)*\Z", "", content[: more.start()])
+        return balanced(cut) + link(unescape(more[1] or ""))
+    return balanced(content[:at_page]) + link("") if at_page >= 0 else content
+
+
+def text_of(content: str, most: int) -> str:
+    """The first words of a content as plain text."""
+    plain = re.sub(r"<(script|style|figure|pre|audio|video)\b.*?</\1>", " ", content[: 40 * most], flags=re.S | re.I)
+    plain = unescape(re.sub(r"<!--.*?-->|<[^<>]*>?", " ", plain, flags=re.S))
+    plain = re.sub(r"\s+", " ", plain).replace(" .", ".").replace(" ,", ",").strip()
+    return plain if len(plain) <= most else plain[:most].rsplit(" ", 1)[0] + "…"
+
+
+# What the text of a comment may have.
+ALLOWED = {
+    "a": ("href", "title"),
+    "blockquote": (),
+    "q": (),
+    "cite": (),
+    "code": (),
+    "pre": (),
+    "em": (),
+    "i": (),
+    "strong": (),
+    "b": (),
+    "s": (),
+    "strike": (),
+    "del": (),
+    "abbr": ("title",),
+    "acronym": ("title",),
+    "br": (),
+    "p": (),
+    "ul": (),
+    "ol": (),
+    "li": (),
+}
+
+
+def harmless(text: str) -> str:
+    """The HTML of a text that anyone may have written, of which a few elements are kept and the rest is text."""
+    made: list[str] = []
+    opened: list[str] = []
+    for number, part in enumerate(TAGS.split(text)):
+        name = tag_name(part) if number % 2 else ""
+        if not name or name not in ALLOWED:
+            made.append(escape(unescape(part), quote=False))
+        elif not part.startswith("</"):
+            made.append(harmless_tag(name, part))
+            if name not in VOID:
+                opened.append(name)
+        elif name in opened:
+            while (it := opened.pop()) != name:
+                made.append(f"</{it}>")
+            made.append(f"</{name}>")
+    return "".join(made) + "".join(f"</{it}>" for it in reversed(opened))
+
+
+def harmless_tag(name: str, tag: str) -> str:
+    """An allowed tag with the attributes that it may have."""
+    kept = []
+    for attribute, value in attributes_of_tag(tag):
+        is_bad_link = attribute == "href" and not re.match(r"(?:https?://|mailto:)", value.strip(), re.I)
+        if attribute in ALLOWED[name] and value and not is_bad_link:
+            kept.append(f' {attribute}="{escape(value)}"')
+    rel = ' rel="nofollow ugc"' if name == "a" else ""
+    return f"<{name}{''.join(kept)}{rel}>"
+
+
+def tag_name(tag: str) -> str:
+    """The name of a tag in small letters, or an empty text of a comment."""
+    found = re.match(r"</?([A-Za-z][A-Za-z0-9-]*)", tag)
+    return found[1].lower() if found else ""
+
+
+def attributes_of_tag(tag: str) -> Iterator[tuple[str, str]]:
+    """The attributes of a tag, their entities read."""
+    for found in ATTRIBUTE.finditer(tag):
+        value = next((it for it in found.groups()[1:] if it is not None), "")
+        yield found[1].lower(), unescape(value)

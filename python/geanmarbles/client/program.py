@@ -1,0 +1,187 @@
+"""The program as a child process that replies to one line at a time, for scripts.
+
+A script uses it so, with the folder `python` of the checkout on its path:
+
+    from geanmarbles.client.program import Program
+    from geanmarbles.paths import BUILT_PROGRAM
+
+    with Program(str(BUILT_PROGRAM)) as site:
+        site.ask(b'{"cmd":"put","title":"Rye","date":"2024-04-02 06:00:00"}')
+        reply = site.ask(b'{"cmd":"get","path":"/?p=1"}')
+        if reply.is_page():
+            print(reply.words[1], reply.page.decode())      # 200 <h2>Rye</h2>
+"""
+
+import argparse
+import io
+import json
+import os
+import re
+import select
+import subprocess
+import sys
+from collections.abc import Sequence
+from pathlib import Path
+from typing import IO, NamedTuple, Self
+
+from geanmarbles.paths import BUILT_PROGRAM
+
+# How many lines the program reads, and the longest that it reads.
+LINES, LINE_BYTES = 1_000_000, 1_048_576
+# What the first line of a reply can be (docs/BEHAVIOUR.md).
+HEAD = re.compile(r"ok( \d+)?|refused \d+ \w+|page \d{3} \d+")
+
+
+class Ended(Exception):
+    """The program ended before it had replied."""
+
+
+class NoReply(Exception):
+    """What came isn't a reply, so what runs isn't the program."""
+
+
+class Reply(NamedTuple):
+    """The words of a reply's first line, and the page that follows it if it is one."""
+
+    words: list[str]
+    page: bytes
+
+    def is_page(self) -> bool:
+        return self.words[0] == "page"
+
+    def is_refused(self) -> bool:
+        return self.words[0] == "refused"
+
+    def text(self) -> str:
+        return " ".join(self.words)
+
+
+def read_reply(stream: IO[bytes]) -> Reply:
+    """Reads a reply: one line, and if it is `page STATUS LENGTH`, LENGTH bytes and a newline after it."""
+    head = stream.readline()
+    if not head.endswith(b"\n"):
+        raise Ended
+    words = head.decode(errors="replace").rstrip("\n").split(" ")
+    if not HEAD.fullmatch(" ".join(words)):
+        raise NoReply(head[:60])
+    if words[0] != "page":
+        return Reply(words, b"")
+    length = int(words[2])
+    page = stream.read(length + 1)
+    if len(page) != length + 1:
+        raise Ended
+    return Reply(words, page[:length])
+
+
+def read_replies(output: bytes) -> list[Reply]:
+    """All replies of an output."""
+    stream, replies = io.BytesIO(output), []
+    while stream.tell() < len(output):
+        replies.append(read_reply(stream))
+    return replies
+
+
+def pipe(stream: IO[bytes] | None) -> IO[bytes]:
+    """A pipe of a process that was started with it."""
+    assert stream is not None
+    return stream
+
+
+def get_line(path: str) -> bytes:
+    """The line that asks a program for the page of a path."""
+    return json.dumps({"cmd": "get", "path": path}).encode()
+
+
+class Program:
+    """A running program, with some options. It ends with the `with` block that it is made for.
+
+    `lines` is how many lines it was sent; after 1,000,000 it ends.
+    """
+
+    # What becomes of its standard error: it is that of the script.
+    errors: int | None = None
+
+    def __init__(self, path: str, *options: str) -> None:
+        # In a session of its own, so that Ctrl-C reaches the script alone, and the script ends the program.
+        self.child = subprocess.Popen(
+            [path, *options],
+            stdin=subprocess.PIPE,
+            stdout=subprocess.PIPE,
+            stderr=self.errors,
+            bufsize=0,
+            start_new_session=True,
+        )
+        self.input, output = pipe(self.child.stdin), pipe(self.child.stdout)
+        self.replies = open(output.fileno(), "rb", closefd=False)
+        self.lines = 0
+
+    def __enter__(self) -> Self:
+        return self
+
+    def __exit__(self, *_: object) -> None:
+        # The site is in memory, or in a file in which each edit is that was replied to: nothing is left to do.
+        self.child.kill()
+        self.child.wait()
+
+    def end(self, seconds: float) -> None:
+        """Has the program end by itself, as it does once there are no more lines, or kills it after some seconds."""
+        self.input.close()
+        try:
+            self.child.wait(seconds)
+        except subprocess.TimeoutExpired:
+            self.child.kill()
+            self.child.wait()
+
+    def ask(self, line: bytes) -> Reply:
+        """The reply to a line, which has no newline."""
+        [reply] = self.ask_all([line])
+        return reply
+
+    def ask_all(self, lines: Sequence[bytes]) -> list[Reply]:
+        """The replies to some lines, which are sent before any of these is read. So but for the last they have to be
+        edits, and a few hundred at most: what the program replies before it has read all must fit into a pipe."""
+        rest = memoryview(b"".join(line + b"\n" for line in lines))
+        self.lines += len(lines)
+        try:
+            while rest:
+                rest = rest[self.input.write(rest) :]
+        except BrokenPipeError:
+            raise Ended from None
+        return [read_reply(self.replies) for _ in lines]
+
+    def check(self, seconds: float) -> None:
+        """Makes sure that what runs replies to a line as the program does, within some seconds.
+
+        The line is an empty object, which the program refuses; nothing is changed by it.
+        """
+        self.lines += 1
+        try:
+            self.input.write(b"{}\n")
+        except BrokenPipeError:
+            raise Ended from None
+        poll = select.poll()
+        poll.register(self.replies, select.POLLIN)
+        if not poll.poll(int(1000 * seconds)):
+            raise NoReply(b"")
+        read_reply(self.replies)
+
+
+def lines_of(commands: bytes) -> list[bytes]:
+    """The lines of a command file's bytes, as the program counts them."""
+    lines = commands.split(b"\n")
+    return lines if lines[-1] else lines[:-1]
+
+
+def absolute(path: str) -> str:
+    return os.path.abspath(path)
+
+
+def add_program_option(parser: argparse._ActionsContainer) -> None:
+    default, what = str(BUILT_PROGRAM), "the built program, `site`"
+    parser.add_argument("--program", metavar="PATH", type=absolute, default=default, help=what)
+
+
+def check_program(path: str, instead: str = "") -> None:
+    """Ends the script if there is no program at a path, and says what can be done instead."""
+    if not os.access(path, os.X_OK) or os.path.isdir(path):
+        sys.exit(f"{Path(sys.argv[0]).name}: there is no program at {path}; ./site builds it{instead}")

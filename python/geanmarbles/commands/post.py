@@ -1,0 +1,160 @@
+"""Lists, reads and writes the posts and pages of a site in a file, each as a file with a head.
+
+    examples/post [--program PATH] [--token-file FILE] SITE list [WORD ..]
+    examples/post [--program PATH] [--token-file FILE] SITE get ID > FILE
+    examples/post [--program PATH] [--token-file FILE] SITE set ID FILE
+    examples/post [--program PATH] [--token-file FILE] SITE new FILE
+
+`list` prints the ID, kind, status, date and title of each post and page, the newest first, or of those whose title or
+content has every WORD. `get` prints one: a head of lines `title: ..`, `date: ..` and `status: ..`, a blank line, and
+the content as it is. `set` makes a post what such a file says, and leaves what its head doesn't name; `new` makes a
+new one, whose head needs a date and may have a line `kind: page`, and prints its ID. A title that isn't one line is a
+text of JSON.
+
+SITE is the site in a file, such as SITE.db, which nothing may serve meanwhile. A site that is served is read and edited
+through what serves it. SITE can also be:
+
+- the address at which `examples/browse --token-file FILE` serves a site, such as http://127.0.0.1:8080/, with the same
+  file for --token-file;
+- for `set` and `new`, the address of a node of a cluster, with the file of its token;
+- for `list` and `get`, a file of lines as `site --export` or `cluster/node --export` writes them;
+- for `set` and `new`, `-`: the line of the edit is printed and nothing else is done. Such a line is for the standard
+  input of `examples/browse --edits`.
+
+The exit status is 0, 1 if nothing was done, with the reason, and 2 if the arguments are bad.
+"""
+
+import argparse
+import json
+import sys
+from pathlib import Path
+from typing import Any
+
+from geanmarbles.archive.store import NotRead, Post, Store, line_of, read_store
+from geanmarbles.arguments import Parser
+from geanmarbles.client.program import add_program_option, check_program
+from geanmarbles.output import quiet_output
+from geanmarbles.supervisor.kept import NotKept, carried_out, check_site, end_with
+from geanmarbles.supervisor.served import edited, history_at, is_address, token_in
+
+# How a file of lines begins; a site in a file has no such byte there.
+LINE = b"{"
+HEAD = ("title", "date", "status", "kind")
+
+
+def shown_title(title: str) -> str:
+    """A title as a head has it."""
+    is_plain = title == title.strip() and title.isprintable() and not title.startswith('"')
+    return title if is_plain else json.dumps(title, ensure_ascii=True)
+
+
+def listed(store: Store, words: list[str]) -> list[str]:
+    """A line for each post and page that has all words, the newest first."""
+    lines = []
+    for post in sorted(store.posts.values(), key=lambda it: (it.date, it.number), reverse=True):
+        text = f"{post.title}\n{store.content(post.number) if words else ''}".lower()
+        if all(it.lower() in text for it in words):
+            lines.append(f"{post.number}\t{post.kind}\t{post.status}\t{post.date}\t{shown_title(post.title)}")
+    return lines
+
+
+def as_file(post: Post, content: str) -> str:
+    """A post with its head, as `set` reads it."""
+    return f"title: {shown_title(post.title)}\ndate: {post.date}\nstatus: {post.status}\n\n{content}\n"
+
+
+def read_file(path: Path) -> dict[str, Any]:
+    """What a file says of a post."""
+    head, blank, content = path.read_text(encoding="utf-8").partition("\n\n")
+    if not blank:
+        raise NotKept(f"{path}: a head, a blank line and a content are needed")
+    given = {"content": content.removesuffix("\n")}
+    for number, line in enumerate(head.split("\n"), 1):
+        name, colon, value = line.partition(":")
+        if not colon or name not in HEAD or name in given:
+            raise NotKept(f"{path}, line {number}: the head has {', '.join(HEAD)}, each once, as in `title: Rye`")
+        value = value.strip()
+        given[name] = json.loads(value) if name == "title" and value.startswith('"') else value
+    return given
+
+
+def edit(arguments: argparse.Namespace, command: dict[str, Any]) -> str:
+    """The reply to one edit."""
+    if is_address(arguments.site):
+        reply = edited(arguments.site, token_in(arguments.token_file), line_of(command))
+    else:
+        if is_lines(arguments.site):
+            raise NotKept(f"{arguments.site} has lines of a site, which nothing edits")
+        check_program(arguments.program)
+        check_site(arguments.program, Path(arguments.site))
+        [reply] = carried_out(arguments.program, Path(arguments.site), [line_of(command)])
+    if not reply.startswith("ok"):
+        raise NotKept(f"the edit is {reply}; examples/refusals says why")
+    return reply.removeprefix("ok").strip()
+
+
+def is_lines(site: str) -> bool:
+    """Whether a file has the lines of a site, as an export writes them."""
+    if not Path(site).is_file():
+        return False
+    with open(site, "rb") as file:
+        return file.read(1) == LINE
+
+
+def store_of(arguments: argparse.Namespace) -> Store:
+    """The posts of a site in a file, of its lines, or of what serves it."""
+    if is_address(arguments.site):
+        return Store(history_at(arguments.site, token_in(arguments.token_file)))
+    if is_lines(arguments.site):
+        with open(arguments.site, "rb") as file:
+            return Store(it.rstrip(b"\n") for it in file)
+    check_program(arguments.program)
+    return read_store(arguments.program, arguments.site)
+
+
+def done(arguments: argparse.Namespace) -> str:
+    """Does what was asked, and returns what is to be printed."""
+    if arguments.what in ("list", "get"):
+        store = store_of(arguments)
+        if arguments.what == "list":
+            return "\n".join(listed(store, arguments.words)) + "\n"
+        if post := store.posts.get(arguments.number):
+            return as_file(post, store.content(post.number))
+        raise NotKept(f"there is no post or page with the ID {arguments.number}")
+    given = read_file(arguments.file)
+    if arguments.what == "set" and "kind" in given:
+        raise NotKept(f"{arguments.file}: the kind of a post can't be changed, so its head has none")
+    is_new = arguments.what == "new"
+    command = {"cmd": "put", **given} if is_new else {"cmd": "edit", "id": arguments.number, **given}
+    if arguments.site == "-":
+        return line_of(command).decode() + "\n"
+    reply = edit(arguments, command)
+    return f"{reply}\n" if is_new else ""
+
+
+def read_arguments() -> argparse.Namespace:
+    parser = Parser(description="Lists, reads and writes the posts and pages of a site in a file.")
+    add_program_option(parser)
+    parser.add_argument("--token-file", metavar="FILE", type=Path, help="the token of what serves the site")
+    parser.add_argument("site", metavar="SITE", help="the site in a file, a file of its lines, or what serves it")
+    commands = parser.add_subparsers(dest="what", required=True, metavar="list|get|set|new")
+    listing = commands.add_parser("list", help="list posts and pages, those that have all words")
+    listing.add_argument("words", metavar="WORD", nargs="*")
+    for name, what in (("get", "print one with its head"), ("set", "make one what a file says")):
+        one = commands.add_parser(name, help=what)
+        one.add_argument("number", metavar="ID", type=int)
+        if name == "set":
+            one.add_argument("file", metavar="FILE", type=Path)
+    commands.add_parser("new", help="make a new one").add_argument("file", metavar="FILE", type=Path)
+    return parser.parse_args()
+
+
+@quiet_output()
+def main() -> int:
+    arguments = read_arguments()
+    try:
+        said = done(arguments)
+    except (NotKept, NotRead, OSError, ValueError) as fault:
+        end_with("post", fault)
+    sys.stdout.write(said)
+    return 0

@@ -1,0 +1,79 @@
+"""A site in a file that nothing serves: its history read, and single edits made.
+"""
+
+import contextlib
+import json
+import shutil
+import sqlite3
+import subprocess
+import sys
+import tempfile
+from collections.abc import Iterator
+from pathlib import Path
+from typing import Any, NoReturn
+
+from geanmarbles.client.program import Ended, NoReply, Program
+
+
+class NotKept(Exception):
+    """Why a site in a file can't be read or edited."""
+
+
+def check_site(program: str, database: Path) -> None:
+    """Makes sure that a file is a site of the program, and that nothing serves it."""
+    if not database.is_file():
+        raise NotKept(f"there is no file {database}")
+    words = [program, "--database", str(database), "--export"]
+    ran = subprocess.run(
+        words, stdin=subprocess.DEVNULL, stdout=subprocess.DEVNULL, stderr=subprocess.PIPE, check=False
+    )
+    if ran.returncode:
+        raise NotKept(ran.stderr.decode(errors="replace").strip() or f"the program ended with status {ran.returncode}")
+
+
+def history(program: str, database: Path) -> list[bytes]:
+    """The edits of a site, the oldest first: every line that was done, byte for byte.
+
+    A copy of the file is read, so the file stays as it is.
+    """
+    check_site(program, database)
+    with tempfile.TemporaryDirectory() as folder:
+        copy = Path(folder, "site.db")
+        shutil.copyfile(database, copy)
+        log = database.with_name(database.name + "-wal")
+        if log.is_file():
+            shutil.copyfile(log, copy.with_name("site.db-wal"))
+        try:
+            with contextlib.closing(sqlite3.connect(copy)) as opened:
+                rows = opened.execute("SELECT line FROM command ORDER BY number").fetchall()
+        except sqlite3.Error as error:
+            raise NotKept(f"{database}: {error}") from error
+    # The first line says which program the file is of.
+    return [line.encode() for (line,) in rows[1:]]
+
+
+def carried_out(program: str, database: Path, lines: list[bytes]) -> Iterator[str]:
+    """The replies of the program over a file to some edits, which it carries out one by one."""
+    try:
+        with Program(program, "--database", str(database)) as site:
+            for line in lines:
+                yield site.ask(line).text()
+    except (Ended, NoReply) as error:
+        raise NotKept(f"the program ended before it had replied: is {database} served, or no site?") from error
+
+
+def touched(line: bytes) -> Iterator[tuple[int, dict[str, Any]]]:
+    """The posts that an edit is about, each with what the edit says of it; a `put` doesn't say which ID it gets."""
+    command = json.loads(line)
+    if command["cmd"] in ("edit", "delete"):
+        yield command["id"], command
+    elif command["cmd"] == "import":
+        yield from ((it["id"], {"cmd": "import", **it}) for it in command["site"].get("posts", []))
+    elif command["cmd"] == "put":
+        yield 0, command
+
+
+def end_with(name: str, fault: Exception) -> NoReturn:
+    """Ends a script with a reason."""
+    is_served = "the file is in use" in str(fault)
+    sys.exit(f"{name}: {fault}{'; a site that is served is read and edited through what serves it' * is_served}")

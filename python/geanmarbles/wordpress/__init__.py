@@ -1,0 +1,1 @@
+"""What WordPress's own export has, and how WordPress shows it."""

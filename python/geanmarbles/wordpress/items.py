@@ -1,0 +1,414 @@
+"""What an export has of a site beside the texts of its posts: addresses, terms, authors, comments, menus, files.
+
+The file is read piece by piece, and what isn't asked for is dropped at
+once. Items and comments are put into a temporary database if there is one: then memory grows with terms and authors
+alone. A document type is refused, as it is when the same file is imported.
+"""
+
+import re
+from collections.abc import Callable, Iterator
+from dataclasses import dataclass, field
+from html import unescape
+from pathlib import Path
+from sys import intern
+from typing import Any
+from urllib.parse import urlsplit
+from xml.parsers import expat
+
+from geanmarbles.disk_tables import Disk, DiskDict
+from geanmarbles.wordpress.export import SPACES, Refused, short
+
+PIECE_BYTES = 1 << 16
+# The largest text of an element that is kept: the longest content that the program takes, and some more.
+TEXT_BYTES = 1 << 20
+# The custom fields that are kept; others can be long.
+KEPT_FIELDS = re.compile(
+    r"_thumbnail_id|_wp_attachment_(?:metadata|image_alt)|_menu_item_\w+|_wp_old_slug|_yoast_wpseo_metadesc"
+    r"|rank_math_description|_aioseop?_description"
+)
+
+
+@dataclass(slots=True)
+class Comment:
+    """A comment as the export has it."""
+
+    number: int
+    author: str
+    address: str
+    date: str
+    text: str
+    parent: int
+
+
+@dataclass(slots=True)
+class Term:
+    """A category, a tag or another term: its name is plain text."""
+
+    number: int
+    domain: str
+    slug: str
+    name: str
+    parent: str = ""
+
+
+@dataclass(slots=True)
+class Item:
+    """A post, page, attachment or menu entry."""
+
+    number: int
+    kind: str
+    status: str
+    link: str
+    title: str
+    slug: str
+    date: str
+    author: str
+    parent: int
+    order: int
+    excerpt: str
+    password: str
+    file: str
+    is_sticky: bool
+    guid: str = ""
+    # The date in Greenwich, or zeros.
+    date_gmt: str = ""
+    content: str = ""
+    terms: list[Term] = field(default_factory=list)
+    fields: dict[str, list[str]] = field(default_factory=dict)
+
+    def one(self, name: str) -> str:
+        """The value of a custom field, or an empty text."""
+        return self.fields.get(name, [""])[0]
+
+    def is_carried(self) -> bool:
+        """Whether it is a post or page that the import takes, as far as its status tells."""
+        return self.kind in ("post", "page") and self.status in ("publish", "draft") and not self.password
+
+    def is_public(self) -> bool:
+        """Whether WordPress shows it to everyone."""
+        return self.status == "publish" and not self.password and self.kind in ("post", "page")
+
+
+@dataclass(slots=True)
+class WholeSite:
+    """An export, but for the contents that weren't asked for."""
+
+    address: str = ""
+    # The address under which its files are, which may be another.
+    files_address: str = ""
+    title: str = ""
+    tagline: str = ""
+    language: str = "en"
+    items: dict[int, Item] | DiskDict[int, Item] = field(default_factory=dict[int, Item])
+    # Those of an item by its number, or none if they weren't asked for.
+    comments: dict[int, list[Comment]] | DiskDict[int, list[Comment]] = field(default_factory=dict[int, list[Comment]])
+    # By domain and slug.
+    terms: dict[tuple[str, str], Term] = field(default_factory=dict)
+    # Display names and numbers, by login.
+    authors: dict[str, str] = field(default_factory=dict)
+    author_numbers: dict[str, int] = field(default_factory=dict)
+
+    def host(self) -> str:
+        return urlsplit(self.address).netloc.lower().removeprefix("www.")
+
+    def of_kind(self, kind: str) -> Iterator[Item]:
+        return (it for it in self.items.values() if it.kind == kind)
+
+    def term_names(self, term: Term) -> list[str]:
+        """The slugs of a term and of those above it, the topmost first."""
+        names, seen = [term.slug], {term.slug}
+        while term.parent and term.parent not in seen:
+            above = self.terms.get((term.domain, term.parent))
+            if above is None:
+                break
+            term = above
+            seen.add(term.slug)
+            names.insert(0, term.slug)
+        return names
+
+    def front(self) -> Item | None:
+        """The page that the site has at its own address, if one is there."""
+        home = urlsplit(self.address).path.strip("/")
+        pages = (it for it in self.of_kind("page") if it.is_public() and it.link)
+        return next(
+            (
+                it
+                for it in pages
+                if same_address(it.link, self.address)
+                and not urlsplit(it.link).query
+                and urlsplit(it.link).path.strip("/") == home
+            ),
+            None,
+        )
+
+
+def same_address(one: str, other: str) -> bool:
+    """Whether two addresses are of one host, with or without www."""
+    hosts = [urlsplit(it).netloc.lower().removeprefix("www.") for it in (one, other)]
+    return hosts[0] == hosts[1]
+
+
+def whole_number(text: str) -> int:
+    text = text.strip()
+    return int(text) if re.fullmatch(r"-?[0-9]{1,10}", text) else 0
+
+
+class Element:
+    """An element of the channel, or within one: its texts by name, and its children."""
+
+    def __init__(self, name: str, attributes: dict[str, str]) -> None:
+        self.name, self.attributes = name, attributes
+        self.pieces: list[str] = []
+        self.size = 0
+        self.children: list["Element"] = []
+
+    def text(self) -> str:
+        return "".join(self.pieces)
+
+    def first(self, name: str) -> str:
+        return next((it.text() for it in self.children if it.name == name), "")
+
+
+class Reader:
+    """Hands each child of the channel on as soon as it has been read."""
+
+    def __init__(self, take: Callable[[Element], None], dropped: set[str]) -> None:
+        self.take, self.dropped = take, dropped
+        self.open: list[Element] = []
+        self.depth = 0
+        self.parser = expat.ParserCreate(namespace_separator=" ")
+        self.parser.buffer_text = True
+        self.parser.StartDoctypeDeclHandler = self.refuse
+        self.parser.StartElementHandler = self.begin
+        self.parser.EndElementHandler = self.end
+        self.parser.CharacterDataHandler = self.text
+
+    def refuse(self, *_: object) -> None:
+        raise Refused("a document type, which no export has, is refused")
+
+    def begin(self, name: str, attributes: dict[str, str]) -> None:
+        self.depth += 1
+        # The channel's children are at depth 3, what they have at 4, and what a comment or a field has at 5.
+        if 3 <= self.depth <= 5:
+            self.open.append(Element(short(name), attributes))
+
+    def text(self, text: str) -> None:
+        if self.open and len(self.open) == self.depth - 2:
+            at = self.open[-1]
+            if at.name not in self.dropped and at.size + len(text) <= TEXT_BYTES:
+                at.pieces.append(text)
+                at.size += len(text)
+
+    def end(self, _: str) -> None:
+        if 3 <= self.depth <= 5:
+            ended = self.open.pop()
+            if self.open:
+                self.open[-1].children.append(ended)
+            else:
+                self.take(ended)
+        self.depth -= 1
+
+    def read(self, path: Path) -> None:
+        with path.open("rb") as file:
+            head = file.read(4)
+            file.seek(0)
+            is_bytewise = b"\0" not in head
+            while piece := file.read(PIECE_BYTES):
+                self.parser.Parse(piece.translate(SPACES) if is_bytewise else piece, False)
+            self.parser.Parse(b"", True)
+
+
+def comment_of(element: Element) -> Comment | None:
+    """A comment that everyone may see: approved, and no notice of another site's link."""
+    if element.first("wp:comment_approved").strip() != "1":
+        return None
+    if element.first("wp:comment_type").strip() not in ("", "comment"):
+        return None
+    return Comment(
+        whole_number(element.first("wp:comment_id")),
+        element.first("wp:comment_author").strip(),
+        element.first("wp:comment_author_url").strip(),
+        element.first("wp:comment_date").strip(),
+        element.first("wp:comment_content"),
+        whole_number(element.first("wp:comment_parent")),
+    )
+
+
+def comments_of(element: Element) -> list[Comment]:
+    """The comments of an item that everyone may see."""
+    found = (comment_of(it) for it in element.children if it.name == "wp:comment")
+    return [it for it in found if it is not None]
+
+
+def item_of(element: Element, terms: dict[tuple[str, str], Term]) -> Item:
+    """An item of the channel. Its terms are those of `terms`, which gets those that it hasn't."""
+    of = element.first
+    made = Item(
+        whole_number(of("wp:post_id")),
+        intern(of("wp:post_type").strip()),
+        intern(of("wp:status").strip()),
+        of("link").strip(),
+        of("title"),
+        of("wp:post_name").strip(),
+        of("wp:post_date").strip(),
+        intern(of("dc:creator").strip()),
+        whole_number(of("wp:post_parent")),
+        whole_number(of("wp:menu_order")),
+        of("excerpt:encoded"),
+        of("wp:post_password"),
+        of("wp:attachment_url").strip(),
+        of("wp:is_sticky").strip() == "1",
+        of("guid").strip(),
+        of("wp:post_date_gmt").strip(),
+        of("content:encoded"),
+    )
+    for it in element.children:
+        if it.name == "category" and it.attributes.get("nicename"):
+            # The names of terms are stored as they are printed, with their entities.
+            name = it.attributes.get("domain", ""), it.attributes["nicename"]
+            made.terms.append(terms.setdefault(name, Term(0, *name, unescape(it.text()))))
+        elif it.name == "wp:postmeta" and KEPT_FIELDS.fullmatch(key := it.first("wp:meta_key").strip()):
+            made.fields.setdefault(key, []).append(it.first("wp:meta_value"))
+    return made
+
+
+# The elements of the channel that are terms: their domain, and the prefix of what they have.
+TERMS = {
+    "wp:category": ("category", "wp:cat_name", "wp:category_nicename", "wp:category_parent"),
+    "wp:tag": ("post_tag", "wp:tag_name", "wp:tag_slug", ""),
+    "wp:term": ("", "wp:term_name", "wp:term_slug", "wp:term_parent"),
+}
+
+
+def term_of(element: Element) -> Term:
+    domain, name, slug, parent = TERMS[element.name]
+    return Term(
+        whole_number(element.first("wp:term_id")),
+        domain or element.first("wp:term_taxonomy").strip(),
+        element.first(slug).strip(),
+        unescape(element.first(name)),
+        element.first(parent).strip() if parent else "",
+    )
+
+
+# What the elements of the channel that are one text say of a site.
+TEXTS = {
+    "title": "title",
+    "description": "tagline",
+    "language": "language",
+    "wp:base_blog_url": "address",
+    "wp:base_site_url": "files_address",
+}
+
+
+def read_site(path: Path, disk: Disk | None = None) -> WholeSite:
+    """Reads what an export has of a site: into memory with contents and without comments, or into a database with
+    comments and without contents."""
+    site = WholeSite()
+    if disk is not None:
+        # (comments can be many, and each page asks for those of its post once)
+        site.items, site.comments = DiskDict(disk), DiskDict(disk, at_hand=1)
+    named: dict[tuple[str, str], Term] = {}
+
+    def take(element: Element) -> None:
+        if element.name == "item":
+            item = item_of(element, named)
+            # Of two items with one ID the first that is carried over is meant, as when the export is imported.
+            if item.number not in site.items or item.is_carried() and not site.items[item.number].is_carried():
+                site.items[item.number] = item
+                if disk is not None:
+                    site.comments[item.number] = comments_of(element)
+        elif element.name in TERMS:
+            term = term_of(element)
+            site.terms[term.domain, term.slug] = term
+        elif element.name == "wp:author":
+            login = element.first("wp:author_login").strip()
+            site.authors[login] = element.first("wp:author_display_name").strip() or login
+            site.author_numbers[login] = whole_number(element.first("wp:author_id"))
+        elif element.name in TEXTS:
+            setattr(site, TEXTS[element.name], element.text().strip())
+
+    try:
+        Reader(take, {"content:encoded"} if disk is not None else {"wp:comment_content"}).read(path)
+    except expat.ExpatError as error:
+        raise Refused(f"{path}:{error.lineno}:{error.offset + 1}: the XML is at fault: {error}") from error
+    except OSError as error:
+        raise Refused(f"{path}: {error.strerror}") from error
+    if not urlsplit(site.address).netloc:
+        raise Refused(f"{path}: this is no WordPress export: it doesn't say what the site's address is")
+    return site
+
+
+class Serialized:
+    """Reads a value that PHP's `serialize` wrote: texts, numbers and lists of them, to a small depth."""
+
+    def __init__(self, text: str) -> None:
+        self.data, self.at = text.encode(), 0
+
+    def value(self, depth: int = 0) -> object:
+        """The value that begins here; a list is one of names and values."""
+        kind = self.data[self.at : self.at + 1]
+        if kind == b"N":
+            self.at += 2
+            return None
+        if kind in (b"i", b"b", b"d"):
+            number = self.until(b";")[2:]
+            return int(number) if kind != b"d" else float(number)
+        if kind == b"s":
+            size = int(self.until(b":", 2))
+            if size < 0:
+                raise ValueError("a text of PHP has a length")
+            found = self.data[self.at + 1 : self.at + 1 + size]
+            self.at += size + 3
+            return found.decode(errors="replace")
+        if kind == b"a" and depth < 6:
+            count = int(self.until(b":", 2))
+            self.at += 1
+            items: dict[Any, Any] = {}
+            for _ in range(min(count, 10_000)):
+                name = self.value(depth + 1)
+                items[name] = self.value(depth + 1)
+            self.at += 1
+            return items
+        raise ValueError("not a value of PHP")
+
+    def until(self, mark: bytes, skip: int = 0) -> bytes:
+        end = self.data.index(mark, self.at + skip)
+        found, self.at = self.data[self.at + skip : end], end + 1
+        return found
+
+
+def unserialized(text: str) -> dict[Any, Any]:
+    """A list that PHP's `serialize` wrote, or an empty one if the text is none."""
+    try:
+        value = Serialized(text).value()
+    except (ValueError, IndexError, TypeError):
+        return {}
+    return value if isinstance(value, dict) else {}
+
+
+@dataclass(slots=True)
+class Picture:
+    """A file that shows a picture, at one of its sizes."""
+
+    address: str
+    width: int
+    height: int
+
+
+def pictures_of(item: Item) -> dict[str, Picture]:
+    """The sizes of an attachment by name; `full` is the file itself."""
+    known = unserialized(item.one("_wp_attachment_metadata"))
+    sizes = {"full": Picture(item.file, as_size(known.get("width")), as_size(known.get("height")))}
+    folder = item.file.rpartition("/")[0]
+    listed = known.get("sizes")
+    for name, size in listed.items() if isinstance(listed, dict) else ():
+        if isinstance(size, dict) and re.fullmatch(r"[^/\\]+", str(size.get("file", ""))):
+            sizes[str(name)] = Picture(
+                f"{folder}/{size['file']}", as_size(size.get("width")), as_size(size.get("height"))
+            )
+    return sizes
+
+
+def as_size(value: object) -> int:
+    return value if isinstance(value, int) and 0 < value < 100_000 else 0
