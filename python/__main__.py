@@ -11,6 +11,7 @@ COMMANDS = {
     "tools/build": "repository.build",
     "tools/index": "repository.index",
     "tools/titles": "repository.titles",
+    "cluster/node": "cluster.node",
     "examples/browse": "commands.browse",
     "examples/cluster/three": "commands.three",
     "examples/explain": "commands.explain",

@@ -29,9 +29,9 @@ def skewed():
 
 
 time.time, time.time_ns = skewed, lambda: int(1e9 * skewed())
-sys.argv = [{node!r}, *sys.argv[1:]]
-sys.path[0] = os.path.dirname(sys.argv[0])
-runpy.run_path(sys.argv[0], run_name="__main__")
+sys.dont_write_bytecode = True
+sys.argv = [{python!r}, "cluster/node", "node", *sys.argv[1:]]
+runpy.run_path({python!r}, run_name="__main__")
 """
 APART, JUMPS = ("3000", "-9000", "any"), (("-9000", "any", "3000"), ("any", "1", "-1"))
 SECONDS = 4
@@ -45,7 +45,7 @@ class Clocks:
 
     def set_clocks(self, days):
         """Starts each node anew under another clock, one after the other, so that two always serve."""
-        path = executable(self.cluster.folder, "skewed", SKEWED.format(node=str(nodes.NODE)))
+        path = executable(self.cluster.folder, "skewed", SKEWED.format(python=str(Path(nodes.NODE).resolve().parents[1] / "python")))
         for node, more in zip(self.cluster.nodes, days):
             node.process.end()
             node.env["DAYS"] = more

@@ -1,6 +1,6 @@
 """A client of etcd: the JSON gateway of its v3 API over HTTP or HTTPS, with several endpoints.
 
-It is a module, and runs nothing by itself. A call goes to one endpoint, and to the next one if that doesn't answer,
+A call goes to one endpoint, and to the next one if that doesn't answer,
 until its time is over; so the same call may be carried out twice, and whoever makes one sees to it that the second
 changes nothing. Keys and values are bytes.
 
@@ -17,8 +17,12 @@ import select
 import ssl
 import threading
 import time
+from collections.abc import Sequence
+from typing import Any
 from urllib.parse import urlsplit
 
+# A request, an answer or a part of one.
+Json = dict[str, Any]
 # How long one endpoint may take for its answer before the next is asked.
 TRY_SECONDS = 3
 # How long to wait after all endpoints were asked in vain.
@@ -32,7 +36,7 @@ INVALID, UNAUTHENTICATED = 3, 16
 class Unreachable(Exception):
     """No endpoint has answered. `may_be_done` says whether one may have carried out the call all the same."""
 
-    def __init__(self, why, may_be_done):
+    def __init__(self, why: str, may_be_done: bool) -> None:
         super().__init__(why)
         self.may_be_done = may_be_done
 
@@ -40,7 +44,7 @@ class Unreachable(Exception):
 class Refused(Exception):
     """etcd has refused a call, with one of its messages. `may_be_done` is as for Unreachable: of an earlier try."""
 
-    def __init__(self, message, code, may_be_done=False):
+    def __init__(self, message: str, code: int, may_be_done: bool = False) -> None:
         super().__init__(message)
         self.message, self.code, self.may_be_done = message, code, may_be_done
 
@@ -57,15 +61,15 @@ class Lost(Exception):
     """An endpoint was sent a call and hasn't answered, or has failed at it."""
 
 
-def encoded(text):
+def encoded(text: bytes) -> str:
     return base64.b64encode(text).decode()
 
 
-def decoded(text):
+def decoded(text: str | None) -> bytes:
     return base64.b64decode(text or "")
 
 
-def end_of(prefix):
+def end_of(prefix: bytes) -> bytes:
     """The key after all that begin with a prefix."""
     return prefix[:-1] + bytes([prefix[-1] + 1])
 
@@ -73,17 +77,22 @@ def end_of(prefix):
 class Etcd:
     """The endpoints of one cluster. Any number of threads may call."""
 
-    def __init__(self, urls, context=None, user=None):
+    def __init__(
+        self, urls: Sequence[str], context: ssl.SSLContext | None = None, user: tuple[str, str] | None = None
+    ) -> None:
         """`context` is the TLS context for URLs of https, and `user` a name and a password."""
         self.endpoints, self.context, self.user = [urlsplit(it) for it in urls], context, user
         # The endpoint that is asked first, at random so that many nodes don't all ask one; the connections that are
         # free; and etcd's token for the user.
-        self.at, self.free, self.token = random.randrange(len(urls)), [[] for _ in urls], None
+        self.at = random.randrange(len(urls))
+        self.free: list[list[http.client.HTTPConnection]] = [[] for _ in urls]
+        self.token: str | None = None
         self.turn = threading.Lock()
         # The cluster and the largest revision that any answer has named; and why no call is made any more.
-        self.cluster, self.revision, self.fault = None, 0, None
+        self.cluster: str | None = None
+        self.revision, self.fault = 0, ""
 
-    def call(self, path, body, seconds=10.0):
+    def call(self, path: str, body: Json, seconds: float = 10.0) -> Json:
         """etcd's answer. Raises Unreachable, Refused or WentBack."""
         data, until, may_be_done, tries = json.dumps(body).encode(), time.monotonic() + seconds, False, 0
         while True:
@@ -105,13 +114,13 @@ class Etcd:
                 raise Unreachable(why, may_be_done)
             time.sleep(pause)
 
-    def pass_on(self, at):
+    def pass_on(self, at: int) -> None:
         """Has the next call begin with another endpoint."""
         with self.turn:
             if self.at == at:
                 self.at = (at + 1) % len(self.endpoints)
 
-    def noted(self, path, before, answer):
+    def noted(self, path: str, before: int, answer: Json) -> Json:
         """An answer that goes on from what was seen before it was asked for."""
         header = answer.get("header", {})
         self.note_cluster(header)
@@ -125,7 +134,7 @@ class Etcd:
         self.check()
         return answer
 
-    def note_cluster(self, header):
+    def note_cluster(self, header: Json) -> None:
         cluster = header.get("cluster_id")
         with self.turn:
             self.cluster = self.cluster or cluster
@@ -133,11 +142,11 @@ class Etcd:
                 self.fault = f"an endpoint is of cluster {cluster}, and the history that was seen is of {self.cluster}"
         self.check()
 
-    def check(self):
+    def check(self) -> None:
         if self.fault:
             raise WentBack(self.fault)
 
-    def tried(self, at, path, data, until):
+    def tried(self, at: int, path: str, data: bytes, until: float) -> tuple[int, Json]:
         """The largest revision seen before, and the answer of one endpoint."""
         self.check()
         seconds = max(0.2, min(TRY_SECONDS, until - time.monotonic()))
@@ -155,7 +164,7 @@ class Etcd:
             self.free[at].append(connection)
         return before, answer_of(status, text)
 
-    def taken(self, at, seconds):
+    def taken(self, at: int, seconds: float) -> http.client.HTTPConnection:
         """A connection to an endpoint, with a limit on each wait for it."""
         while True:
             with self.turn:
@@ -170,34 +179,37 @@ class Etcd:
                 return connection
             connection.close()
 
-    def connected(self, at, seconds):
+    def connected(self, at: int, seconds: float) -> http.client.HTTPConnection:
         url = self.endpoints[at]
-        if url.scheme == "https":
-            connection = http.client.HTTPSConnection(url.hostname, url.port, timeout=seconds, context=self.context)
-        else:
-            connection = http.client.HTTPConnection(url.hostname, url.port, timeout=seconds)
+        host = url.hostname or ""
+        connection = (
+            http.client.HTTPSConnection(host, url.port, timeout=seconds, context=self.context)
+            if url.scheme == "https"
+            else http.client.HTTPConnection(host, url.port, timeout=seconds)
+        )
         try:
             connection.connect()
         except OSError as fault:
             raise NotSent(f"{url.netloc}: {fault}") from None
         return connection
 
-    def headers(self, at, seconds):
+    def headers(self, at: int, seconds: float) -> dict[str, str]:
         headers = {"Content-Type": "application/json"}
         if self.user:
             self.token = self.token or self.authenticated(at, seconds)
             headers["Authorization"] = self.token
         return headers
 
-    def authenticated(self, at, seconds):
+    def authenticated(self, at: int, seconds: float) -> str:
         """A token for the user, which etcd drops after some minutes without a call, or as its users change."""
+        assert self.user is not None
         name, password = self.user
         connection = self.connected(at, seconds)
         try:
             body = json.dumps({"name": name, "password": password})
             connection.request("POST", "/v3/auth/authenticate", body, {"Content-Type": "application/json"})
             response = connection.getresponse()
-            return answer_of(response.status, response.read())["token"]
+            return str(answer_of(response.status, response.read())["token"])
         except (OSError, http.client.HTTPException) as fault:
             raise NotSent(f"{self.endpoints[at].netloc}: {fault or type(fault).__name__}") from None
         except Lost as fault:
@@ -205,7 +217,7 @@ class Etcd:
         finally:
             connection.close()
 
-    def watching(self, body):
+    def watching(self, body: Json) -> tuple[http.client.HTTPConnection, http.client.HTTPResponse]:
         """The connection and the response of a watch that an endpoint has begun; nothing of it was read."""
         at = self.at
         try:
@@ -225,7 +237,7 @@ class Etcd:
         return connection, response
 
 
-def answer_of(status, text):
+def answer_of(status: int, text: bytes) -> Json:
     """What an answer of the gateway says. Raises Refused, or Lost if nobody knows what became of the call."""
     try:
         answer = json.loads(text)
@@ -244,7 +256,7 @@ def answer_of(status, text):
     raise Lost(message)
 
 
-def reason_of(fault):
+def reason_of(fault: Unreachable | Refused | WentBack) -> tuple[str, str]:
     """A name for why a call has failed, and what there is to say."""
     if isinstance(fault, WentBack):
         return "history-went-back", str(fault)
@@ -253,7 +265,7 @@ def reason_of(fault):
     return "etcd-unreachable", str(fault)
 
 
-def tls_context(authorities, certificate, key):
+def tls_context(authorities: str | None, certificate: str | None, key: str | None) -> ssl.SSLContext:
     """The TLS context that trusts the authorities in a file, or the system's, and shows a certificate if given one."""
     context = ssl.create_default_context(cafile=authorities)
     if certificate:

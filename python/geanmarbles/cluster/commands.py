@@ -1,14 +1,15 @@
-"""The body of `POST /command`: edits, one a line, each of which is made once.
+"""The body of `POST /command`: edits, one a line, each of which is made once."""
 
-It is a module, and runs nothing by itself.
-"""
+from __future__ import annotations
 
-from typing import NamedTuple
+from typing import TYPE_CHECKING, NamedTuple
 
-from geanmarbles.web.edit_bodies import Bad, key_of, lines_of_body
-from geanmarbles.web.edit_bodies import check_token as check_bearer
-from etcd import Refused, Unreachable, WentBack, reason_of
-from history import OtherBody, sum_of
+from geanmarbles.cluster.etcd import Refused, Unreachable, WentBack, reason_of
+from geanmarbles.cluster.history import OtherBody, sum_of
+from geanmarbles.web.edit_bodies import Bad, check_token as check_bearer, key_of, lines_of_body
+
+if TYPE_CHECKING:
+    from geanmarbles.cluster.site_node import Node
 
 # How long one line may take.
 LINE_SECONDS = 12
@@ -18,10 +19,10 @@ class Request(NamedTuple):
     """A request: its key, its lines, and a sum of them if it has several."""
 
     key: str
-    lines: list
+    lines: list[bytes]
     sum: str
 
-    def id_of(self, number):
+    def id_of(self, number: int) -> str:
         return f"{self.key}/{number}"
 
 
@@ -29,29 +30,30 @@ class Result(NamedTuple):
     """What became of a request: its status, the replies, and the place of the last edit that is known."""
 
     status: int
-    replies: list
+    replies: list[str]
     place: int
 
 
-def check_token(token, given):
+def check_token(token: bytes | None, given: str | None) -> None:
     """Makes sure that a request may edit."""
     if token is None:
         raise Bad(403, "this node takes no edits: it was started without a token")
     check_bearer(token, given)
 
 
-def request_of(key, body):
+def request_of(key: str | None, body: bytes) -> Request:
     """The request that a body makes. Each line is looked at before any is carried out."""
-    key, lines = key_of(key), lines_of_body(body)
-    return Request(key, lines, sum_of(b"\n".join(lines)) if len(lines) > 1 else "")
+    lines = lines_of_body(body)
+    return Request(key_of(key), lines, sum_of(b"\n".join(lines)) if len(lines) > 1 else "")
 
 
-def carry_out(node, request):
+def carry_out(node: Node, request: Request) -> Result:
     """Makes each line an edit, one after the other, and waits for its reply."""
     why = node.state()
     if why:
         raise Bad(503, ": ".join(why), Retry_After="1")
-    replies, place = [], 0
+    replies: list[str] = []
+    place = 0
     for number in range(1, len(request.lines) + 1):
         try:
             made = node.history.append(request, number, node.last, LINE_SECONDS)
@@ -69,4 +71,3 @@ def carry_out(node, request):
             return Result(504, [*replies, f"unknown {number}"], place)
         replies.append(reply)
     return Result(200, replies, place)
-

@@ -1,19 +1,19 @@
-"""A node's HTTP: pages, edits and its health.
-
-It is a module, and runs nothing by itself.
-"""
+"""A node's HTTP: pages, edits and its health."""
 
 import json
 import socket
 import threading
+from collections.abc import Iterator
 from contextlib import contextmanager
+from typing import NoReturn
 
-from commands import carry_out, check_token, request_of
+from geanmarbles.client.program import Reply
+from geanmarbles.cluster.commands import carry_out, check_token, request_of
+from geanmarbles.cluster.etcd import Refused, Unreachable, WentBack, reason_of
+from geanmarbles.cluster.replica import Fault
+from geanmarbles.cluster.site_node import WAIT_SECONDS, Node
 from geanmarbles.web.edit_bodies import Bad, check_length
-from etcd import Refused, Unreachable, WentBack, reason_of
-from replica import Fault
 from geanmarbles.web.pages import NoPage, PageHandler, PageServer
-from site_node import WAIT_SECONDS
 
 # How long a client may take to send a body.
 BODY_SECONDS = 60
@@ -23,7 +23,7 @@ PASSED_BYTES = 1 << 26
 DIGITS = 19
 
 
-def number(text):
+def number(text: str) -> int | None:
     """The number that a text is, or None."""
     text = text.strip()
     return int(text) if text.isascii() and text.isdigit() and len(text) <= DIGITS else None
@@ -32,7 +32,7 @@ def number(text):
 class Server(PageServer):
     """A node's server."""
 
-    def __init__(self, address, node, token):
+    def __init__(self, address: tuple[str, int], node: Node, token: bytes | None) -> None:
         self.address_family = socket.AF_INET6 if ":" in address[0] else socket.AF_INET
         super().__init__(address, Handler)
         self.node, self.token = node, token
@@ -40,7 +40,7 @@ class Server(PageServer):
         self.busy, self.turn = 0, threading.Condition()
 
     @contextmanager
-    def answering(self):
+    def answering(self) -> Iterator[None]:
         with self.turn:
             self.busy += 1
         try:
@@ -50,7 +50,7 @@ class Server(PageServer):
                 self.busy -= 1
                 self.turn.notify_all()
 
-    def drain(self, seconds):
+    def drain(self, seconds: float) -> None:
         """Waits until no request is being answered, for some seconds at most."""
         with self.turn:
             self.turn.wait_for(lambda: not self.busy, seconds)
@@ -59,16 +59,20 @@ class Server(PageServer):
 class Handler(PageHandler):
     """The requests of one connection to a node."""
 
+    server: Server
+    # Whether the body of the request under way is read, or is being read.
+    is_read: bool
+
     protocol_version = "HTTP/1.1"
     server_version = "site-node"
 
-    def version_string(self):
+    def version_string(self) -> str:
         return self.server_version
 
-    def log_message(self, *_):
+    def log_message(self, *_: object) -> None:
         """Nothing is logged of a request."""
 
-    def is_taken(self):
+    def is_taken(self) -> bool:
         if self.command in ("GET", "HEAD"):
             # What follows a body that nobody reads would be taken for the next request.
             has_body = self.headers.get("Content-Length", "0") != "0" or "Transfer-Encoding" in self.headers
@@ -80,7 +84,7 @@ class Handler(PageHandler):
         self.refuse(405, f"there is no {self.command} here", Allow="POST" if self.asked == b"/command" else "GET, HEAD")
         return False
 
-    def do_GET(self):
+    def do_GET(self) -> None:
         with self.server.answering():
             if self.asked == b"/health":
                 self.tell_health()
@@ -91,7 +95,7 @@ class Handler(PageHandler):
 
     # Pages.
 
-    def page_of(self, path):
+    def page_of(self, path: str) -> tuple[Reply, dict[str, str]]:
         node = self.server.node
         try:
             reply, place = node.get(path, self.awaited(node))
@@ -99,7 +103,7 @@ class Handler(PageHandler):
             raise NoPage(str(fault), Retry_After="1") from None
         return reply, {"X-Site-Revision": str(place)}
 
-    def awaited(self, node):
+    def awaited(self, node: Node) -> int:
         """The revision that a page has to have, once this node has come to it."""
         place, is_fresh = self.asked_revision(), self.headers.get("X-Site-Fresh") == "1"
         if is_fresh or place > max(node.place(), node.known.place):
@@ -115,31 +119,32 @@ class Handler(PageHandler):
             self.refuse_place(node, place)
         return place
 
-    def refuse_place(self, node, place):
+    def refuse_place(self, node: Node, place: int) -> NoReturn:
         why = node.state() or ("revision-not-reached", f"this node is at {node.place()}, and {place} was asked for")
-        raise NoPage(": ".join(why), Retry_After="1", **{"X-Site-Revision": str(node.place())})
+        raise NoPage(": ".join(why), Retry_After="1", X_Site_Revision=str(node.place()))
 
-    def asked_revision(self):
+    def asked_revision(self) -> int:
         """The revision that a header or a cookie asks for, or 0."""
         given = self.headers.get("X-Site-Revision")
         if given is not None:
-            if number(given) is None:
+            revision = number(given)
+            if revision is None:
                 raise NoPage("X-Site-Revision has to be a number", 400)
-            return number(given)
+            return revision
         cookies = [it.strip().partition("=") for it in self.headers.get("Cookie", "").split(";")]
         return next((number(value) or 0 for name, _, value in cookies if name == "site_revision"), 0)
 
-    def length(self):
+    def length(self) -> int | None:
         """How many bytes the body has, or None if that isn't told."""
         return None if "Transfer-Encoding" in self.headers else number(self.headers.get("Content-Length", ""))
 
     # Edits.
 
-    def do_POST(self):
+    def do_POST(self) -> None:
         with self.server.answering():
             self.take_edits()
 
-    def take_edits(self):
+    def take_edits(self) -> None:
         self.is_read = False
         try:
             check_token(self.server.token, self.headers.get("Authorization"))
@@ -157,7 +162,7 @@ class Handler(PageHandler):
             headers |= {"X-Site-Revision": str(result.place), "Set-Cookie": cookie}
         self.respond(result.status, "text/plain", "".join(f"{it}\n" for it in result.replies).encode(), headers)
 
-    def body(self):
+    def body(self) -> bytes:
         size = check_length(self.length())
         self.server.allow(self.connection, BODY_SECONDS)
         self.is_read = True
@@ -166,7 +171,7 @@ class Handler(PageHandler):
             raise Bad(400, "the body is shorter than its Content-Length")
         return body
 
-    def pass_over_body(self):
+    def pass_over_body(self) -> None:
         """Reads what is left of a body, within bounds: a client that still sends would lose the response."""
         left = 0 if self.is_read else min(self.length() or 0, PASSED_BYTES)
         while left > 0:
@@ -175,10 +180,14 @@ class Handler(PageHandler):
 
     # Health.
 
-    def tell_health(self):
+    def tell_health(self) -> None:
         node = self.server.node
         why, head = node.state(), node.head
-        told = {"ready": why is None, "applied": node.place(), "known": max(node.known.place, node.last.place)}
+        told: dict[str, object] = {
+            "ready": why is None,
+            "applied": node.place(),
+            "known": max(node.known.place, node.last.place),
+        }
         told |= {"reason": why and why[0], "why": why and why[1], "snapshot": head.last.place if head else 0}
         told |= {"edits": node.last.count, "name": node.name, "cluster": node.history.etcd.cluster}
         self.server.allow(self.connection)

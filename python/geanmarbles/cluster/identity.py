@@ -1,6 +1,6 @@
 """Which program gives a site's lines their meaning.
 
-It is a module, and runs nothing by itself. A program's identity is the first line of a file that it makes: its plugins,
+A program's identity is the first line of a file that it makes: its plugins,
 and the version of what lines mean. The history of a site belongs to one identity, which the first node notes in etcd.
 """
 
@@ -9,8 +9,8 @@ import subprocess
 import tempfile
 from pathlib import Path
 
-from etcd import decoded
-from history import get, is_absent, put
+from geanmarbles.cluster.etcd import decoded
+from geanmarbles.cluster.history import History, get, is_absent, put
 
 SECONDS = 60
 
@@ -19,7 +19,7 @@ class NotTold(Exception):
     """Why a program's identity isn't known."""
 
 
-def identity_of(path):
+def identity_of(path: str) -> bytes:
     """The identity of a program."""
     with tempfile.TemporaryDirectory() as folder:
         file = Path(folder, "site.db")
@@ -32,6 +32,7 @@ def identity_of(path):
             raise NotTold(f"{path} --database ended with status {ran.returncode}")
         try:
             database = sqlite3.connect(file)
+            identity: str
             [identity] = database.execute("SELECT line FROM command WHERE number = 1").fetchone()
             database.close()
         except (sqlite3.Error, TypeError) as fault:
@@ -39,13 +40,13 @@ def identity_of(path):
     return identity.encode()
 
 
-def noted(history):
+def noted(history: History) -> bytes | None:
     """The identity that the history has, or None."""
     found = history.read(history.keys.identity)
     return decoded(found["value"]) if found else None
 
 
-def claimed(history, identity, seconds=10.0):
+def claimed(history: History, identity: bytes, seconds: float = 10.0) -> bytes:
     """The identity that the history has, which is this one if it had none."""
     key = history.keys.identity
     found = history.read(key, seconds)

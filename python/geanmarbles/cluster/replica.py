@@ -1,6 +1,6 @@
 """A program that has carried out the history up to some edit, and goes on with it as edits come.
 
-It is a module, and runs nothing by itself. A replica is made from the newest snapshot and the edits after it. What its
+A replica is made from the newest snapshot and the edits after it. What its
 program does is a function of these lines, but for four things that end a replica for good, so that the next one takes
 its place: the program refuses an edit because memory ran out (11) or by its database (12), it ends, or it has had its
 lines.
@@ -10,12 +10,14 @@ import sys
 import threading
 import time
 import traceback
+from collections.abc import Callable, Sequence
+from typing import Self
 
-import snapshots
-from etcd import Refused, Unreachable, WentBack, reason_of
-from following import Following
-from history import NONE, Gap
-from geanmarbles.client.program import LINE_BYTES, Ended, NoReply, Program, get_line
+from geanmarbles.client.program import LINE_BYTES, Ended, NoReply, Program, Reply, get_line
+from geanmarbles.cluster import snapshots
+from geanmarbles.cluster.etcd import Refused, Unreachable, WentBack, reason_of
+from geanmarbles.cluster.following import Following
+from geanmarbles.cluster.history import NONE, Edit, Gap, Head, History, Last
 
 # What a program may refuse an edit with that isn't a function of the lines before it.
 BY_CHANCE = {"11", "12"}
@@ -32,7 +34,7 @@ MARGIN = 10
 class Fault(Exception):
     """Why a replica has ended: a name for it, and what there is to say."""
 
-    def __init__(self, name, text):
+    def __init__(self, name: str, text: str) -> None:
         super().__init__(f"{name}: {text}")
         self.name, self.text = name, text
 
@@ -41,26 +43,38 @@ class Replica:
     """One program over the history. `begin` starts the program, `reached` says the last edit that this node has come
     to, and `moved` is called whenever this one has come further, or has ended."""
 
-    def __init__(self, history, begin, most, reached, moved):
+    def __init__(
+        self,
+        history: History,
+        begin: Callable[[], Program],
+        most: int,
+        reached: Callable[[], Last],
+        moved: Callable[[], None],
+    ) -> None:
         self.history, self.begin, self.most = history, begin, most
         self.together = min(TOGETHER, most // 8)
         self.reached, self.moved = reached, moved
-        self.program, self.following, self.fault = None, None, None
+        self.program: Program | None = None
+        self.following: Following | None = None
+        self.fault: Fault | None = None
         # The last edit that was carried out, and how many lines the program had been sent when it was there.
         self.last, self.lines_at_start = NONE, 0
         # The edits that no snapshot has: the place, the reply and the size of each by its ID; and the place up to which
         # a snapshot has them.
-        self.done, self.forgotten = {}, 0
+        self.done: dict[str, tuple[int, str, int]] = {}
+        self.forgotten = 0
         # An edit of the cluster's, with how many there are up to it, and whether this has come to it.
-        self.goal, self.is_verified = None, False
+        self.goal: Last | None = None
+        self.is_verified = False
         # Held while the program is asked; and since when it has owed a reply.
-        self.turn, self.owes_since = threading.Lock(), None
+        self.turn = threading.Lock()
+        self.owes_since: float | None = None
 
-    def start(self):
+    def start(self) -> Self:
         threading.Thread(target=self.run, daemon=True).start()
         return self
 
-    def run(self):
+    def run(self) -> None:
         try:
             self.make()
             self.follow()
@@ -77,7 +91,7 @@ class Replica:
             traceback.print_exc(file=sys.stderr)
             self.end(Fault("failed", repr(fault)))
 
-    def end(self, fault):
+    def end(self, fault: Fault) -> None:
         """Ends the program, and says why, unless that was said before."""
         self.fault = self.fault or fault
         if self.following:
@@ -86,7 +100,7 @@ class Replica:
             self.program.__exit__()
         self.moved()
 
-    def make(self):
+    def make(self) -> None:
         """Starts the program with what the newest snapshot has."""
         head, lines = snapshots.newest(self.history)
         self.program = self.begin()
@@ -98,7 +112,7 @@ class Replica:
             self.last = head.last
         self.set_goal(self.history.last())
 
-    def follow(self):
+    def follow(self) -> None:
         self.following = Following(self.history, self.last, self.reached)
         if self.fault:
             raise self.fault
@@ -106,8 +120,9 @@ class Replica:
             for first in range(0, len(batch), self.together):
                 self.carry_out(batch[first : first + self.together])
 
-    def told(self, lines):
+    def told(self, lines: Sequence[bytes]) -> list[Reply]:
         """The program's replies to some lines."""
+        assert self.program is not None
         if self.program.lines + len(lines) > self.most - MARGIN:
             raise Fault("lines-used-up", f"a program takes {self.most} lines")
         self.owes_since = time.monotonic()
@@ -116,7 +131,7 @@ class Replica:
         finally:
             self.owes_since = None
 
-    def carry_out(self, edits):
+    def carry_out(self, edits: Sequence[Edit]) -> None:
         """Has the program carry out some edits. No page is printed between one that fails and the replica's end."""
         with self.turn:
             try:
@@ -135,24 +150,25 @@ class Replica:
                 raise self.fault from None
         self.moved()
 
-    def note(self, edit, reply):
+    def note(self, edit: Edit, reply: Reply) -> None:
         if reply.is_page() or reply.is_refused() and reply.words[1] in BY_CHANCE:
             raise Fault("edit-refused", f"the edit of revision {edit.place} has the reply {reply.text()!r}")
         # Whoever sees that the edit was carried out finds its reply.
         self.done[edit.id] = (edit.place, reply.text(), len(edit.line))
-        self.last = self.last._replace(place=edit.place, id=edit.id, count=self.last.count + 1)
+        self.last = Last(edit.place, edit.id, self.last.count + 1)
         if self.goal and edit.place >= self.goal.place:
             self.compare()
 
-    def compare(self):
+    def compare(self) -> None:
         """Makes sure that the history up to the goal is the cluster's: the same last edit, and as many."""
         if self.last != self.goal:
             raise Fault("history-has-a-gap", f"edit {self.last} was carried out where the cluster has {self.goal}")
         if not self.is_verified:
+            assert self.program is not None
             self.is_verified, self.lines_at_start = True, self.program.lines
         self.goal = None
 
-    def set_goal(self, goal):
+    def set_goal(self, goal: Last) -> None:
         """Has the replica compared with the cluster's last edit, once it comes there. Does nothing if the program is
         busy for long: another goal comes soon."""
         if not self.turn.acquire(timeout=GOAL_SECONDS):
@@ -167,7 +183,7 @@ class Replica:
         finally:
             self.turn.release()
 
-    def get(self, path):
+    def get(self, path: str) -> tuple[Reply, int]:
         """The reply to a path, and the place of the last edit before it. Raises Fault if the replica has ended."""
         with self.turn:
             if self.fault:
@@ -175,19 +191,21 @@ class Replica:
             try:
                 [reply] = self.told([get_line(path)])
             except (Ended, NoReply, OSError) as fault:
-                self.end(Fault("program-ended", str(fault) or "it has ended"))
-                raise self.fault from None
+                ended = Fault("program-ended", str(fault) or "it has ended")
+                self.end(ended)
+                raise self.fault or ended from None
             except Fault as fault:
                 self.end(fault)
                 raise
             return reply, self.last.place
 
-    def is_near_its_end(self):
+    def is_near_its_end(self) -> bool:
         """Whether the next replica should be begun, so that it is there before this one's program has had its lines."""
         room = self.most - MARGIN - self.lines_at_start
-        return self.is_verified and self.program.lines > self.lines_at_start + room // 2
+        lines = self.program.lines if self.program else 0
+        return self.is_verified and lines > self.lines_at_start + room // 2
 
-    def forget(self, place):
+    def forget(self, place: int) -> None:
         """Drops what is known of edits that a snapshot has: etcd has it for as long as it may be asked for."""
         if place > self.forgotten:
             self.forgotten = place
@@ -195,15 +213,16 @@ class Replica:
                 if at <= place:
                     del self.done[name]
 
-    def size(self):
+    def size(self) -> int:
         """How many bytes the edits have that no snapshot has."""
         return sum(size for _, _, size in list(self.done.values()))
 
-    def reply_to(self, name):
+    def reply_to(self, name: str) -> str | None:
         """The reply to an edit that this has carried out and no snapshot has, or None."""
-        return self.done.get(name, (0, None, 0))[1]
+        found = self.done.get(name)
+        return found[1] if found else None
 
-    def look_after(self, known, head):
+    def look_after(self, known: Last, head: Head | None) -> None:
         """What is to be done now and then: ends a program that owes a reply for too long, and a watch that is silent
         although there are edits."""
         since = self.owes_since
@@ -215,7 +234,7 @@ class Replica:
             self.following.kick(2)
 
 
-def begin_program(path, options):
+def begin_program(path: str, options: Sequence[str]) -> Program:
     """Starts a program, and makes sure that it is one."""
     program = Program(path, *options)
     try:

@@ -1,20 +1,19 @@
-"""One node of a site: the replica that serves its pages, the next one for it, and what the node knows of the cluster.
-
-It is a module, and runs nothing by itself.
-"""
+"""One node of a site: the replica that serves its pages, the next one, and what the node knows of the cluster."""
 
 import subprocess
 import sys
 import threading
 import time
 import traceback
+from collections.abc import Callable
+from typing import NamedTuple
 
-from etcd import Refused, Unreachable, WentBack, reason_of
-from history import NONE, Gap
-from identity import claimed
-from geanmarbles.client.program import Ended, NoReply
-from replica import Fault, Replica
-from snapshots import NotMade, OtherMaker, make
+from geanmarbles.client.program import Ended, NoReply, Program, Reply
+from geanmarbles.cluster.etcd import Refused, Unreachable, WentBack, reason_of
+from geanmarbles.cluster.history import NONE, Gap, Head, History, Last
+from geanmarbles.cluster.identity import claimed
+from geanmarbles.cluster.replica import Fault, Replica
+from geanmarbles.cluster.snapshots import NotMade, OtherMaker, make
 
 # How often the cluster is asked for its last edit, for how long at most, and after how long without an answer it counts
 # as unreachable.
@@ -33,18 +32,19 @@ DUE_BYTES = 100_000_000
 FOR_GOOD = {"history-went-back", "other-program"}
 
 
-def say(what):
+def say(what: str) -> None:
     print(f"node: {what}", file=sys.stderr, flush=True)
 
 
 class Arrivals:
     """Threads that wait until a place in the history is reached."""
 
-    def __init__(self):
+    def __init__(self) -> None:
         # The place that each waits for, by its event.
-        self.turn, self.waiting = threading.Lock(), {}
+        self.turn = threading.Lock()
+        self.waiting: dict[threading.Event, int] = {}
 
-    def wait(self, place, is_there, seconds):
+    def wait(self, place: int, is_there: Callable[[], bool], seconds: float) -> None:
         """Waits until `reached` is called with that place or a later one, unless `is_there()` holds already."""
         event = threading.Event()
         with self.turn:
@@ -54,40 +54,54 @@ class Arrivals:
         with self.turn:
             del self.waiting[event]
 
-    def reached(self, place):
+    def reached(self, place: int) -> None:
         with self.turn:
             for event, wanted in self.waiting.items():
                 if wanted <= place:
                     event.set()
 
 
+class Snapshots(NamedTuple):
+    """The program that makes snapshots, after how many edits one is due, and for how many seconds the requests of its
+    edits are known."""
+
+    path: str
+    due: int
+    remember: int
+
+
 class Node:
     """A node of a site. `identity` is its program's, and `begin` starts a program, which takes `most` lines."""
 
-    def __init__(self, history, identity, begin, most):
+    def __init__(
+        self, history: History, identity: bytes, begin: Callable[[], Program], most: int, snapshots: Snapshots
+    ) -> None:
         self.history, self.identity, self.begin, self.most = history, identity, begin, most
         self.name = history.keys.root.decode().rstrip("/")
-        # The program that makes snapshots, after how many edits one is due, and how long its edits' requests are known.
-        self.snapshots = None
+        self.snapshots = snapshots
         # The replica that serves, the one that is to take its place, and the last edit that any of them has come to.
-        self.current, self.next, self.last = None, None, NONE
+        self.current: Replica | None = None
+        self.next: Replica | None = None
+        self.last = NONE
         # What the cluster has said last, its last edit and its newest snapshot; and when.
-        self.known, self.head, self.heard = NONE, None, float("-inf")
+        self.known, self.heard = NONE, float("-inf")
+        self.head: Head | None = None
         # The place of an edit that this node hasn't applied yet, and since when that is known.
         self.awaited, self.awaited_since = 0, 0.0
         self.arrivals = Arrivals()
         # Why no page is served, and why not ever again.
-        self.reason, self.ended = ("catching-up", "the node has just started"), None
+        self.reason = ("catching-up", "the node has just started")
+        self.ended: tuple[str, str] | None = None
         self.has_served, self.is_stopping = False, threading.Event()
         # Whether the history belongs to this node's program; and when the next replica may be begun, as one that has
         # failed isn't tried again at once.
         self.is_claimed, self.pause, self.not_before = threading.Event(), AGAIN_SECONDS, 0.0
 
-    def start(self):
+    def start(self) -> None:
         for work, seconds in ((self.keep, KEEP_SECONDS), (self.poll, POLL_SECONDS), (self.make_snapshot, DUE_SECONDS)):
             threading.Thread(target=self.repeated, args=[work, seconds], daemon=True).start()
 
-    def repeated(self, work, seconds):
+    def repeated(self, work: Callable[[], object], seconds: float) -> None:
         """Does some work time after time until the node ends. A mistake in it is told, and the work goes on."""
         while not self.is_stopping.wait(seconds):
             try:
@@ -99,13 +113,13 @@ class Node:
         # Also ends a replica that was begun as the node ended.
         self.stop()
 
-    def stop(self):
+    def stop(self) -> None:
         self.is_stopping.set()
         for replica in (self.current, self.next):
             if replica:
                 replica.end(Fault("stopping", "the node ends"))
 
-    def end(self, name, text):
+    def end(self, name: str, text: str) -> None:
         """Serves no more, until the node is started anew by somebody who has looked at it."""
         if not self.ended:
             self.ended = self.reason = (name, text)
@@ -114,7 +128,7 @@ class Node:
 
     # The replicas.
 
-    def keep(self):
+    def keep(self) -> None:
         """Sees to it that there is a replica that serves, and that the next one is there before that has ended."""
         if not self.is_claimed.is_set():
             self.claim()
@@ -132,7 +146,7 @@ class Node:
         elif self.next and self.next.is_verified and self.takes_over():
             self.pause = AGAIN_SECONDS
 
-    def claim(self):
+    def claim(self) -> None:
         """Makes sure that the history belongs to this node's program."""
         try:
             if claimed(self.history, self.identity, ASK_SECONDS) == self.identity:
@@ -142,19 +156,20 @@ class Node:
         except (Unreachable, Refused) as fault:
             self.reason = reason_of(fault)
 
-    def begun(self):
+    def begun(self) -> Replica:
         return Replica(self.history, self.begin, self.most, lambda: self.last, self.came).start()
 
-    def say_end(self, fault):
+    def say_end(self, fault: Fault) -> None:
         if fault.name in FOR_GOOD:
             self.end(fault.name, fault.text)
         else:
             self.reason = (fault.name, fault.text)
             say(f"a program ends: {fault}")
 
-    def takes_over(self):
+    def takes_over(self) -> bool:
         """Whether the next replica has taken the current one's place. It has to have come as far."""
         former, following = self.current, self.next
+        assert following is not None
         if former is None:
             if following.last.place < self.last.place:
                 return False
@@ -175,7 +190,7 @@ class Node:
         self.came()
         return True
 
-    def came(self):
+    def came(self) -> None:
         """Notes where the replica that serves has come to in the history."""
         current = self.current
         if current:
@@ -184,7 +199,7 @@ class Node:
 
     # What the cluster has.
 
-    def poll(self):
+    def poll(self) -> None:
         """Asks the cluster for its last edit and its newest snapshot."""
         try:
             self.ask()
@@ -192,7 +207,7 @@ class Node:
             if not self.is_heard() and self.current is None:
                 self.reason = reason_of(fault)
 
-    def ask(self):
+    def ask(self) -> Last:
         before = self.last
         known, head = self.history.now(seconds=ASK_SECONDS)
         if known.place < before.place:
@@ -207,7 +222,7 @@ class Node:
                     replica.set_goal(known)
         return known
 
-    def make_snapshot(self):
+    def make_snapshot(self) -> None:
         """Makes a snapshot if one is due and no other node makes it."""
         path, due, remember = self.snapshots
         if not self.is_claimed.is_set() or not self.is_heard() or not self.is_due(due):
@@ -221,12 +236,12 @@ class Node:
             say(f"no snapshot: {fault or type(fault).__name__}")
             self.is_stopping.wait(UNMADE_SECONDS)
 
-    def is_due(self, due):
+    def is_due(self, due: int) -> bool:
         """Whether there are that many edits which no snapshot has, or very large ones."""
         had, current = self.head.last.count if self.head else 0, self.current
         return self.known.count - had >= due or current is not None and current.size() > DUE_BYTES
 
-    def state(self):
+    def state(self) -> tuple[str, str] | None:
         """Whether the node is ready, and if not a name for why and what there is to say."""
         if self.ended:
             return self.ended
@@ -242,21 +257,21 @@ class Node:
             return ("lagging", f"this node is at revision {current.last.place}, and the cluster at {self.known.place}")
         return None
 
-    def is_heard(self):
+    def is_heard(self) -> bool:
         return time.monotonic() - self.heard < UNHEARD_SECONDS
 
-    def place(self):
+    def place(self) -> int:
         current = self.current
         return current.last.place if current else 0
 
     # What requests ask.
 
-    def wait(self, place, seconds=WAIT_SECONDS):
+    def wait(self, place: int, seconds: float = WAIT_SECONDS) -> bool:
         """Whether this node has come to a place in the history, within some seconds."""
         self.arrivals.wait(place, lambda: self.place() >= place, seconds)
         return self.place() >= place
 
-    def get(self, path, place):
+    def get(self, path: str, place: int) -> tuple[Reply, int]:
         """The reply to a path at a place in the history or later, and its place. Raises Fault if there is none now."""
         until = time.monotonic() + WAIT_SECONDS
         while True:
@@ -272,7 +287,7 @@ class Node:
                 raise Fault(*(self.state() or ("catching-up", "no program is there in time")))
             time.sleep(0.02)
 
-    def reply_to(self, name, place, seconds):
+    def reply_to(self, name: str, place: int, seconds: float) -> str | None:
         """The reply to an edit that is in the history, or None if it isn't there in time."""
         until = time.monotonic() + seconds
         while True:
@@ -287,7 +302,7 @@ class Node:
                 time.sleep(0.05)
             self.wait(place, max(0.0, until - time.monotonic()))
 
-    def noted_reply(self, name):
+    def noted_reply(self, name: str) -> str | None:
         """The reply to an edit that a snapshot has, or None."""
         try:
             return self.history.reply_of(name)

@@ -1,6 +1,6 @@
 """The edits of a history as they come, in order and without a gap.
 
-It is a module, and runs nothing by itself. Edits come from a watch of etcd, which tells what was made from a revision
+Edits come from a watch of etcd, which tells what was made from a revision
 on, each once and in the order of revisions. A watch that ends is begun anew after the last edit that came. If etcd has
 dropped what lies between, the edits that are still there are read instead.
 """
@@ -10,9 +10,10 @@ import json
 import socket
 import threading
 import time
+from collections.abc import Callable, Iterator
 
-from etcd import Lost, NotSent, Refused, Unreachable, decoded, encoded, end_of
-from history import KEYS_LISTED, TRANSACTION_KEYS, Gap, edit_of, told
+from geanmarbles.cluster.etcd import Json, Lost, NotSent, Refused, Unreachable, decoded, encoded, end_of
+from geanmarbles.cluster.history import KEYS_LISTED, TRANSACTION_KEYS, Edit, Gap, History, Last, edit_of, told
 
 # How long to wait before a watch that has ended is begun anew.
 PAUSE_SECONDS = 0.1
@@ -31,15 +32,17 @@ class Following:
     hasn't that edit.
     """
 
-    def __init__(self, history, last, reached):
+    def __init__(self, history: History, last: Last, reached: Callable[[], Last]) -> None:
         self.history, self.last, self.reached = history, last, reached
         # The revision from which on edits are wanted, and whether etcd has dropped some of what was made from there on.
         self.next, self.is_compacted = last.place + 1, False
         # The connection of the watch; since when nothing has come while it was waited for; and whether this is closed.
-        self.connection, self.idle_since, self.is_closed = None, None, False
+        self.connection: http.client.HTTPConnection | None = None
+        self.idle_since: float | None = None
+        self.is_closed = False
         self.turn = threading.Lock()
 
-    def batches(self):
+    def batches(self) -> Iterator[list[Edit]]:
         """Lists of edits. Raises WentBack or Gap if the history no longer goes on from where this has come to."""
         while not self.is_closed:
             try:
@@ -52,7 +55,7 @@ class Following:
                 self.history.etcd.pass_on(self.history.etcd.at)
                 time.sleep(PAUSE_SECONDS)
 
-    def check(self):
+    def check(self) -> None:
         """Makes sure that the history in etcd goes on from here, and from where this node has come to."""
         if self.last.place and not self.history.has_still(self.last):
             raise Gap(f"nothing is left of edit {told(self.last)}")
@@ -62,16 +65,16 @@ class Following:
             if self.last.place < reached.place or self.last.count < reached.count:
                 raise Gap(f"nothing is left of edit {told(reached)}")
 
-    def passed(self, edits):
+    def passed(self, edits: list[Edit]) -> list[Edit]:
         """Notes edits that whoever follows is given now."""
         for it in edits:
-            self.last = self.last._replace(place=it.place, id=it.id, count=self.last.count + 1)
+            self.last = Last(it.place, it.id, self.last.count + 1)
         self.next = max(self.next, self.last.place + 1)
         return edits
 
-    def watched(self):
+    def watched(self) -> Iterator[list[Edit]]:
         keys = self.history.keys
-        wanted = {"key": encoded(keys.edits), "range_end": encoded(end_of(keys.edits)), "filters": ["NODELETE"]}
+        wanted: Json = {"key": encoded(keys.edits), "range_end": encoded(end_of(keys.edits)), "filters": ["NODELETE"]}
         wanted |= {"start_revision": str(self.next), "fragment": True}
         connection, response = self.history.etcd.watching({"create_request": wanted})
         try:
@@ -84,15 +87,15 @@ class Following:
             self.hold(None)
             connection.close()
 
-    def hold(self, connection):
+    def hold(self, connection: http.client.HTTPConnection | None) -> None:
         with self.turn:
             self.connection = connection
             if connection and self.is_closed:
                 shut(connection)
 
-    def messages(self, response):
+    def messages(self, response: http.client.HTTPResponse) -> Iterator[Json]:
         """What a watch tells, until it ends."""
-        pieces = []
+        pieces: list[bytes] = []
         while not self.is_closed:
             self.idle_since = time.monotonic()
             came = response.read1(1 << 16)
@@ -106,14 +109,14 @@ class Following:
                 pieces = []
             pieces.append(rest)
 
-    def edits_in(self, message):
+    def edits_in(self, message: Json) -> list[Edit]:
         """The edits that a message of a watch tells. Raises Compacted or Lost at the end of the watch."""
         if "result" not in message:
             raise Lost(str(message.get("error")))
         result = message["result"]
         self.history.etcd.note_cluster(result["header"])
         if result.get("canceled"):
-            raise Compacted if result.get("compact_revision") else Lost(str(result.get("cancel_reason")))
+            raise Compacted() if result.get("compact_revision") else Lost(str(result.get("cancel_reason")))
         edits = []
         for event in result.get("events", []):
             found = event["kv"]
@@ -124,9 +127,10 @@ class Following:
             edits.append(edit_of(self.history.keys, found))
         return edits
 
-    def read(self):
+    def read(self) -> Iterator[list[Edit]]:
         """The edits that etcd still has, all at one revision, some at a time."""
-        listed, revision = [], None
+        listed: list[tuple[int, bytes]] = []
+        revision = 0
         for found, revision in self.history.all_of(self.history.keys.edits, limit=KEYS_LISTED, keys_only=True):
             places = ((int(it["create_revision"]), decoded(it["key"])) for it in found)
             listed += [it for it in places if it[0] >= self.next]
@@ -143,21 +147,21 @@ class Following:
             yield self.passed(edits)
         self.next, self.is_compacted = max(self.next, revision + 1), False
 
-    def kick(self, seconds):
+    def kick(self, seconds: float) -> None:
         """Ends the watch if nothing has come of it for some seconds, so that it is begun anew with another endpoint."""
         with self.turn:
             since = self.idle_since
             if self.connection and since and time.monotonic() - since > seconds:
                 shut(self.connection)
 
-    def close(self):
+    def close(self) -> None:
         with self.turn:
             self.is_closed = True
             if self.connection:
                 shut(self.connection)
 
 
-def shut(connection):
+def shut(connection: http.client.HTTPConnection) -> None:
     """Has whoever reads from a connection see its end."""
     try:
         socket.socket.shutdown(connection.sock, socket.SHUT_RDWR)

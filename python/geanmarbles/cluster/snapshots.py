@@ -1,6 +1,6 @@
 """Snapshots: what the history up to some edit makes, as lines that a program is given in place of it.
 
-It is a module, and runs nothing by itself. A snapshot is made from the history alone: a program of its own carries out
+A snapshot is made from the history alone: a program of its own carries out
 the last snapshot and the edits after it in a file, `--compact` makes a short history of it, and `--export` prints its
 lines. They go to etcd in parts; then each edit that they have gets a key `done` with its place and reply; then the head
 is written, which makes this the newest snapshot; and only then are the edits' own keys deleted. So at every moment each
@@ -15,13 +15,30 @@ import json
 import subprocess
 import tempfile
 import threading
+from collections.abc import Iterable, Iterator, Sequence
 from contextlib import suppress
 from pathlib import Path
+from typing import Self
 
-from etcd import Refused, Unreachable, WentBack, decoded, encoded, end_of
-from following import Following
-from history import KEYS_LISTED, NONE, Gap, delete, get, is_absent, is_changed_at, is_made_at, put, sum_of
-from geanmarbles.client.program import LINES, Program
+from geanmarbles.client.program import LINES, Program, Reply
+from geanmarbles.cluster.etcd import Json, Refused, Unreachable, WentBack, decoded, encoded, end_of
+from geanmarbles.cluster.following import Following
+from geanmarbles.cluster.history import (
+    KEYS_LISTED,
+    NONE,
+    Edit,
+    Gap,
+    Head,
+    History,
+    Last,
+    delete,
+    get,
+    is_absent,
+    is_changed_at,
+    is_made_at,
+    put,
+    sum_of,
+)
 
 # The most bytes of a part: with what goes around them less than the 1.5 MiB that etcd takes in a request.
 PART_BYTES = 1_000_000
@@ -37,6 +54,10 @@ TOGETHER, MANY = 200, LINES // 2
 LAST_SECONDS, EXPORT_SECONDS = 60, 600
 
 
+# An edit's ID, and what is noted of it once a snapshot has it.
+Noted = tuple[str, Json]
+
+
 class NotMade(Exception):
     """Why a snapshot wasn't made. The one before is still the newest."""
 
@@ -45,11 +66,11 @@ class OtherMaker(Exception):
     """Another node makes a snapshot."""
 
 
-def newest(history):
+def newest(history: History) -> tuple[Head | None, list[bytes]]:
     """The head of the newest snapshot and its lines, or None and no line. Raises Gap if it isn't whole."""
     head = history.head()
     while head:
-        parts = []
+        parts: list[bytes] = []
         for found, _ in history.all_of(history.keys.parts_of(head.folder), limit=PARTS_TOGETHER):
             parts += [decoded(it["value"]) for it in found]
         text = b"".join(parts)
@@ -65,11 +86,11 @@ def newest(history):
 class Turn:
     """The right to make a snapshot, for a `with` block. Raises OtherMaker if another node has it."""
 
-    def __init__(self, history):
+    def __init__(self, history: History) -> None:
         self.history, self.key = history, history.keys.maker
         self.is_over = threading.Event()
 
-    def __enter__(self):
+    def __enter__(self) -> Self:
         etcd = self.history.etcd
         self.lease = etcd.call("/v3/lease/grant", {"TTL": str(LEASE_SECONDS)})["ID"]
         is_mine, answer, _ = self.history.transaction([is_absent(self.key)], [put(self.key, b"", lease=self.lease)])
@@ -80,22 +101,22 @@ class Turn:
         threading.Thread(target=self.beat, daemon=True).start()
         return self
 
-    def __exit__(self, *_):
+    def __exit__(self, *_: object) -> None:
         self.is_over.set()
         self.revoke()
 
-    def revoke(self):
+    def revoke(self) -> None:
         # If that fails, it runs out by itself.
         with suppress(Unreachable, Refused, WentBack):
             self.history.etcd.call("/v3/lease/revoke", {"ID": self.lease}, 2)
 
-    def beat(self):
+    def beat(self) -> None:
         """Keeps the lease. If it can't, the next write says so."""
         while not self.is_over.wait(BEAT_SECONDS):
             with suppress(Unreachable, Refused, WentBack):
                 self.history.etcd.call("/v3/lease/keepalive", {"ID": self.lease}, BEAT_SECONDS)
 
-    def write(self, writes, *conditions):
+    def write(self, writes: Iterable[Json], *conditions: Json) -> bool:
         """Writes, if this still has the turn and some conditions hold; whether they do."""
         mine = is_made_at(self.key, self.revision)
         is_done, _, found = self.history.transaction([mine, *conditions], [*writes, get(self.key)], [get(self.key)])
@@ -108,22 +129,22 @@ class Turn:
 class Rebuilt:
     """A site in a file, in a folder that is gone after the `with` block, made by lines."""
 
-    def __init__(self, path):
+    def __init__(self, path: str) -> None:
         self.path = path
 
-    def __enter__(self):
+    def __enter__(self) -> Self:
         self.folder = tempfile.TemporaryDirectory()
         self.file = str(Path(self.folder.name, "site.db"))
         self.program = Program(self.path, "--database", self.file)
         return self
 
-    def __exit__(self, *_):
+    def __exit__(self, *_: object) -> None:
         self.program.__exit__()
         self.folder.cleanup()
 
-    def told(self, lines):
+    def told(self, lines: Sequence[bytes]) -> list[Reply]:
         """The replies to some lines, none of which is refused by chance."""
-        replies = []
+        replies: list[Reply] = []
         for first in range(0, len(lines), TOGETHER):
             if self.program.lines > MANY:
                 self.end()
@@ -134,12 +155,12 @@ class Rebuilt:
                 raise NotMade(f"a line has the reply {reply.text()!r}")
         return replies
 
-    def end(self):
+    def end(self) -> None:
         self.program.end(LAST_SECONDS)
         if self.program.child.returncode:
             raise NotMade(f"the program has ended with status {self.program.child.returncode}")
 
-    def exported(self):
+    def exported(self) -> bytes:
         """The lines that make the site, as one text. The program has seen that they do: that is what `--compact` tries
         before it puts them in the place of the others."""
         self.end()
@@ -151,11 +172,11 @@ class Rebuilt:
         return ran.stdout
 
 
-def edits_up_to(history, last, goal):
+def edits_up_to(history: History, last: Last, goal: Last) -> Iterator[list[Edit]]:
     """Lists of the edits after one, up to another one."""
     following, is_over = Following(history, last, lambda: NONE), threading.Event()
 
-    def kick():
+    def kick() -> None:
         while not is_over.wait(BEAT_SECONDS):
             following.kick(BEAT_SECONDS)
 
@@ -170,11 +191,12 @@ def edits_up_to(history, last, goal):
         following.close()
 
 
-def rebuilt(history, path):
+def rebuilt(history: History, path: str) -> tuple[bytes, Last, Head | None, list[Noted]]:
     """What the history makes up to its last edit: the lines, that edit, the snapshot that it began with, and of each
     edit after that its ID, and what is noted of it."""
     (head, lines), goal = newest(history), history.last()
-    last, edits = (head.last if head else NONE), []
+    last = head.last if head else NONE
+    edits: list[Noted] = []
     with Rebuilt(path) as site:
         if any(it.is_refused() for it in site.told(lines)):
             raise NotMade("a line of the snapshot before is refused")
@@ -182,13 +204,13 @@ def rebuilt(history, path):
             for edit, reply in zip(batch, site.told([it.line for it in batch])):
                 edits.append((edit.id, {"place": edit.place, "reply": reply.text(), "sum": sum_of(edit.line)}))
         if edits:
-            last = last._replace(place=edits[-1][1]["place"], id=edits[-1][0], count=last.count + len(edits))
+            last = Last(edits[-1][1]["place"], edits[-1][0], last.count + len(edits))
         if last != goal:
             raise NotMade(f"the history ends with {last}, and the cluster says {goal}")
         return site.exported(), goal, head, edits
 
 
-def make(history, path, remember):
+def make(history: History, path: str, remember: int) -> tuple[Last, int]:
     """Makes a snapshot of the whole history. Raises OtherMaker, NotMade, or what a call of etcd raises."""
     with Turn(history) as turn:
         tidy(turn, history.head())
@@ -198,7 +220,7 @@ def make(history, path, remember):
         for number, part in enumerate(parts):
             turn.write([put(history.keys.parts_of(folder) + b"%08d" % number, part)])
         note_done(turn, edits, remember)
-        told = {"place": last.place, "id": last.id, "count": last.count, "folder": folder, "parts": len(parts)}
+        told: Json = {"place": last.place, "id": last.id, "count": last.count, "folder": folder, "parts": len(parts)}
         told["sum"] = hashlib.sha256(text).hexdigest()
         former = is_changed_at(history.keys.head, head.revision if head else 0)
         if not turn.write([put(history.keys.head, json.dumps(told).encode())], former):
@@ -207,11 +229,11 @@ def make(history, path, remember):
         return last, len(text)
 
 
-def note_done(turn, edits, remember):
+def note_done(turn: Turn, edits: Sequence[Noted], remember: int) -> None:
     """Gives each edit a key with its place and reply, which etcd drops after `remember` seconds."""
     history = turn.history
     lease = history.etcd.call("/v3/lease/grant", {"TTL": str(remember)})["ID"]
-    requests = set()
+    requests: set[bytes] = set()
     for found, _ in history.all_of(history.keys.requests, limit=KEYS_LISTED, keys_only=True):
         requests |= {decoded(it["key"]) for it in found}
     for first in range(0, len(edits), KEYS_TOGETHER):
@@ -225,11 +247,11 @@ def note_done(turn, edits, remember):
         turn.write(writes)
 
 
-def tidy(turn, head):
+def tidy(turn: Turn, head: Head | None) -> None:
     """Deletes what a snapshot has taken the place of: edits that it has, and the parts of others."""
     history = turn.history
     folder = history.keys.parts_of(head.folder) if head else None
-    others = set()
+    others: set[bytes] = set()
     for found, _ in history.all_of(history.keys.parts, limit=KEYS_LISTED, keys_only=True):
         keys = (decoded(it["key"]) for it in found)
         others |= {key.rpartition(b"/")[0] + b"/" for key in keys if key != history.keys.head}
@@ -237,7 +259,7 @@ def tidy(turn, head):
         turn.write([{"request_delete_range": {"key": encoded(other), "range_end": encoded(end_of(other))}}])
     if head is None:
         return
-    listed = []
+    listed: list[tuple[bytes, str]] = []
     for found, _ in history.all_of(history.keys.edits, limit=KEYS_LISTED, keys_only=True):
         listed += [(decoded(it["key"]), it["create_revision"]) for it in found]
     listed = [it for it in listed if int(it[1]) <= head.last.place]

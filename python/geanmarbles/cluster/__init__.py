@@ -1,0 +1,1 @@
+"""One site on several machines: a node over the history that etcd holds."""
