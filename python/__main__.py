@@ -6,11 +6,19 @@ from importlib import import_module
 
 # Each command, by its script's path in the checkout, with the module whose `main` it is.
 COMMANDS = {
-    "site": "repository.site",
-    "new-plugin": "repository.new_plugin",
-    "tools/build": "repository.build",
-    "tools/index": "repository.index",
-    "tools/titles": "repository.titles",
+    "bench/cluster/run": "benches.cluster",
+    "bench/database/run": "benches.database",
+    "bench/gate/run": "benches.gate",
+    "bench/hooks/run": "benches.hooks",
+    "bench/hostile/run": "benches.hostile",
+    "bench/import/run": "benches.imports",
+    "bench/instructions/run": "benches.instructions",
+    "bench/queries/run": "benches.queries",
+    "bench/scan/run": "benches.scan",
+    "bench/serve/run": "benches.serve",
+    "bench/tables/run": "benches.tables",
+    "bench/turns/run": "benches.turns",
+    "bench/wordpress/run": "benches.wordpress",
     "cluster/node": "cluster.node",
     "examples/browse": "commands.browse",
     "examples/cluster/three": "commands.three",
@@ -23,8 +31,39 @@ COMMANDS = {
     "examples/refusals": "commands.refusals",
     "examples/step": "commands.step",
     "examples/undo": "commands.undo",
+    "new-plugin": "repository.new_plugin",
+    "site": "repository.site",
+    "tests/bench/run": "checks.bench",
+    "tests/browse/run": "checks.browse.run",
+    "tests/cluster/history": "checks.cluster.history",
+    "tests/cluster/run": "checks.cluster.run",
+    "tests/cost/run": "checks.cost",
+    "tests/database/run": "checks.database.run",
+    "tests/ends/run": "checks.ends",
+    "tests/from_wordpress/record": "checks.from_wordpress.record",
+    "tests/from_wordpress/run": "checks.from_wordpress.run",
+    "tests/fuzz/run": "checks.fuzz.run",
+    "tests/hostile/run": "checks.hostile.run",
+    "tests/links/run": "checks.links.run",
+    "tests/memory/run": "checks.memory",
+    "tests/quick": "checks.quick",
+    "tests/reach/run": "checks.reach",
+    "tests/refusals/run": "checks.refusals",
+    "tests/rows/run": "checks.rows",
+    "tests/scripts/run": "checks.scripts",
+    "tests/trace/run": "checks.trace",
+    "tests/unproved": "checks.unproved",
+    "tests/wordpress/run": "checks.wordpress",
+    "tools/build": "repository.build",
+    "tools/index": "repository.index",
+    "tools/titles": "repository.titles",
+}
+# What other commands run in a process of its own, and no script.
+PARTS = {
+    "bench/cluster/asking": "benches.asking",
+    "tests/database/disks": "checks.database.disks",
 }
 
 if __name__ == "__main__":
     _, name, *sys.argv = sys.argv
-    sys.exit(import_module(f"geanmarbles.{COMMANDS[name]}").main())
+    sys.exit(import_module(f"geanmarbles.{(COMMANDS | PARTS)[name]}").main())

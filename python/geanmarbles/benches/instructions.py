@@ -1,0 +1,125 @@
+"""Counts the instructions that pages and passes take, by valgrind's callgrind.
+
+    bench/instructions/run [--smoke] [--svg FILE] [--only WORD] [PROGRAM]
+
+A row for each page and each pass; with --only for those whose names have WORD. What one request takes is the difference
+between a run with many of them and one with a single one, so what is made once isn't counted, nor are the commands
+between the requests. Counts are the same in each run, whatever else the machine does. crates/test_bench makes the
+passes. bench/README.md says what else can follow.
+"""
+
+import re
+import shutil
+import subprocess
+import sys
+import tempfile
+from collections.abc import Iterator, Sequence
+from itertools import islice
+from typing import NamedTuple
+
+from geanmarbles.benches.drawn import Bars, draw
+from geanmarbles.benches.measured import PASSES, Bench, parser_of
+from geanmarbles.client.exchanges import ARTICLE, SHOWN, UNSEEN, Exchange, activate, done, get, joined, put
+from geanmarbles.output import quiet_output
+
+TOTAL = re.compile(r"^(?:summary|totals): (\d+)", re.M)
+POSTS, SHORTCODES, CALLBACKS, LETTERS = 100, 1_000, 1_000, 500_000
+# How many rows are enough to see that the script works: passes, a page, and one after a change.
+FEW_ROWS = 5
+# A post that is shown is edited, and stays as it is.
+EDIT = done("edit", id=1, title="")
+
+
+class Page(NamedTuple):
+    """A page: its name, the exchange that makes the site, what comes before each request, of how many parts it consists
+    and what they are, and how often it is asked for."""
+
+    name: str
+    site: Exchange
+    before: Exchange
+    parts: int
+    part: str
+    times: int
+
+
+def pages(smoke: bool) -> Iterator[Page]:
+    posts, shortcodes, letters = (10, 20, 1_000) if smoke else (POSTS, SHORTCODES, LETTERS)
+    bold = activate("bold") + put(1, "[b]x[/b]" * shortcodes)
+    yield Page(f"{shortcodes:,} `[b]x[/b]`", bold, Exchange(), shortcodes, "shortcode", 20)
+    articles = activate("bold") + joined(put(number, ARTICLE) for number in range(1, SHOWN + 1))
+    empty = done("option", name="posts_per_page", value=str(posts)) + joined(put(it) for it in range(1, posts + 1))
+    for name, site, parts in (("ten posts of 3 KB", articles, SHOWN), (f"{posts} empty posts", empty, posts)):
+        yield Page(name, site, Exchange(), parts, "post", 50)
+        yield Page(f"{name}, after a change that they don't show", site, UNSEEN, parts, "post", 50)
+        yield Page(f"{name}, after an edit of one", site, EDIT, parts, "post", 50)
+    for plugin in ("marks", "once", "nest"):
+        yield Page(f"{posts} empty posts, `{plugin}`", activate(plugin) + empty, Exchange(), posts, "post", 20)
+    yield Page("one empty post", put(1), Exchange(), 1, "page", 200)
+    five = activate("args", "atts", "bold", "marks", "note") + put(1)
+    yield Page("one empty post, five plugins active", five, Exchange(), 1, "page", 200)
+    plain = activate("atts", "bold") + put(1, "word " * (letters // 5))
+    yield Page(f"plain text of {letters:,} bytes", plain, Exchange(), 1, "page", 10)
+    yield Page(f"plain text of {letters:,} bytes, after an edit of it", plain, EDIT, 1, "page", 10)
+
+
+def counted(words: Sequence[str], given: bytes = b"") -> tuple[int, bytes]:
+    """The instructions of a run, and what it writes."""
+    with tempfile.NamedTemporaryFile("r", encoding="utf-8", errors="replace") as counts:
+        valgrind = ["valgrind", "--tool=callgrind", f"--callgrind-out-file={counts.name}", *words]
+        ran = subprocess.run(valgrind, input=given, capture_output=True, check=False)
+        found = TOTAL.search(counts.read())
+    if ran.returncode or not found:
+        sys.exit(f"{words[0]} ended with status {ran.returncode}: {ran.stderr.decode(errors='replace')}")
+    return int(found[1]), ran.stdout
+
+
+def of_page(bench: Bench, page: Page, times: int) -> float:
+    """The instructions of one request of the front."""
+
+    def run(each: Exchange, count: int) -> tuple[int, bytes]:
+        return counted(bench.words, (page.site + each * count).lines.encode())
+
+    begun, one = run(page.before + get("/"), 1)
+    ended, many = run(page.before + get("/"), 1 + times)
+    single = one[len(page.site.replies.encode()) :]
+    if not one.startswith(page.site.replies.encode()) or many != page.site.replies.encode() + single * (1 + times):
+        sys.exit(f"{bench.program} replied wrongly: {page.name}")
+    between = run(page.before, 1 + times)[0] - run(page.before, 1)[0] if page.before.lines else 0
+    return (ended - begun - between) / times
+
+
+def of_pass(count: int, spread: bool, times: int) -> float:
+    """The instructions of one pass over callbacks that give the value back."""
+    words = [str(PASSES), str(count), *["many"] * spread]
+    begun, ended = (counted([*words[:2], str(it), *words[2:]])[0] for it in (1, 1 + times))
+    return (ended - begun) / times
+
+
+def rows(bench: Bench, word: str) -> Iterator[tuple[str, float, int, str]]:
+    """For each row its name, what it counts, of how many parts that consists and what they are."""
+    callbacks = 10 if bench.smoke else CALLBACKS
+    for name, spread in (("at one priority", False), ("each at its own", True)):
+        name = f"a pass over {callbacks:,} callbacks, {name}"
+        if word in name:
+            yield name, of_pass(callbacks, spread, 1 if bench.smoke else 20), callbacks, "callback"
+    for page in pages(bench.smoke):
+        if word in page.name:
+            yield page.name, of_page(bench, page, 1 if bench.smoke else page.times), page.parts, page.part
+
+
+@quiet_output()
+def main() -> None:
+    parser = parser_of(__doc__)
+    parser.add_argument("--only", default="", metavar="WORD", help="the rows whose names have WORD")
+    given = parser.parse_args()
+    if not shutil.which("valgrind"):
+        sys.exit("valgrind isn't on the PATH")
+    if not PASSES.is_file():
+        sys.exit(f"{PASSES} isn't built: run `rt run` in its crate's folder once")
+    bench = Bench(given)
+    bars: dict[str, list[float]] = {}
+    print(f"{'work':<70} {'instructions':>12}   of a")
+    for name, count, parts, part in islice(rows(bench, given.only), FEW_ROWS if bench.smoke else None):
+        print(f"{name:<70} {count / parts:>12,.0f}   {part}", flush=True)
+        bars[f"{name}, a {part}"] = [count / parts]
+    draw(bench.svg, [Bars("What pages and passes take", "instructions", (), bars)])

@@ -1,0 +1,1 @@
+"""examples/browse and examples/pages, as a browser sees them."""

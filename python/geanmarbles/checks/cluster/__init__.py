@@ -1,0 +1,1 @@
+"""Several nodes over real etcd, whatever ends, stops or forgets."""

@@ -1,0 +1,211 @@
+"""Runs sites on several machines, with real members of etcd and nodes on loopback, and ends, stops and cuts them.
+
+    tests/cluster/run [--rounds N] [--seed N] [--part NAME] [--verbose] [--node NODE] [PROGRAM]
+    tests/cluster/run --self-test
+
+PROGRAM is crates/site/out/site of this repository if it is left out, and NODE cluster/node. Three members of etcd and
+three nodes are started for each check, or for a few rounds. The parts, three at a time, or one of them with --part:
+
+- steady: what a node takes and refuses, keys that are given again, what reads promise, and starts;
+- faults: N rounds, 12 if N is left out, in which SIGKILL ends, or SIGSTOP stops for some time, members, nodes and their
+  programs at random moments under load;
+- networks: members and nodes in network namespaces of their own, between which the network is cut, one way or both, and
+  healed; that takes root, or user namespaces, and is otherwise skipped;
+- stores: an etcd that is full, and one that forgot: it was restored from an older snapshot, or its files were put back;
+- clocks: nodes whose clocks are years apart, jump, or say any time at all;
+- programs: programs that refuse an edit for their memory or their database, that end, that are another one, and that
+  are at their last line;
+- secured: an etcd that asks for certificates, a user and a password (skipped without `openssl`);
+- snapshots: histories that are replaced by snapshots, nodes that start from one, or were away for too long, and makers
+  of snapshots that are killed.
+
+In each round several clients edit and read at all nodes. Afterwards, all being up again, every edit that was
+acknowledged has to be in the history, once, in an order that fits when it was sent and acknowledged; replies and pages,
+each at its revision, have to be those of a single program that is given the history; reads have to be as new as
+promised; and all nodes have to end with equal pages. history.py is the check, and --self-test its own test, which needs
+neither program nor etcd.
+
+The seed of random rounds is printed, and is another one each time if --seed is left out; the moments at which things
+happen vary all the same. Without etcd nothing is run, which is said. Each process that is started is ended at the end.
+
+The last line is 'N passed, M failed', over the checks and rounds, and the exit status is 0 if none failed.
+"""
+
+import argparse
+import http.client
+import os
+import shutil
+import signal
+import subprocess
+import sys
+import time
+from collections.abc import Callable
+from concurrent.futures import Future, ThreadPoolExecutor, as_completed
+from functools import partial
+from random import SystemRandom
+from typing import Any
+
+from geanmarbles.checks.cluster import (
+    clocks,
+    faults,
+    networks,
+    nodes,
+    programs_that_end,
+    secured,
+    self_test,
+    snapshots,
+    steady,
+    stores,
+)
+from geanmarbles.checks.cluster.clients import NoAnswer
+from geanmarbles.checks.cluster.etcd import Unanswered
+from geanmarbles.checks.cluster.judged import Cases, Counted, Skipped, counted
+from geanmarbles.checks.programs import missing, parser_of
+from geanmarbles.client.replies import Wrong
+from geanmarbles.paths import command
+
+# The parts, those that take longest first.
+PARTS = {
+    "snapshots": snapshots,
+    "stores": stores,
+    "networks": networks,
+    "faults": faults,
+    "programs": programs_that_end,
+    "steady": steady,
+    "clocks": clocks,
+    "secured": secured,
+}
+# How many parts run at once, and how long one may take.
+TOGETHER, SECONDS = 3, 3600
+FAULTS = (Wrong, OSError, ValueError, LookupError, subprocess.SubprocessError, http.client.HTTPException)
+
+
+class Counts:
+    """How many checks passed and failed."""
+
+    def __init__(self, is_told: bool = False) -> None:
+        self.passed = self.failed = 0
+        self.is_told = is_told
+
+    def judge(self, name: str | None, judged: Callable[[], object]) -> None:
+        try:
+            found = judged()
+            passed, failed = found if isinstance(found, Counted) else (1, 0)
+            self.passed, self.failed = self.passed + passed, self.failed + failed
+        except Skipped as why:
+            print(f"skipped: {name}: {why}", flush=True)
+        except (*FAULTS, NoAnswer, Unanswered) as fault:
+            print(f"FAILED: {name}: {fault if isinstance(fault, Wrong) else repr(fault)}", flush=True)
+            self.failed += 1
+
+    def judge_all(self, title: str, cases: Cases) -> None:
+        before, begin = self.passed + self.failed, time.monotonic()
+        try:
+            for name, judged in cases:
+                moment = time.monotonic()
+                self.judge(name, judged)
+                if self.is_told:
+                    print(f"  {name}: {time.monotonic() - moment:.1f} s", flush=True)
+        except (*FAULTS, NoAnswer, Unanswered) as fault:
+            print(f"FAILED: {title}: {fault!r}", flush=True)
+            self.failed += 1
+        took = time.monotonic() - begin
+        print(f"{title}: {self.passed + self.failed - before} checks in {took:.0f} s", flush=True)
+
+
+def absolute(path: str) -> str:
+    return os.path.abspath(path)
+
+
+def read_arguments() -> argparse.Namespace:
+    parser = parser_of(__doc__)
+    parser.add_argument("--rounds", metavar="N", type=int, default=12, help="how many rounds of faults")
+    parser.add_argument("--seed", metavar="N", type=int, help="the seed of random rounds")
+    parser.add_argument("--part", metavar="NAME", choices=PARTS, help=f"one part alone: {', '.join(PARTS)}")
+    parser.add_argument("--node", metavar="NODE", type=absolute, default=nodes.NODE, help="another node")
+    parser.add_argument("--self-test", action="store_true", help="see that the check of histories notices faults")
+    parser.add_argument("--verbose", action="store_true", help="tell how long each check takes")
+    # The rest of a part that starts this script anew, in namespaces of its own.
+    parser.add_argument("--inside", action="store_true", help=argparse.SUPPRESS)
+    arguments = parser.parse_args()
+    if arguments.seed is None:
+        arguments.seed = SystemRandom().randrange(1_000_000)
+    return arguments
+
+
+def lacking(arguments: argparse.Namespace) -> str | None:
+    """What isn't there of what all parts need."""
+    if missing(arguments.program):
+        return missing(arguments.program)
+    return None if os.access(arguments.node, os.X_OK) else f"there is no node at {arguments.node}"
+
+
+class Parts:
+    """This script, run once for each part, some parts at a time: most of what they do is wait."""
+
+    def __init__(self, arguments: argparse.Namespace) -> None:
+        self.words = ["--rounds", arguments.rounds, "--seed", arguments.seed, "--node", arguments.node]
+        self.words += ["--verbose"] * arguments.verbose + [arguments.program]
+        self.children: list[subprocess.Popen[str]] = []
+
+    def run(self, name: str) -> tuple[str, int]:
+        """What the script says of a part, and its status."""
+        words = map(str, [*command("tests/cluster/run"), "--part", name, *self.words])
+        child = subprocess.Popen(list(words), stdout=subprocess.PIPE, stderr=subprocess.STDOUT, text=True)
+        self.children.append(child)
+        return child.communicate(timeout=SECONDS)[0], child.returncode
+
+    def judge(self, counts: Counts) -> None:
+        pool = ThreadPoolExecutor(TOGETHER)
+        try:
+            for done in as_completed([pool.submit(self.run, name) for name in PARTS]):
+                counts.judge("a part", partial(shown_of, done))
+        finally:
+            pool.shutdown(wait=False, cancel_futures=True)
+            for child in self.children:
+                child.terminate()
+            for child in self.children:
+                child.wait()
+
+
+def shown_of(done: Future[tuple[str, int]]) -> Any:
+    return shown(*done.result())
+
+
+def shown(output: str, status: int) -> Any:
+    """Shows what a part has said, and returns what it counts."""
+    try:
+        lines, found = counted(output, status)
+    except Wrong:
+        print(output, flush=True)
+        raise
+    print("\n".join(lines), flush=True)
+    return found
+
+
+def ended(*_: object) -> None:
+    """Has all blocks end, and what they have started."""
+    sys.exit("tests/cluster/run: ended by a signal")
+
+
+def main() -> int:
+    arguments = read_arguments()
+    counts = Counts(arguments.verbose)
+    signal.signal(signal.SIGTERM, ended)
+    signal.signal(signal.SIGHUP, ended)
+    if arguments.self_test:
+        counts.judge_all("self-test", self_test.cases())
+    elif lacking(arguments):
+        print(f"FAILED: {lacking(arguments)}\n0 passed, 1 failed")
+        return 1
+    elif not shutil.which("etcd") or not shutil.which("etcdctl"):
+        print("tests/cluster/run: there is no etcd here (Debian: etcd-server, etcd-client), so nothing is run")
+    else:
+        nodes.NODE = arguments.node
+        print(f"seed {arguments.seed}", flush=True)
+        if arguments.part:
+            counts.judge_all(arguments.part, PARTS[arguments.part].cases(arguments))
+        else:
+            Parts(arguments).judge(counts)
+    print(f"{counts.passed} passed, {counts.failed} failed")
+    return 1 if counts.failed else 0

@@ -1,0 +1,1 @@
+"""A site in a file, whatever ends the program."""

@@ -1,0 +1,116 @@
+"""The two files of a site that lasts, read and doctored by SQLite itself, always from a copy of both."""
+
+import contextlib
+import shutil
+import sqlite3
+import tempfile
+from collections.abc import Iterable, Iterator, Sequence
+from pathlib import Path
+
+from geanmarbles.client.replies import Wrong, shown
+
+# A statement of SQL, with its values.
+Statement = tuple[str, tuple[object, ...]]
+TABLE = "CREATE TABLE command (number INTEGER PRIMARY KEY, line TEXT NOT NULL) STRICT"
+LINES = "SELECT line FROM command ORDER BY number"
+
+
+def log_of(file: Path) -> Path:
+    """The file beside the database into which SQLite writes first."""
+    return Path(f"{file}-wal")
+
+
+def copied(file: Path, folder: str | Path, name: str = "copy.db") -> Path:
+    """A copy of both files in a folder."""
+    copy = Path(folder, name)
+    shutil.copyfile(file, copy)
+    if log_of(file).exists():
+        shutil.copyfile(log_of(file), log_of(copy))
+    return copy
+
+
+@contextlib.contextmanager
+def opened(file: Path) -> Iterator[sqlite3.Connection]:
+    """A connection of SQLite's to a file, which is closed after the block."""
+    connection = sqlite3.connect(file, isolation_level=None)
+    try:
+        connection.text_factory = bytes
+        yield connection
+    finally:
+        connection.close()
+
+
+@contextlib.contextmanager
+def looked_at(file: Path) -> Iterator[sqlite3.Connection]:
+    """A connection to a copy of both files: the program has them locked, and SQLite would move the log's lines."""
+    with tempfile.TemporaryDirectory() as folder, opened(copied(file, folder)) as connection:
+        yield connection
+
+
+def lines_in(connection: sqlite3.Connection) -> list[bytes]:
+    return [line for (line,) in connection.execute(LINES)]
+
+
+def plain(text: str) -> str:
+    """A statement's text without what SQLite keeps of its spacing."""
+    return "".join(text.split()).upper()
+
+
+def history(file: Path) -> list[bytes]:
+    """All lines of the history, as SQLite reads them; the file has to be sound, and to hold that table alone."""
+    try:
+        with looked_at(file) as connection:
+            sound = connection.execute("PRAGMA integrity_check").fetchall()
+            mode = connection.execute("PRAGMA journal_mode").fetchall()
+            schema = [text.decode() for (text,) in connection.execute("SELECT sql FROM sqlite_master")]
+            numbers = [number for (number,) in connection.execute("SELECT number FROM command ORDER BY number")]
+            lines = lines_in(connection)
+    except sqlite3.Error as fault:
+        raise Wrong(f"SQLite says of {file}: {fault}") from None
+    if sound != [(b"ok",)] or mode != [(b"wal",)]:
+        raise Wrong(f"SQLite's check says {sound}, and the journal mode is {mode}")
+    if [plain(text) for text in schema] != [plain(TABLE)]:
+        raise Wrong(f"the schema is {schema}")
+    if numbers != list(range(1, len(numbers) + 1)):
+        raise Wrong(f"the numbers of {len(numbers)} lines aren't 1 and on: {numbers[:10]} ..")
+    return lines
+
+
+def found_by_sqlite(file: Path) -> list[bytes]:
+    """The lines that SQLite finds, or none if it finds no table or refuses the file."""
+    try:
+        with looked_at(file) as connection:
+            return lines_in(connection)
+    except sqlite3.Error:
+        return []
+
+
+def doctored(file: Path, statements: Iterable[Statement], folder: str | Path) -> Path:
+    """A copy of both files after some statements of SQL, all in the database file."""
+    copy = copied(file, folder, "doctored.db")
+    with opened(copy) as connection:
+        for statement, values in statements:
+            connection.execute(statement, values)
+        connection.execute("PRAGMA wal_checkpoint(TRUNCATE)")
+    return copy
+
+
+def check_equal(found: Sequence[bytes], wanted: Sequence[bytes]) -> None:
+    """The history has exactly these lines."""
+    for place, (line, other) in enumerate(zip(found, wanted), 1):
+        if line != other:
+            raise Wrong(f"line {place} of the history is {shown(line)}, wanted {shown(other)}")
+    if len(found) != len(wanted):
+        raise Wrong(f"the history has {len(found)} lines, wanted {len(wanted)}")
+
+
+def check_after_a_crash(
+    found: Sequence[bytes], before: Sequence[bytes], sent: Sequence[bytes], acknowledged: int
+) -> None:
+    """The history has what it had before, and then a front of the edits that were sent, with all that were
+    acknowledged."""
+    check_equal(found[: len(before)], before)
+    more = found[len(before) :]
+    if len(more) < acknowledged:
+        raise Wrong(f"{acknowledged} edits were acknowledged, and {len(more)} are in the history")
+    check_equal(more, sent[: len(more)])

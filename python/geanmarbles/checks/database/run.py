@@ -1,0 +1,112 @@
+"""Runs the program with --database, ends it in every way, and reads what is left by SQLite itself.
+
+    tests/database/run [--rounds N] [--part NAME] [PROGRAM]
+    tests/database/run --self-test [PROGRAM]
+
+PROGRAM is crates/site/out/site of this repository if it is left out. SQLite is that of Python's own module; it always
+reads a copy of FILE and FILE-wal. The parts, in this order, or one of them with --part:
+
+- keeping: edits are there after the end and a new start, the pages are those of a program in memory that is given the
+  same lines, and the rows are exactly the program's first line and the edits that were done, byte for byte; random
+  lists of tests/fuzz with a new start after each tenth line have the replies that they have without;
+- refused: starts that are refused by name, with the database file as it was: a second program, files that can't be
+  opened, that are no database or another one, another program's, and histories with a line that is refused;
+- exports: what --export prints rebuilds the site: pages, drafts, options, templates, the next ID; exported again it is
+  the same; --compact puts it in the place of the history;
+- readers: 200 edits in one write, and standard output closed, full, without a reader or never read: what the file then
+  holds is what docs/FAILURES.md says;
+- commits: each write and each sync of the files refused once, in a run of its own: the next start finds the edits that
+  were acknowledged, and of the commit that failed all edits or none;
+- disks: a disk that fills up, in a mount namespace of its own, which needs root or user namespaces and is otherwise
+  skipped; and logs that are cut, overwritten or changed by a bit, of which a start finds a front of the history with
+  all that SQLite finds;
+- readme: the README's own example, with its `kill -9`;
+- kills: N rounds, 500 if N is left out, made within two minutes: SIGKILL at a random moment of serving a client that
+  waits for its replies, or one that sends chunks, of a start, or of a --compact. Each time all edits that were
+  acknowledged are there, in order, and nothing that wasn't sent; and the next start gives the pages of those lines. In
+  some rounds both files are copied while the program is stopped, and the copy is judged so.
+
+A kill doesn't test the disk: the kernel keeps what was written. With --self-test the checks are run over files that
+were doctored, with edits lost, doubled, in another order or changed, and must notice it.
+
+The last line is 'N passed, M failed', over the checks and rounds, and the exit status is 0 if none failed.
+"""
+
+import argparse
+import subprocess
+from collections.abc import Callable
+from types import ModuleType
+
+from geanmarbles.checks.database import commits, disks, exports, keeping, kills, readers, readme, refused, self_test
+from geanmarbles.checks.database.clients import Cases, Skipped
+from geanmarbles.checks.programs import missing, parser_of
+from geanmarbles.client.replies import Wrong
+
+# (a module has its checks by `cases`)
+PARTS: dict[str, ModuleType] = {
+    "keeping": keeping,
+    "refused": refused,
+    "exports": exports,
+    "readers": readers,
+    "commits": commits,
+    "disks": disks,
+    "readme": readme,
+    "kills": kills,
+}
+
+
+class Counts:
+    """How many checks passed and failed, and how many couldn't be made."""
+
+    def __init__(self) -> None:
+        self.passed = self.failed = self.skipped = 0
+
+    def judge(self, name: str | None, judged: Callable[[], object]) -> None:
+        try:
+            judged()
+            self.passed += 1
+        except Skipped as why:
+            print(f"skipped: {name}: {why}")
+            self.skipped += 1
+        except (Wrong, OSError, ValueError, LookupError, subprocess.SubprocessError) as fault:
+            print(f"FAILED: {name}: {fault if isinstance(fault, Wrong) else repr(fault)}", flush=True)
+            self.failed += 1
+
+    def judge_all(self, title: str, cases: Cases) -> None:
+        before = self.passed + self.failed
+        try:
+            for name, judged in cases:
+                self.judge(name, judged)
+        except (Wrong, OSError, subprocess.SubprocessError) as fault:
+            print(f"FAILED: {title}: {fault}")
+            self.failed += 1
+        print(f"{title}: {self.passed + self.failed - before} checks", flush=True)
+
+
+def cases_of(name: str, arguments: argparse.Namespace) -> Cases:
+    if name == "kills":
+        return kills.Rounds(arguments.program, arguments.rounds).cases()
+    found: Cases = PARTS[name].cases(arguments.program)
+    return found
+
+
+def read_arguments() -> argparse.Namespace:
+    parser = parser_of(__doc__)
+    parser.add_argument("--rounds", metavar="N", type=int, default=500, help="how often the program is killed")
+    parser.add_argument("--part", metavar="NAME", choices=PARTS, help=f"one part alone: {', '.join(PARTS)}")
+    parser.add_argument("--self-test", action="store_true", help="see that the checks notice files that were doctored")
+    return parser.parse_args()
+
+
+def main() -> int:
+    arguments, counts = read_arguments(), Counts()
+    if missing(arguments.program):
+        print(f"FAILED: {missing(arguments.program)}\n0 passed, 1 failed")
+        return 1
+    if arguments.self_test:
+        counts.judge_all("self-test", self_test.cases(arguments.program))
+    else:
+        for name in [arguments.part] if arguments.part else PARTS:
+            counts.judge_all(name, cases_of(name, arguments))
+    print(f"{counts.passed} passed, {counts.failed} failed")
+    return 1 if counts.failed else 0

@@ -1,0 +1,1 @@
+"""Sites that came from WordPress, their archives and their uploads."""

@@ -1,0 +1,764 @@
+"""Checks of `from_wordpress --as-shown` and `publish` against what WordPress itself made of the same sites.
+
+It is a module, and runs nothing by itself. whole/NAME.xml is the export of a site that WordPress's own code has made,
+and whole/NAME.json what WordPress showed of it: the lines of text of each post and page, and each public address.
+`record` makes them anew.
+"""
+
+import contextlib
+import http.client
+import json
+import os
+import random
+import re
+import shutil
+import socket
+import subprocess
+import tempfile
+import time
+import zipfile
+from collections.abc import Callable, Iterator
+from difflib import SequenceMatcher
+from pathlib import Path
+from typing import Any, NamedTuple
+from urllib.parse import quote, unquote, urlsplit
+
+from geanmarbles.archive.check import file_of
+from geanmarbles.archive.html import harmless, shortened
+from geanmarbles.archive.search import file_number, words_in
+from geanmarbles.checks.from_wordpress.access_checks import faults_of, faults_of_colours
+from geanmarbles.checks.from_wordpress.browser_checks import browser, check_in_browser
+from geanmarbles.checks.from_wordpress.page_lines import lines_of, outline_of
+from geanmarbles.checks.from_wordpress.text_cases import by_wordpress, cases
+from geanmarbles.client.program import pipe
+from geanmarbles.client.replies import Wrong
+from geanmarbles.paths import EXAMPLES, TESTS
+from geanmarbles.wordpress.addresses import path_or_none, slug_of
+from geanmarbles.wordpress.items import unserialized
+from geanmarbles.wordpress.texts import QUOTES, paragraphs, texturize, with_characters
+from geanmarbles.wordpress.words import formatted
+
+HERE = TESTS / "from_wordpress"
+SECONDS = 120
+SITES = ("pottery", "fournil")
+WHOLE = HERE / "whole"
+TEXTS = WHOLE / "texts.json"
+# What nobody may see, in the exports: texts of drafts and of private and protected posts, addresses of commenters.
+HIDDEN = ("HIDDENWORD", "reader@mail.example", "192.0.2.7")
+# Lines that differ, by what is wanted and what comes instead: docs/FROM-WORDPRESS.md names each of these departures.
+DEPARTURES = {
+    ("Your name", "The form that was here is closed."),
+    ("Your name", "Le formulaire qui se trouvait ici est fermé."),
+}
+
+
+def must(holds: object, what: str) -> None:
+    if not holds:
+        raise Wrong(what)
+
+
+class Recorded(NamedTuple):
+    """What WordPress showed of a site."""
+
+    export: Path
+    posts: list[dict[str, Any]]
+    # The status of each address, and where it leads if it is moved.
+    addresses: list[tuple[str, int, str]]
+
+
+def recorded(name: str) -> Recorded:
+    said = json.loads((WHOLE / f"{name}.json").read_text(encoding="utf-8"))
+    return Recorded(WHOLE / f"{name}.xml", said["posts"], [(it[0], it[1], "".join(it[2:])) for it in said["addresses"]])
+
+
+def shown_lines(title: str, parts: list[str]) -> list[str]:
+    """The lines of a post as a page has them: its title, and its parts one after the other."""
+    return lines_of(f"<h1>{title}</h1>" + "".join(f"<div>{it}</div>" for it in parts))
+
+
+def imported(export: Path, *arguments: str) -> tuple[list[dict[str, Any]], str]:
+    """The commands of an export, and the report: as an archive, if no argument says otherwise."""
+    words = [EXAMPLES / "from_wordpress", *(arguments or ["--as-shown"]), export]
+    ran = subprocess.run(words, capture_output=True, timeout=SECONDS, check=False)
+    must(ran.returncode == 0, f"from_wordpress ended with status {ran.returncode}: {ran.stderr.decode()[-400:]}")
+    return [json.loads(it) for it in ran.stdout.splitlines()], ran.stderr.decode()
+
+
+def check_texts(wanted: list[tuple[str, str, str]]) -> None:
+    """Typography is WordPress's to the byte, and paragraphs begin where WordPress begins them."""
+    for function, text, made in wanted:
+        if function == "wptexturize":
+            came = texturize(text)
+            must(came == made, f"{text!r} becomes {came!r}, wanted {made!r}")
+        else:
+            one, other = outline_of(made), outline_of(paragraphs(text))
+            must(one == other, f"{text!r} becomes {other}, wanted {one}")
+
+
+def check_recorded_texts() -> None:
+    """Texts that were recorded become what WordPress's own functions made of them."""
+    wanted = json.loads(TEXTS.read_text(encoding="utf-8"))
+    must(len(wanted) > 300, f"only {len(wanted)} texts are recorded")
+    check_texts(wanted)
+
+
+def check_random_texts(wordpress: Path, count: int) -> None:
+    """Random texts become what WordPress's own functions make of them now."""
+    asked = list(cases(random.Random(), count))
+    check_texts([(*it, made) for it, made in zip(asked, by_wordpress(wordpress, asked))])
+
+
+def check_quotes() -> None:
+    """Other languages have their own marks, and characters come in place of entities."""
+    shown = {name: with_characters(texturize("\"a\" 'b' l'eau", quotes)) for name, quotes in QUOTES.items()}
+    must(shown["de"] == "„a“ ‚b‘ l’eau" and shown["fr"] == "«&nbsp;a&nbsp;» ‘b’ l’eau", f"the quotes are {shown}")
+
+
+def check_shown(site: Recorded) -> None:
+    """Each post and page has the lines of text that WordPress shows, but for the departures."""
+    commands, _ = imported(site.export)
+    posts = {it["id"]: it for command in commands for it in command["site"]["posts"]}
+    lines = same = whole = 0
+    for post in site.posts:
+        entry = posts[post["id"]]
+        came = shown_lines(entry["title"], [entry["content"]])
+        matched = SequenceMatcher(None, post["lines"], came, autojunk=False)
+        same += sum(it.size for it in matched.get_matching_blocks())
+        lines, whole = lines + len(post["lines"]), whole + (came == post["lines"])
+        for kind, a, b, c, d in matched.get_opcodes():
+            pairs = set(zip(post["lines"][a:b], came[c:d]))
+            is_known = kind == "replace" and b - a == d - c and pairs <= DEPARTURES
+            must(kind == "equal" or is_known, f"{post['path']}: wanted {post['lines'][a:b]}, came {came[c:d]}")
+        images = len(re.findall("<img ", entry["content"])) - entry["content"].startswith(
+            '<figure class="post-thumbnail">'
+        )
+        must(images == post["images"], f"{post['path']} has {images} images, wanted {post['images']}")
+    must(same >= 0.99 * lines, f"{same} of {lines} lines are as in WordPress")
+    must(whole >= 0.95 * len(site.posts), f"{whole} of {len(site.posts)} posts are whole as in WordPress")
+
+
+def check_import(site: Recorded) -> None:
+    """No draft's text is lost, nothing is made of private posts, and links within the site are the program's own."""
+    with tempfile.TemporaryDirectory() as folder:
+        listed = Path(folder, "files.txt")
+        commands, report = imported(site.export, "--as-shown", "--files", str(listed))
+        files = listed.read_text(encoding="utf-8").splitlines()
+    text = json.dumps(commands, ensure_ascii=False)
+    public = json.dumps([it for command in commands for it in command["site"]["posts"] if it["status"] == "publish"])
+    must(not any(it in public for it in HIDDEN), "what nobody may see is in a published post")
+    must('"status": "draft"' in text, "there is no draft")
+    must(f"{len(files)} files of the old host" in report, f"the report doesn't count the files: {report[-500:]}")
+    must(files and all(it.startswith("/wp-content/uploads/") for it in files), f"the files are {files}")
+    host = urlsplit(json.loads((WHOLE / f"{site.export.stem}.json").read_text(encoding="utf-8"))["address"]).netloc
+    left = re.findall(rf'(?:href|src)=\\"https?://(?:www\.)?{re.escape(host.removeprefix("www."))}[^"]*', public)
+    must(not left, f"links to the old host are left: {left[:3]}")
+
+
+class Archive:
+    """A site in a file, and its archive, in a folder that is gone after the `with` block."""
+
+    def __init__(self, program: Path, site: Recorded, *more: str) -> None:
+        self.program, self.site, self.more = program, site, more
+
+    def __enter__(self) -> "Archive":
+        self.room = tempfile.TemporaryDirectory()
+        self.database, self.folder = Path(self.room.name, "site.db"), Path(self.room.name, "archive")
+        self.root = self.folder / "public"
+        commands, _ = imported(self.site.export)
+        self.edit(*commands)
+        return self
+
+    def __exit__(self, *_: object) -> None:
+        self.room.cleanup()
+
+    def edit(self, *commands: dict[str, Any]) -> None:
+        given = "".join(json.dumps(it) + "\n" for it in commands).encode()
+        words: list[str | Path] = [self.program, "--database", self.database]
+        ran = subprocess.run(words, input=given, capture_output=True, timeout=SECONDS, check=False)
+        must(
+            ran.returncode == 0 and b"refused" not in ran.stdout,
+            f"the program: {ran.stdout[-200:]!r} {ran.stderr[-200:]!r}",
+        )
+
+    def publish(self, *arguments: str, status: int = 0) -> str:
+        """Writes the archive, and returns what was said."""
+        words: list[str | Path] = [
+            EXAMPLES / "publish",
+            "--program",
+            self.program,
+            *self.more,
+            *arguments,
+            self.site.export,
+            self.database,
+            self.folder,
+        ]
+        ran = subprocess.run(words, capture_output=True, text=True, timeout=SECONDS, check=False)
+        must(ran.returncode == status, f"publish ended with status {ran.returncode}: {ran.stderr[-600:]}")
+        return ran.stderr
+
+    def publish_and_check(self) -> None:
+        """Writes the archive; each of its links must lead somewhere, but to uploads, which aren't here."""
+        said = self.publish("--check", status=1)
+        dead = re.findall(r"^publish:   (\S+), from", said, re.M)
+        must(all("/wp-content/uploads/" in it for it in dead), f"links lead nowhere: {dead}")
+
+    def files(self) -> dict[str, bytes]:
+        return {
+            it.relative_to(self.folder).as_posix(): it.read_bytes() for it in self.folder.rglob("*") if it.is_file()
+        }
+
+    def page(self, path: str) -> str:
+        file = file_of(self.root, path)
+        if file is None:
+            raise Wrong(f"there is no page at {path}")
+        return file.read_text(encoding="utf-8")
+
+
+def moved_by(root: Path) -> dict[tuple[str, str], str]:
+    """The moved addresses, by path and query, as Netlify's form has them."""
+    made = {}
+    for line in (root / "_redirects").read_text(encoding="utf-8").splitlines():
+        words = line.split()
+        made[unquote(words[0]), words[1] if len(words) == 4 else ""] = words[-2]
+    return made
+
+
+def check_addresses(program: Path, site: Recorded) -> None:
+    """Each public address of the old site is a page or is moved; feeds of single posts lead to these."""
+    with Archive(program, site) as archive:
+        archive.publish()
+        moved = moved_by(archive.root)
+        for address, *_ in site.addresses:
+            parts = urlsplit(address)
+            to = moved.get((unquote(parts.path), parts.query), "" if parts.query else parts.path)
+            is_there: object = to and ("/wp-content/uploads/" in to or file_of(archive.root, urlsplit(to).path))
+            if not is_there and parts.path.endswith("/feed/"):
+                post = parts.path.removesuffix("feed/")
+                is_there = file_of(archive.root, post) or (unquote(post), "") in moved
+            must(is_there, f"{address} leads to {to or 'nothing'}, which isn't there")
+
+
+# Pages that are at fault, and words of what must be said of each; `{}` is what a good page has in its middle.
+GOOD_PAGE = (
+    '<html lang="en"><head><title>T</title></head><body><header><nav aria-label="A"></nav></header>'
+    '<main>{}</main><footer><nav aria-label="B"></nav></footer></body></html>'
+)
+FAULTY = [
+    ("<h1>a</h1><h2>b</h2>", ""),
+    ("<article><h1>a</h1><h4>the author's</h4></article><h2>b</h2>", ""),
+    ("<h1>a</h1><h3>b</h3>", "comes after h1"),
+    ("<h2>b</h2><h1>a</h1>", "comes after no heading"),
+    ("<h1>a</h1><h1>b</h1>", "2 headings of the first level"),
+    ("<h1></h1>", "without words"),
+    ("<h1>a</h1><img src=x>", "without alt"),
+    ("<h1>a</h1><a href=x><img alt=''></a>", "a a without a name"),
+    ("<h1>a</h1><a href=x><img alt='b'></a><label>c <input></label><label for=d>e</label><input id=d>", ""),
+    ("<h1>a</h1><input>", "without a label"),
+    ("<h1>a</h1><button> </button>", "a button without a name"),
+    ("<h1>a</h1><nav aria-label=A></nav>", "navigations named"),
+    ("<h1>a</h1><main></main>", "2 main"),
+    ("<h1>a</h1><p id=x></p><p id=x></p>", "of two elements"),
+]
+# Styles that are at fault, and words of what must be said of each.
+STYLE = "body {{ color: #222; background: #fff; }} a {{ color: #04b; }} {}"
+FAINT = [
+    ("", ""),
+    ("p { color: #777; }", "contrast of 4.48"),
+    ("p { color: #767676; }", ""),
+    (".x { background: #333; }", "a link in .x"),
+    (".x { background: #111; color: #fff; } .x a { color: inherit; } .x img { opacity: 0.5; }", ".x has a contrast"),
+]
+
+
+def check_access_itself() -> None:
+    """Pages and styles that are at fault are noticed, and good ones aren't."""
+    for middle, wanted in FAULTY:
+        said = "; ".join(faults_of(GOOD_PAGE.format(middle), "en"))
+        must(wanted in said and bool(said) == bool(wanted), f"{middle!r}: {said!r}")
+    must("its language" in "; ".join(faults_of(GOOD_PAGE.format("<h1>a</h1>"), "fr")), "a language isn't noticed")
+    for more, wanted in FAINT:
+        said = "; ".join(faults_of_colours(f"<style>{STYLE.format(more)}</style>"))
+        must(wanted in said and bool(said) == bool(wanted), f"{more!r}: {said!r}")
+
+
+def language_of(site: Recorded) -> str:
+    return str(re.findall("<language>([^<]*)</language>", site.export.read_text(encoding="utf-8"))[0])
+
+
+def check_access(program: Path, site: Recorded) -> None:
+    """Whoever hears an archive's pages, or sees little, finds their parts: headings, labels, texts for pictures."""
+    language = language_of(site)
+    with Archive(program, site) as archive:
+        archive.publish()
+        pages = {it: it.read_text(encoding="utf-8") for it in archive.root.rglob("*.html")}
+        must(len(pages) > 140, f"there are {len(pages)} pages")
+        for file, page in pages.items():
+            faults = faults_of(page, language)
+            must(not faults, f"{file.relative_to(archive.root)}: {'; '.join(faults)}")
+        faults = faults_of_colours(archive.page("/404.html"))
+        must(not faults, "; ".join(faults))
+
+
+def check_browser(program: Path, site: Recorded) -> None:
+    """In a browser no page is too wide for a phone or a desk, and the search finds what has the words."""
+    with Archive(program, site) as archive:
+        archive.publish()
+        lists = ["/404.html", "/search/", "/page/2/", "/news/", "/news/page/2/", "/2016/", "/author/hannah/"]
+        lists += [f"/{it}/" for kind in ("category", "tag") for it in listed_below(archive.root, kind)]
+        paths = [it["path"] for it in site.posts] + [it for it in lists if file_of(archive.root, it)]
+        words = ("glaz", "FIRING glazes", "recette", "ÉTÉ", "ete", "zzz")
+        asked = {f"/search/?s={quote(it)}": found_by(archive, it) for it in words}
+        must(any(asked.values()) and not asked["/search/?s=zzz"], f"the index finds {asked}")
+        check_in_browser(archive.root, list(dict.fromkeys(paths)), asked)
+
+
+def listed_below(root: Path, kind: str) -> list[str]:
+    return [f"{kind}/{it.name}" for it in sorted((root / kind).iterdir()) if (it / "index.html").is_file()]
+
+
+def found_by(archive: Archive, text: str) -> set[int]:
+    """The posts that the index of the search has for some words, each of which begins a word of theirs."""
+    found = []
+    for word in words_in(text):
+        file = archive.root / "search" / f"words-{file_number(word)}.json"
+        known = json.loads(file.read_text(encoding="utf-8")) if file.is_file() else {}
+        found.append({number for it, numbers in known.items() if it.startswith(word) for number in numbers})
+    return set.intersection(*found)
+
+
+def check_search(program: Path, site: Recorded) -> None:
+    """The search lists each post and page, and its index has the words of each; a page that has its name keeps it."""
+    with Archive(program, site) as archive:
+        archive.publish_and_check()
+        page = archive.page("/search/")
+        for post in site.posts:
+            number, words = post["id"], words_in(" ".join(post["lines"]))
+            entry = re.search(rf'<li id="post-{number}"><a href="([^"]*)"', page)
+            if not post["lines"][1:] and entry is None:
+                continue
+            must(entry and unquote(entry[1]) == post["path"], f"the search has {entry and entry[0]} of {post['path']}")
+            lacking = [it for it in words if number not in found_by(archive, it)]
+            must(len(lacking) <= 2, f"of {post['path']} the search doesn't know {lacking}")
+        form = '<form role="search" class="search" action="/search/">'
+        must(all(form in archive.page(it["path"]) for it in site.posts), "a page has no form that leads to the search")
+        must(moved_by(archive.root)["/", "s=:s"] == "/search/?s=:s", "the old address of the search isn't sent on")
+        head = {"cmd": "put", "kind": "page", "date": "2024-02-03 04:05:06", "content": "x"}
+        archive.edit({**head, "title": "Search"})
+        archive.publish_and_check()
+        here = [it for it in ("/search/", "/search-archive/") if 'id="search-list"' in archive.page(it)]
+        must(here == ["/search-archive/"], f"the search is at {here}, and a page is at /search/")
+        archive.edit({**head, "title": "Search archive"})
+        must("there is no search" in archive.publish(), "it isn't said that there is no search")
+        must("<form" not in archive.page("/search/"), "a form leads to no search")
+
+
+def check_sticky(program: Path) -> None:
+    """Sticky posts come first on the first part of the list of all posts, with their dates, and keep their places."""
+    site, sticky = recorded("pottery"), "/2013/11/a-gallery-of-raku/"
+    with Archive(program, site) as archive:
+        archive.publish()
+        places = ("", "page/2/", "page/3/", "page/4/")
+        parts = [re.findall(r'<h2><a href="([^"]*)"', archive.page(f"/news/{it}")) for it in places]
+        must(parts[0][0] == sticky and len(parts[0]) == 11, f"the first part has {parts[0]}")
+        must(sum(it.count(sticky) for it in parts[1:]) == 1, f"the other parts have {parts[1:]}")
+        page = archive.page("/news/")
+        must('<time datetime="2013-11-15T10:15:00">November 15, 2013</time>' in page, "its date is another")
+        must("9999" not in page, "a date that was made up is shown")
+        lists = re.findall(r'<h2><a href="([^"]*)"', archive.page("/category/glazes-firing/"))
+        must(sticky not in lists[:1], "it comes first in another list too")
+
+
+def check_archive(program: Path, site: Recorded) -> None:
+    """Pages have what WordPress shows; nothing of hidden posts is anywhere; every link leads somewhere."""
+    with Archive(program, site) as archive:
+        archive.publish_and_check()
+        for name, data in archive.files().items():
+            # (the index of the search has small letters)
+            must(not any(it.lower().encode() in data.lower() for it in HIDDEN), f"{name} has what nobody may see")
+        for post in site.posts:
+            if not post["lines"][1:]:
+                continue
+            parts = post["parts"]
+            pages = [archive.page(post["path"] if it == 1 else f"{post['path']}{it}/") for it in range(1, parts + 1)]
+            came = [line for page in pages for line in lines_of(page)]
+            known = {one: other for one, other in DEPARTURES if other in came}
+            wanted = post["lines"][1:] if post["path"] == "/" else post["lines"]
+            lacking = [it for it in wanted if it not in came and known.get(it) not in came]
+            must(not lacking, f"{post['path']} lacks {lacking}")
+            must(
+                '<link rel="canonical" href="http' in pages[0] and "<html lang=" in pages[0],
+                f"{post['path']} lacks its head",
+            )
+
+
+def new_post(title: str) -> dict[str, Any]:
+    head = {"cmd": "put", "kind": "post", "status": "publish", "date": "2024-02-03 04:05:06"}
+    return {**head, "title": title, "content": "NEWWORD"}
+
+
+def check_again(program: Path, site: Recorded) -> None:
+    """A second run writes nothing; an edit writes its pages alone; what is deleted or becomes a draft is gone."""
+    with Archive(program, site) as archive:
+        archive.publish()
+        before = archive.files()
+        said = archive.publish()
+        must(" 0 files written" in said and " 0 removed" in said, f"a second run writes files: {said[-200:]}")
+        must(archive.files() == before, "a second run changes a file")
+        gone, hidden, edited = [it for it in site.posts if it["kind"] == "post"][3:6]
+        archive.edit(
+            {"cmd": "delete", "id": gone["id"]},
+            {"cmd": "edit", "id": hidden["id"], "status": "draft"},
+            {"cmd": "edit", "id": edited["id"], "title": "EDITEDWORD"},
+        )
+        archive.publish()
+        after = archive.files()
+        for post in (gone, hidden):
+            must(file_of(archive.root, post["path"]) is None, f"{post['path']} is still there")
+        must("EDITEDWORD" in archive.page(edited["path"]), "the edit isn't in its page")
+        same = sum(after.get(name) == it for name, it in before.items())
+        must(same > len(before) / 3, f"{same} of {len(before)} files are as before")
+
+
+def check_new_posts(program: Path, site: Recorded) -> None:
+    """Posts that were put since have pages of their own, and nothing of what had their IDs in WordPress."""
+    with Archive(program, site) as archive:
+        archive.edit(*(new_post(f"A new & <b>bold</b> post {it}") for it in range(8)))
+        archive.publish()
+        for name, data in archive.files().items():
+            is_clean = "hiddenword" not in name.lower() and not any(it.encode() in data for it in HIDDEN)
+            must(is_clean, f"{name} has what nobody may see")
+        for number in range(8):
+            names = [it for it in archive.files() if f"a-new-bold-post-{number}/index.html" in it]
+            must(len(names) == 1, f"the new post {number} has the files {names}")
+
+
+def check_menu() -> None:
+    """The links at the top are the menu, nested, without what isn't public, or if there is none the tree of pages."""
+    commands, _ = imported(WHOLE / "pottery.xml")
+    header = "".join(it for it in commands[0]["site"]["templates"]["header"] if isinstance(it, str))
+    wanted = (
+        '<li><a href="/">Start</a></li>',
+        '<li><a href="/?page_id=23">About us</a>\n<ul><li><a href="/?page_id=24">Tom</a></li></ul></li>',
+        '<li><a href="/category/glazes-firing/">Glazes &amp; Firing</a></li>',
+        '<li><a href="https://friends.example/?a=1&amp;b=2">Friends &lt;3</a></li>',
+        "Pots &amp; plates, “hand-made”",
+    )
+    must(all(it in header for it in wanted), f"the menu is {header[-900:]}")
+    options = commands[0]["site"]["options"]
+    must(options["page_on_front"] == "31" and options["page_for_posts"] == "30", f"the front is {options}")
+    commands, report = imported(WHOLE / "fournil.xml")
+    header = "".join(it for it in commands[0]["site"]["templates"]["header"] if isinstance(it, str))
+    titles = re.findall(r"<a href=\"/\?page_id=\d+\">([^<]*)</a>", header)
+    must(titles == ["Accès", "À propos", "Heures d’ouverture", "Mentions légales"], f"the pages are {titles}")
+    must("tree of pages" in report and "show_on_front" not in commands[0]["site"]["options"], report)
+
+
+def check_arguments() -> None:
+    """Forms become an address to write to; options that need --as-shown, and unknown texts, are refused."""
+    commands, _ = imported(
+        WHOLE / "pottery.xml", "--as-shown", "--contact", "a&b@mail.example", "--posts-page", "gallery"
+    )
+    text = json.dumps(commands)
+    must('<a href=\\"mailto:a&amp;b@mail.example\\">a&amp;b@mail.example</a>' in text, "no form became an address")
+    must(commands[0]["site"]["options"]["page_for_posts"] == "27", "the page of posts isn't the one that was named")
+    commands, report = imported(WHOLE / "pottery.xml", "--as-shown", "--plugin-tags", "show,Unknown_Thing")
+    must('[unknown_thing a=\\"1\\"]Text within[/unknown_thing]' in json.dumps(commands), "a plugin's tag is changed")
+    must("unknown_thing" not in report, "the report says that nobody has a plugin's tag")
+    with tempfile.TemporaryDirectory() as folder:
+        templates = Path(folder, "templates.json")
+        templates.write_text('{"index":[{"site":"no_such_text"}]}', encoding="utf-8")
+        unread = (["--plugin-tags", "x"], ["--as-shown", "--plugin-tags", "a, b"], ["--as-shown", "--plugin-tags", ""])
+        for words in (*unread, ["--contact", "x"], ["--files", "x"], ["--as-shown", "--templates", str(templates)]):
+            ran = subprocess.run([EXAMPLES / "from_wordpress", *words, WHOLE / "pottery.xml"], capture_output=True)
+            must((ran.returncode, ran.stdout) == (2, b""), f"{words} isn't refused: {ran.stderr[-200:]!r}")
+
+
+def check_other_templates(program: Path) -> None:
+    """An archive over templates without marks has headings, parts, dates, neighbours and comments too."""
+    site = recorded("fournil")
+    with Archive(program, site) as archive:
+        archive.database.unlink()
+        archive.database.with_name("site.db-wal").unlink()
+        commands, _ = imported(site.export, "--templates", str(EXAMPLES / "wordpress-templates.json"))
+        archive.edit(*commands)
+        archive.publish_and_check()
+        page = archive.page("/category/pains-brioches/page/2/")
+        for part in (
+            "<main>\n<h1>Catégorie\u00a0: Pains &amp; brioches</h1>",
+            '<span aria-current="page">2</span>',
+            "</time> par <a",
+        ):
+            must(part in page, f"a list lacks {part!r}")
+        page = archive.page("/pains-brioches/le-pain-gris/")
+        must('<section class="comments"' in page and 'rel="next"' in page, "a post lacks what follows it")
+
+
+def check_uploads(program: Path) -> None:
+    """Uploads come from a folder, a zip or a tar archive; what no web server should hand out is left."""
+    site = recorded("fournil")
+    for kind in ("folder", "zip", "gztar"):
+        with tempfile.TemporaryDirectory() as room:
+            source = Path(room, "wp-content", "uploads")
+            for name in ("pain-1.jpg", "pain-1-300x225.jpg", "pain-1-99x99.jpg", "other.jpg", "shell.php", ".env"):
+                (source / "2017" / "06").mkdir(parents=True, exist_ok=True)
+                (source / "2017" / "06" / name).write_text(name, encoding="utf-8")
+            given = source if kind == "folder" else shutil.make_archive(f"{room}/packed", kind, room, "wp-content")
+            with Archive(program, site, "--uploads", str(given)) as archive:
+                said = archive.publish()
+                names = sorted(it.name for it in (archive.root / "wp-content").rglob("*") if it.is_file())
+                must(names == ["pain-1-300x225.jpg", "pain-1-99x99.jpg", "pain-1.jpg"], f"{kind}: {names} are there")
+                must("uploads aren't there: " in said, f"{kind}: nothing is said of those that lack")
+                must(" 0 files written" in archive.publish(), f"{kind}: a second run copies again")
+
+
+def check_fetch() -> None:
+    """--fetch copies what posts and pages need from a folder, a zip or a tar archive, and says what isn't there."""
+    export = recorded("fournil").export
+    with tempfile.TemporaryDirectory() as room:
+        listed, source = Path(room, "files.txt"), Path(room, "wp-content", "uploads")
+        plain = imported(export, "--as-shown", "--files", str(listed))
+        needed = [unquote(it) for it in listed.read_text(encoding="utf-8").splitlines()]
+        lacking, there = needed[0], needed[1:]
+        for path in (*there, "/wp-content/uploads/2017/06/other.jpg", "/wp-content/uploads/.env"):
+            file = Path(room, path.lstrip("/"))
+            file.parent.mkdir(parents=True, exist_ok=True)
+            file.write_text(path, encoding="utf-8")
+        packed = [Path(shutil.make_archive(f"{room}/packed", kind, room, "wp-content")) for kind in ("zip", "gztar")]
+        for given in (source, *packed):
+            folder = Path(room, f"fetched{given.suffix}")
+            commands, report = imported(export, "--as-shown", "--fetch", str(given), str(folder))
+            came = {f"/{it.relative_to(folder).as_posix()}": it.read_text() for it in folder.rglob("*") if it.is_file()}
+            must(came == {it: it for it in there}, f"{given}: {sorted(came)} are there")
+            must(commands == plain[0], f"{given}: the commands are others")
+            must(f": {len(there)} copied, 0 there already\n" in report, f"{given}: {report[-600:]}")
+            must(f"1 needed file not found in {given}: {lacking}\n" in report, f"{given}: {report[-600:]}")
+            _, report = imported(export, "--as-shown", "--all", "--fetch", str(given), str(folder))
+            must(f": 0 copied, {len(there)} there already\n" in report, f"{given}, again: {report[-600:]}")
+            must(f"{given} doesn't have {lacking}, or " in report, f"{given}: --all doesn't name what lacks")
+
+
+def check_fetch_faults() -> None:
+    """What can't be read as uploads ends --fetch with a reason, and no commands."""
+    export = recorded("fournil").export
+    with tempfile.TemporaryDirectory() as room:
+        other, damaged = Path(room, "other.zip"), Path(room, "damaged.zip")
+        other.write_bytes(b"no archive")
+        with zipfile.ZipFile(damaged, "w") as file:
+            file.writestr("uploads/2015/01/pain-3.jpg", b"a picture")
+        damaged.write_bytes(damaged.read_bytes().replace(b"a picture", b"A PICTURE"))
+        given: list[list[str | Path]] = [
+            ["--as-shown", "--fetch", it, f"{room}/dir"] for it in (other, damaged, Path(room, "nothing"))
+        ]
+        given += [["--as-shown", "--fetch", room], ["--fetch", room, room]]
+        for words in given:
+            ran = subprocess.run([EXAMPLES / "from_wordpress", *words, export], capture_output=True, check=False)
+            must(ran.returncode == 2 and not ran.stdout, f"{words}: status {ran.returncode}, {ran.stderr[-300:]!r}")
+            must(b"\nfrom_wordpress: " in b"\n" + ran.stderr, f"{words}: {ran.stderr[-300:]!r}")
+            left = [it for it in Path(room, "dir").rglob("*") if it.is_file()]
+            must(not left, f"{words}: {left} are there")
+
+
+def check_faults(program: Path) -> None:
+    """A site that isn't there, is served, or isn't one ends with a reason."""
+    with Archive(program, recorded("fournil")) as archive:
+        with subprocess.Popen([program, "--database", archive.database], stdin=subprocess.PIPE) as server:
+            pipe(server.stdin).write(b"")
+            for _ in range(100):
+                if "in use" in (said := archive.publish(status=1)):
+                    break
+            must("in use" in said, f"a site that is served: {said}")
+            pipe(server.stdin).close()
+        archive.database.write_bytes(b"no site")
+        must("publish: " in archive.publish(status=1), "a file that is no site has no reason")
+        archive.database.unlink()
+        must("there is no file" in archive.publish(status=1), "a file that isn't there has no reason")
+
+
+# A configuration of nginx that includes that of an archive.
+NGINX = """daemon off;
+pid {folder}/nginx.pid;
+error_log {folder}/nginx.log;
+events {{}}
+http {{
+    types {{ text/html html; text/xml xml; }}
+    access_log off;
+    client_body_temp_path {folder}/body;
+    proxy_temp_path {folder}/proxy;
+    fastcgi_temp_path {folder}/fastcgi;
+    uwsgi_temp_path {folder}/uwsgi;
+    scgi_temp_path {folder}/scgi;
+    include {folder}/archive.conf;
+}}
+"""
+
+
+def free_port() -> int:
+    with socket.socket() as free:
+        free.bind(("127.0.0.1", 0))
+        return int(free.getsockname()[1])
+
+
+def asked(port: int, path: str) -> tuple[int, str, str]:
+    """The status, the kind and the target of what a server replies."""
+    connection = http.client.HTTPConnection("127.0.0.1", port, timeout=SECONDS)
+    connection.request("GET", quote(path, safe="/?=&%"))
+    reply = connection.getresponse()
+    reply.read()
+    found = reply.status, reply.getheader("Content-Type") or "", reply.getheader("Location") or ""
+    connection.close()
+    return found
+
+
+@contextlib.contextmanager
+def served(archive: Archive, folder: Path) -> Iterator[int]:
+    """An archive served by nginx with the configuration that was written for it: its port."""
+    port = free_port()
+    text = (archive.folder / "nginx.conf").read_text(encoding="utf-8")
+    (folder / "archive.conf").write_text(text.replace("listen 8080;", f"listen 127.0.0.1:{port};"), encoding="utf-8")
+    (folder / "nginx.conf").write_text(("user root;\n" if os.getuid() == 0 else "") + NGINX.format(folder=folder))
+    with subprocess.Popen(["nginx", "-c", folder / "nginx.conf"], stderr=subprocess.PIPE) as server:
+        try:
+            for _ in range(100):
+                with contextlib.suppress(OSError):
+                    socket.create_connection(("127.0.0.1", port)).close()
+                    break
+                must(server.poll() is None, f"nginx: {server.stderr.read()[-300:] if server.stderr else ''}")
+                time.sleep(0.1)
+            yield port
+        finally:
+            server.terminate()
+
+
+def check_served(program: Path, site: Recorded) -> None:
+    """nginx serves each public address, or sends it on to one, from the files and the configuration as they are."""
+    with Archive(program, site) as archive, tempfile.TemporaryDirectory() as folder:
+        archive.publish()
+        with served(archive, Path(folder)) as port:
+            for address, wanted, to in site.addresses:
+                status, _, target = asked(port, address)
+                is_same = target == to or "/wp-content/uploads/" in target
+                must(wanted == 200 or is_same, f"{address} leads to {target}, and in WordPress to {to}")
+                must(status in (200, 301), f"{address} gives {status}")
+                must(wanted == 200 or status == 301, f"{address} gives {status}, and WordPress sends it on")
+                while status == 301 and "/wp-content/uploads/" not in target:
+                    status, _, target = asked(port, target)
+                    must(status in (200, 301), f"{address} leads to {target or 'a page'} with {status}")
+            must(asked(port, "/no/such/page/")[0] == 404, "what isn't there is found")
+            must(asked(port, "/.htaccess")[0] == 404, "the file for Apache is served")
+            found = asked(port, "/?s=a%20b&x=1")
+            must((found[0], found[2]) == (301, "/search/?s=a%20b"), f"the old address of the search gives {found}")
+            must(asked(port, "/search/?s=a%20b")[0] == 200, "the search isn't served")
+            must(asked(port, "/feed/")[:2] == (200, "text/xml; charset=utf-8"), f"the feed is {asked(port, '/feed/')}")
+
+
+# Texts that are repeated many times: time must grow with the length, not with its square.
+REPEATED = (
+    "<a\"<a'",
+    "<!--",
+    "<!-- wp:x {",
+    "<!--more",
+    "[caption ",
+    "[button url='x']",
+    "1'",
+    "<p>",
+    "<pre>",
+    "<a ",
+    "[embed]",
+)
+
+
+def check_growth() -> None:
+    """Texts that nobody writes take no time in the square of their length."""
+    makes: tuple[Callable[[str], object], ...] = (
+        texturize,
+        paragraphs,
+        harmless,
+        lambda it: shortened(it, "", str),
+    )
+    for text in REPEATED:
+        for make in makes:
+            few, many = (seconds_of(make, text * (count // len(text))) for count in (20_000, 200_000))
+            must(many < 40 * few + 0.5, f"{text!r}: 20 kB take {few:.2f} s, 200 kB {many:.2f} s")
+
+
+def seconds_of(make: Callable[[str], object], text: str) -> float:
+    begun = time.process_time()
+    make(text)
+    return time.process_time() - begun
+
+
+HOSTILE = [
+    ("../../etc/passwd", None),
+    ("/a/../b/", None),
+    ("/a/%00", "/a/%00"),
+    ("/a\x00b", None),
+    ("/.htaccess", None),
+    ("/" + "x" * 256, None),
+    ("/a//b", None),
+    ("/a/./b", None),
+    ("/été/", "/été/"),
+    ("/a\\b", None),
+    ("/", "/"),
+]
+
+
+def check_safety() -> None:
+    """Paths can't leave the folder, comments keep harmless elements alone, and odd values of PHP are no fault."""
+    for path, wanted in HOSTILE:
+        must(path_or_none(path) == wanted, f"{path!r} becomes {path_or_none(path)!r}")
+    shown = harmless('<script>x</script><a href="javascript:x" onclick="y">z</a><b>open <img src=x onerror=y> & <i>')
+    must("<script" not in shown and "javascript" not in shown and "<img" not in shown, f"a comment is {shown!r}")
+    must(shown.endswith("</i></b>") and "&amp;" in shown, f"a comment isn't closed: {shown!r}")
+    for text in ("", "a:1:{", 's:9:"x";', "i:x;", "a:99999999:{}", 'O:1:"X":0:{}', "a:1:{i:0;" * 50):
+        must(unserialized(text) == {}, f"{text!r} is read as {unserialized(text)!r}")
+    cut = shortened('<div><p>a</p>\n<p><span id="more-7"></span></p>\n<p>b</p></div>', "", lambda it: "[more]")
+    must(cut == "<div><p>a</p></div>[more]", f"a list shows {cut!r}")
+    must(slug_of("Été & <b>Co.</b>") == "ete-co", f"a name is {slug_of('Été & <b>Co.</b>')!r}")
+
+
+def check_dates() -> None:
+    """Dates are written as PHP's `date` writes them."""
+    from datetime import datetime
+
+    date = datetime(2024, 2, 3, 4, 5, 6)
+    for form, language, wanted in (
+        ("F j, Y", "en", "February 3, 2024"),
+        ("j. F Y", "de-DE", "3. Februar 2024"),
+        (r"l jS \o\f F, g:i a", "en-GB", "Saturday 3rd of February, 4:05 am"),
+        ("d.m.y H:i", "xx", "03.02.24 04:05"),
+    ):
+        must(formatted(date, form, language) == wanted, f"{form!r} gives {formatted(date, form, language)!r}")
+
+
+def checks(program: Path, wordpress: Path | None) -> Iterator[tuple[Any, ...]]:
+    """What each check shows, and the check with its arguments."""
+    yield "texts as WordPress recorded them", check_recorded_texts
+    if wordpress is not None:
+        yield "random texts beside WordPress's functions", check_random_texts, wordpress, 2_000
+    yield "quotes of other languages", check_quotes
+    yield "paths, comments and values that aren't trusted", check_safety
+    yield "texts that nobody writes", check_growth
+    yield "dates in a site's format", check_dates
+    yield "the menu, the front and the pages", check_menu
+    yield "options of --as-shown", check_arguments
+    yield "templates without marks", check_other_templates, program
+    yield "sticky posts", check_sticky, program
+    yield "pages that are hard to use", check_access_itself
+    yield "uploads from a folder and from archives", check_uploads, program
+    yield "uploads fetched beside an import", check_fetch
+    yield "uploads that can't be fetched", check_fetch_faults
+    yield "sites that can't be read", check_faults, program
+    for site in map(recorded, SITES):
+        name = site.export.stem
+        yield f"{name}: lines as in WordPress", check_shown, site
+        yield f"{name}: the import", check_import, site
+        yield f"{name}: addresses", check_addresses, program, site
+        yield f"{name}: pages of the archive", check_archive, program, site
+        yield f"{name}: a second run, and edits", check_again, program, site
+        yield f"{name}: new posts", check_new_posts, program, site
+        yield f"{name}: pages for everyone", check_access, program, site
+        yield f"{name}: the search", check_search, program, site
+        if browser():
+            yield f"{name}: in a browser", check_browser, program, site
+        if shutil.which("nginx"):
+            yield f"{name}: served by nginx", check_served, program, site

@@ -1,0 +1,1 @@
+"""Random lists of lines, and what holds of the replies to any."""

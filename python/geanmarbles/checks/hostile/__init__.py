@@ -1,0 +1,1 @@
+"""Ends, signals and limits that are in the way."""

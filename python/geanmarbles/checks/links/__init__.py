@@ -1,0 +1,1 @@
+"""What the documents name, and what two of them say."""

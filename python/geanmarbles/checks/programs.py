@@ -1,0 +1,80 @@
+"""What the scripts of this folder know of programs: which one they run, and how C is loaded into it."""
+
+import argparse
+import os
+import shutil
+import subprocess
+import sys
+from pathlib import Path
+from typing import Any
+
+from geanmarbles.arguments import Parser
+from geanmarbles.paths import BUILT_PROGRAM
+
+
+def missing(program: str | Path) -> str | None:
+    """What to say if there is no program at a path, or None if there is one."""
+    is_there = os.path.isfile(program) and os.access(program, os.X_OK)
+    return None if is_there else f"there is no program at {program}; ./site or `rt ci` builds it"
+
+
+def parser_of(doc: str | None) -> Parser:
+    """The command line of a script that runs over a program, whose help is the script's own documentation."""
+    parser = Parser(description=doc, formatter_class=argparse.RawDescriptionHelpFormatter)
+    how: dict[str, Any] = {"nargs": "?", "type": os.path.abspath, "default": str(BUILT_PROGRAM)}
+    parser.add_argument("program", metavar="PROGRAM", help="the built program, `site`", **how)
+    return parser
+
+
+# Answers as `rt try` does, by a built program, and writes what it was called with to a file beside it.
+TRIED = """#!/usr/bin/env python3
+import subprocess, sys
+from pathlib import Path
+
+words = sys.argv[1:]
+with Path(__file__).with_suffix(".log").open("a") as log:
+    print(*words, file=log)
+if words[:2] == ["try", "--"]:
+    sys.exit(subprocess.run([{program!r}, *words[2:]]).returncode)
+folder = Path(words[words.index("--cases") + 1])
+for case in sorted(it for it in folder.iterdir() if it.suffix != ".args"):
+    args = case.with_suffix(".args")
+    given = args.read_text().splitlines() if args.exists() else []
+    ran = subprocess.run([{program!r}, *given], input=case.read_bytes(), capture_output=True)
+    sys.stdout.buffer.write(b"== " + case.name.encode() + b"\\n" + ran.stdout)
+    print(f"case={{case.name}} run=ended status={{ran.returncode}} runners=1 proved=no", file=sys.stderr)
+"""
+
+
+def executable(folder: str | Path, name: str, text: str) -> Path:
+    """A script in a folder that can be run."""
+    path = Path(folder, name)
+    path.write_text(text, encoding="utf-8")
+    path.chmod(0o755)
+    return path
+
+
+def without_toolchain(folder: str | Path) -> dict[str, str]:
+    """The environment in which the few commands that scripts here use are found, and the command `rt` isn't."""
+    Path(folder, "python3").symlink_to(sys.executable)
+    for name in ("sh", "cat", "cp", "dirname", "git", "mkdir", "readlink"):
+        found = shutil.which(name)
+        if found:
+            Path(folder, name).symlink_to(found)
+    return {**os.environ, "PATH": str(folder)}
+
+
+def with_toolchain(folder: str | Path, program: str | Path) -> dict[str, str]:
+    """The environment in which the command `rt` is a script that runs a built program."""
+    executable(folder, "rt", TRIED.format(program=str(program)))
+    return {**os.environ, "PATH": f"{folder}:{os.environ['PATH']}"}
+
+
+def compiled(source: Path, folder: Path) -> Path:
+    """A file of C as a library that can be loaded before the C library, by the toolchain's own compiler."""
+    doc = subprocess.run(["rt", "doc"], check=True, capture_output=True, text=True).stdout.strip()
+    compiler = Path(doc).parent / "toolchain" / "bin" / "clang"
+    made = folder / f"{source.stem}.so"
+    words = ["-O2", "-shared", "-fPIC", "-nostdlib", "-fuse-ld=lld", "-o", str(made), str(source)]
+    subprocess.run([compiler, *words], check=True)
+    return made
