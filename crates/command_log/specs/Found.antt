@@ -2,7 +2,6 @@
 use Rattle.std.specs.Prelude.{◌≡◌, ℕ, List, [], Result, IsErrOf}
 use Rattle.sqlite.specs.Recovery.{Image}
 use Rattle.sqlite.specs.Tree.{Trees}
-use Rattle.sqlite.specs.Schema.{Schema}
 use Rattle.sqlite.specs.Effect.{Database, IsDatabase}
 use Rattle.sqlite.specs.Files.{HoldsDatabase, AreFoundIn, file_state, image_of}
 use Rattle.sqlite.specs.WalFiles.{outcomes}
@@ -17,17 +16,20 @@ use Rattle.command_log.specs.declared.fault.LogFault.{LogFault}
 use Rattle.command_log.specs.declared.fault.LogFault.TheVariants.{NotALog}
 use Rattle.command_log.specs.Table.{IsOther}
 use Rattle.sqlite.specs.Files.{over_files}
-use Rattle.command_log.specs.Lines.{HoldsLines, IsOpen, lines_of}
+use Rattle.command_log.specs.Lines.{HasLines, HoldsLines, IsOpen, lines_of}
 
 -- the lines are those of the database that the files held, or none if it held nothing
 abbrev pub FindsLines : Image → List (List ℕ) → Type 0
-FindsLines image lines =
-    (db : Trees) → HoldsDatabase image db
-    → (schema : Schema) × IsDatabase (record { schema = schema; trees = db }) × HoldsLines (record { schema = schema; trees = db }) lines
+FindsLines image lines = (db : Trees) → HoldsDatabase image db → HasLines db lines
 
 -- and there is such a database, or nothing that holds a log of no lines
 abbrev pub ReadsLines : Image → List (List ℕ) → Type 0
 ReadsLines image lines = (d : Database) × AreFoundIn image d.trees × IsDatabase d × HoldsLines d lines
+
+-- what an open of the files finds: these lines are in each database that they hold, and there is one, or nothing and no line
+pub record Finds (image : Image) (lines : List (List ℕ)) : Type 0 where
+  pub each : FindsLines image lines
+  pub one : ReadsLines image lines
 
 -- a log that an open of the files finds has these lines
 abbrev pub FindsOnly : Image → List (List ℕ) → Type 0
@@ -46,6 +48,10 @@ module _ {D : Type 0} {g : Ghosts D} where
   -- Whatever a crash at this moment leaves of the files, the lines of a log that an open of them finds are these.
   abbrev pub IsFoundAgain : Held (FileStore D g) → Type 0
   IsFoundAgain log = IsOpen over_files log → (image : Image) → (store.state log.store).may_leave image → FindsOnly image (lines_of over_files log)
+
+  -- Whatever a crash at this moment leaves of a store's files, of the lines that an open of them finds as a log this holds.
+  abbrev pub FindsOnlySuch : FileStore D g → (List (List ℕ) → Type 0) → Type 0
+  FindsOnlySuch it Such = (image : Image) → (store.state it).may_leave image → (lines : List (List ℕ)) → FindsLines image lines → ∥ Such lines ∥₁
 
   -- The files that a close returned hold the lines, and the database file alone does: as they are, and after a crash.
   pub record IsKeptAlone (log : Held (FileStore D g)) (files : Files D) : Type 0 where

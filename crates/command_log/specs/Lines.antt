@@ -8,10 +8,12 @@ use Rattle.sqlite_value.specs.Order.{column, bytes}
 use Rattle.sqlite.specs.Query.{as_count, limited}
 use Rattle.sqlite_rules.specs.Edit.{id_in, next_rowid}
 use Rattle.sqlite.specs.Tree.{Trees, rowid, IsTable}
+use Rattle.sqlite.specs.Schema.{Schema}
 use Rattle.sqlite_trees.specs.View.{is_int}
 use Rattle.sqlite.specs.Store.{Ghosts}
 use Rattle.sqlite.specs.Effect.{Database, IsDatabase}
 use Rattle.sqlite.specs.Held.{Held, state}
+use Rattle.sqlite.specs.State.{HasCleanDisk}
 use Rattle.command_log.specs.Table.{log_schema, no_schema}
 
 -- a row is its number, a NULL in the column of the number, and the line
@@ -68,6 +70,11 @@ pub record HoldsLog (d : Database) : Type 0 where
 abbrev pub HoldsLines : Database → List (List ℕ) → Type 0
 HoldsLines d lines = ((d.schema ≡ log_schema) × (lines ≡ lines_in d.trees)) ⊎ ((d.schema ≡ no_schema) × (lines ≡ []))
 
+-- trees that are a database, which holds these lines
+abbrev pub HasLines : Trees → List (List ℕ) → Type 0
+HasLines db lines =
+    (schema : Schema) × IsDatabase (record { schema = schema; trees = db }) × HoldsLines (record { schema = schema; trees = db }) lines
+
 -- the trees are those of a log with these lines: what a crash leaves, and the next open finds
 pub record KeepsLines (lines : List (List ℕ)) (db : Trees) : Type 0 where
   pub sound : IsDatabase (record { schema = log_schema; trees = db })
@@ -93,6 +100,10 @@ module _ {S : Type 0} (g : Ghosts S) where
   -- what an open after a crash at this moment may find
   abbrev pub MayLeave : Held S → Trees → Type 0
   MayLeave h = (state g h).may_leave
+
+  -- with an honest disk an open after a crash at this moment may find these lines
+  abbrev pub MayHold : Held S → List (List ℕ) → Type 0
+  MayHold h lines = HasCleanDisk (state g h) × ((db : Trees) × MayLeave h db × HasLines db lines)
 
   -- no transaction is under way
   pub record IsIdle (h : Held S) : Type 0 where

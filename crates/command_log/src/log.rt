@@ -4,6 +4,8 @@ ghost use Rattle.std.specs.Prelude.{
   ◌↔◌,
   ◌++◌,
   [],
+  List,
+  ℕ,
   map,
   take,
   drop,
@@ -32,6 +34,7 @@ ghost use Rattle.command_log.specs.Lines.{
   IsMade,
   KeepsLines,
   HoldsLines,
+  MayHold,
   MayLeave,
   lines_of,
   lines_left,
@@ -44,6 +47,7 @@ ghost use Rattle.sqlite.specs.View.{IsClean};
 ghost use Rattle.sqlite.specs.FileStore.{view};
 ghost use Rattle.command_log.specs.Found.{
   FindsLines,
+  FindsOnlySuch,
   ReadsLines,
   RefusesOther,
   IsFoundAgain,
@@ -178,10 +182,15 @@ impl<D: Disk + Drop> CommandLog<FileStore<D>> {
         }
     }
 
-    /// A law: whatever a crash leaves of the files of an open log, an open of them as a log finds
-    /// its lines. The call does no IO: it returns the store, and carries this fact.
-    pub fn found_after_a_crash(self) -> FileStore<D>
-        ensures { IsClean (view result) → IsFoundAgain self }
+    /// Gives the log up, whether it is open or a failed commit has shut it, and returns its files as
+    /// a store in which nothing is under way.
+    pub fn into_store(self) -> FileStore<D>
+        // Whatever a crash then leaves of the files, an open of them as a log finds lines that this
+        // log might have been found to hold.
+        ensures found { IsClean (view result) → FindsOnlySuch result (MayHold over_files self) }
+
+        // Of a log that is open these are its lines.
+        ensures again { IsClean (view result) → IsFoundAgain self }
     {
         let CommandLog { conn, alloc: _ } = self;
         // Called for its clause alone: what an open connection knows of its tables.
@@ -299,8 +308,10 @@ impl<S: Alter> CommandLog<S> {
     /// A law: while the log is open, a crash leaves its lines and nothing else. The call changes
     /// nothing: it carries this fact.
     pub fn law_left_by_a_crash(&self)
-        ensures { IsOpen S.Store self.now → (db : Trees) → MayLeave S.Store self.now db
+        ensures keeps { IsOpen S.Store self.now → (db : Trees) → MayLeave S.Store self.now db
             → KeepsLines (lines_of S.Store self.now) db }
+        ensures holds { IsOpen S.Store self.now → (lines : List (List ℕ))
+            → MayHold S.Store self.now lines → lines_of S.Store self.now ≡ lines }
     {
         // Called for its clause alone: what an open connection knows of its tables.
         let _schema = self.conn.schema();

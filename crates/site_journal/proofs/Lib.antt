@@ -1,2 +1,3 @@
+pub mod Committing
 pub mod Flushing
 pub mod Taking

@@ -1,10 +1,9 @@
--- What is known of the lines of a log, and what a crash may leave of them.
+-- What is known of the lines of a log.
 use Rattle.std.specs.Prelude.{◌≡◌, ℕ, List, ◌++◌, Option, None, Some, if◌then◌else◌}
 use Rattle.sqlite.specs.Held.{Held, state}
 use Rattle.sqlite.specs.State.{HasCleanDisk}
 use Rattle.sqlite.specs.Store.{Ghosts}
-use Rattle.sqlite.specs.Tree.{Trees}
-use Rattle.command_log.specs.Lines.{IsOpen, MayLeave, lines_of, lines_in}
+use Rattle.command_log.specs.Lines.{IsOpen, lines_of}
 use Rattle.command_log.specs.declared.fault.LogFault.{LogFault}
 use Rattle.site_journal.specs.declared.journal.LogJournal.{LogJournal}
 
@@ -16,10 +15,6 @@ module _ {S : Type 0} (g : Ghosts S) where
   -- the lines of the log and these, as long as the log is open
   abbrev pub known_lines : Held S → List (List ℕ) → Option (List (List ℕ))
   known_lines h more = if (state g h).is_open then Some (lines_of g h ++ more) else None
-
-  -- with an honest disk a crash at this moment may leave these lines
-  abbrev pub MayHold : Held S → List (List ℕ) → Type 0
-  MayHold h held = HasCleanDisk (state g h) × ((db : Trees) × MayLeave g h db × (lines_in db ≡ held))
 
 -- why the journal has failed, unless only its sink has
 abbrev pub fault_in : {S W : Type 0} → LogJournal S W → Option LogFault

@@ -2,7 +2,8 @@
 ghost use Rattle.std.specs.Prelude.{◌≡◌, ◌⊎◌, ◌∷◌, ◌++◌, [], List, ℕ, Some, map, OnOk};
 ghost use Rattle.std.specs.String.{string_bytes};
 ghost use Rattle.byte_io.specs.Journal.{Grows};
-ghost use Rattle.site_journal.specs.Known.{IsOpenIfClean, MayHold, known_lines};
+ghost use Rattle.command_log.specs.Lines.{MayHold};
+ghost use Rattle.site_journal.specs.Known.{IsOpenIfClean, known_lines};
 
 use command_log::{CommandLog, LogFault};
 use sqlite_trees::store::Alter;

@@ -2,7 +2,8 @@
 ghost use Rattle.std.specs.Prelude.{◌≡◌, ◌||◌, Some, IsSome, IsTrue, List, ℕ, [], map, is_some};
 ghost use Rattle.std.specs.String.{string_bytes};
 ghost use Rattle.byte_io.specs.Journal.{IsSettled};
-ghost use Rattle.site_journal.specs.Known.{IsOpenIfClean, MayHold, fault_in, known_lines};
+ghost use Rattle.command_log.specs.Lines.{MayHold};
+ghost use Rattle.site_journal.specs.Known.{IsOpenIfClean, fault_in, known_lines};
 
 use crate::commit::{commit, hold};
 use crate::steady::Steady;
@@ -81,22 +82,24 @@ impl<S: Alter, W: Steady> LogJournal<S, W> {
 }
 
 impl<S: Alter + Drop, W: Steady + Drop> LogJournal<S, W> {
-    /// Returns the log. What waits is lost.
-    pub fn into_log(self) -> CommandLog<S>
+    /// Returns the log and the sink. What waits is lost.
+    pub fn into_parts(self) -> (CommandLog<S>, W)
         ensures opened { ⟦<LogJournal<S, W> as Journal>⟧.is_open self
-            → IsOpenIfClean S.Store result }
-        ensures held { (held : List (List ℕ)) → MayHold S.Store result held
+            → IsOpenIfClean S.Store result.0 }
+        ensures held { (held : List (List ℕ)) → MayHold S.Store result.0 held
             → ⟦<LogJournal<S, W> as Journal>⟧.may_hold self held }
+        ensures written { W.contents result.1
+            ≡ ⟦<LogJournal<S, W> as Journal>⟧.written self }
     {
         let LogJournal {
             log,
-            sink: _,
+            sink,
             lines: _,
             waiting: _,
             fault: _,
             alloc: _,
         } = self;
-        log
+        (log, sink)
     }
 }
 

@@ -2,8 +2,8 @@
 ghost use Rattle.std.specs.Prelude.{◌≡◌, false};
 
 use callback_store::Stated;
-use site_program::{Journal, PageTrace, Reading, ServeFault, Site, Writing};
-use site_tasks::{close_journal, failed, open_journal};
+use site_program::{Journal, PageTrace, Reading, ServeFault, Site, Unwatched, Writing};
+use site_tasks::{failed, serve_path};
 use std::io;
 use std::process::ExitCode;
 
@@ -17,7 +17,7 @@ pub(crate) fn serve<S: Stated>(rt: &HostRuntime, site: &mut Site<'_, S>, trace: 
 }
 
 /// Makes the site anew by the log in a file, whose first line has to be the identity, and serves
-/// standard input into that log.
+/// standard input into that log. With `trace` each invocation is told on standard error.
 pub(crate) fn serve_file<S: Stated>(
     rt: &HostRuntime,
     site: &mut Site<'_, S>,
@@ -25,12 +25,13 @@ pub(crate) fn serve_file<S: Stated>(
     path: &str,
     trace: bool,
 ) -> ExitCode {
-    match open_journal(rt, site, identity, path, Writing::new(io::writer(rt))) {
-        Ok(mut journal) => {
-            let served = serve_into(rt, site, &mut journal, trace);
-            close_journal(rt, journal, served)
-        }
-        Err(status) => status,
+    let mut reader = Reading::new(rt.reader());
+    let sink = Writing::new(io::writer(rt));
+    if trace {
+        let mut log = PageTrace::new(rt.alloc(), Writing::new(rt.stderr()));
+        serve_path(rt, path, site, identity, &mut reader, sink, &mut log)
+    } else {
+        serve_path(rt, path, site, identity, &mut reader, sink, &mut Unwatched)
     }
 }
 

@@ -1,2 +1,3 @@
+pub mod Compacted
 pub mod Identity
 pub mod Started

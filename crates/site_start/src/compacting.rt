@@ -1,13 +1,18 @@
 //! Putting a short history in the place of a long one.
-ghost use Rattle.std.specs.Prelude.{◌≡◌, ◌∷◌, List, ℕ, map, true, OnOk, OnErr, IfOk};
+ghost use Rattle.std.specs.Prelude.{◌≡◌, ◌⊎◌, ◌∷◌, List, ℕ, map, true};
+ghost use Rattle.std.specs.Prelude.{OnOk, OnErr, IfOk, IfErr, IfSome};
 ghost use Rattle.std.specs.String.{string_bytes};
+ghost use Rattle.sqlite.specs.Files.{over_files};
 ghost use Rattle.sqlite.specs.Held.{state};
-ghost use Rattle.sqlite.specs.State.{HasCleanDisk};
-ghost use Rattle.command_log.specs.Lines.{IsOpen, lines_of};
+ghost use Rattle.sqlite.specs.State.{HasCleanDisk, Survives};
+ghost use Rattle.sqlite.specs.WalFiles.{image_at};
+ghost use Rattle.command_log.specs.Lines.{IsOpen, KeepsLines, MayHold, lines_of};
 ghost use Rattle.site_serving.specs.Served.{state_after};
+ghost use Rattle.site_start.specs.Compacted.{IsShort, IsShortIn};
+ghost use Rattle.site_start.specs.Started.{IsLeftBy};
 
 use crate::fault::StartFault;
-use crate::opening::open_site;
+use crate::opening::{FileLog, open_site};
 use crate::replay::{introduce, redo_all};
 use command_log::{CommandLog, LogFault};
 use site_replies::Refusal;
@@ -17,7 +22,8 @@ use sqlite_trees::store::Alter;
 use std::alloc::Global;
 
 /// Opens the log in a file, carries out its lines in the site, and puts short lines in their place,
-/// as [`compact`] does. It has no clause.
+/// as [`compact`] does. The copy has to be an empty site. A fault comes with the log, if it could be
+/// opened.
 pub fn compact_file<C: Commands, S: Start>(
     rt: &HostRuntime,
     path: &str,
@@ -25,9 +31,42 @@ pub fn compact_file<C: Commands, S: Start>(
     site: &mut C,
     copy: &mut C,
     identity: &str,
-) -> Result<(), StartFault> {
-    let mut log = open_site(rt, path, files, site, identity)?;
-    compact(rt.alloc(), site, copy, &mut log, identity)
+) -> Result<FileLog<S>, (StartFault, Option<FileLog<S>>)>
+    // The site is what the lines that the files held make of it.
+    ensures made { IfOk result (λ log. HasCleanDisk (state over_files log)
+        → (held : List (List ℕ)) × IsLeftBy (image_at S.Start) identity.now held
+        × (C.state site.new ≡ state_after (C.steps (C.fixed site.old)) (C.state site.old) held)) }
+
+    // The copy is what the lines of the log now make of it, and these are short lines of the site.
+    ensures replayed { IfOk result (λ log. HasCleanDisk (state over_files log)
+        → C.state copy.new
+        ≡ state_after (C.steps (C.fixed copy.old))
+        (C.state copy.old)
+        (lines_of over_files log)) }
+    ensures short { IfOk result (λ log. HasCleanDisk (state over_files log)
+        → IsShort C.Commands identity.now site.new copy.new (lines_of over_files log)) }
+    ensures opened { IfOk result (λ log. HasCleanDisk (state over_files log)
+        → IsOpen over_files log) }
+
+    // After a fault the log has the lines that the files held.
+    ensures err { IfErr result (λ e. IfSome e.1 (λ log. IsOpen over_files log
+        → IsLeftBy (image_at S.Start) identity.now (lines_of over_files log))) }
+
+    // A crash then leaves these lines, or short lines of the site.
+    ensures survives { IfErr result (λ e. IfSome e.1 (λ log. (lines : List (List ℕ))
+        → MayHold over_files log lines → IsLeftBy (image_at S.Start) identity.now lines
+        ⊎ IsShortIn C.Commands identity.now site.new lines)) }
+{
+    match open_site(rt, path, files, site, identity) {
+        Ok(mut log) => {
+            log.law_left_by_a_crash();
+            match compact(rt.alloc(), site, copy, &mut log, identity) {
+                Ok(()) => Ok(log),
+                Err(fault) => Err((fault, Some(log))),
+            }
+        }
+        Err(failed) => Err(failed),
+    }
 }
 
 /// Puts the short lines of a site in the place of all lines of its log, after the identity. They are
@@ -50,12 +89,16 @@ pub fn compact<C: Commands, S: Alter>(
         (lines_of S.Store log.new)) }
 
     // They are short lines of the site, and of the copy.
-    ensures short { HasCleanDisk (state S.Store log.new) → OnOk result ((later : List (List ℕ))
-        × (lines_of S.Store log.new ≡ identity.now ∷ later)
-        × C.rebuilds (C.state site.old) later × C.rebuilds (C.state copy.new) later) }
+    ensures short { HasCleanDisk (state S.Store log.new) → OnOk result
+        (IsShort C.Commands identity.now site.old copy.new (lines_of S.Store log.new)) }
     ensures err { IsOpen S.Store log.new
         → OnErr result (lines_of S.Store log.new ≡ lines_of S.Store log.old) }
     ensures opened { HasCleanDisk (state S.Store log.new) → OnOk result (IsOpen S.Store log.new) }
+
+    // A crash leaves what it could leave before, or short lines of the site.
+    ensures survives { Survives (state S.Store log.old) (state S.Store log.new)
+        (λ db. (lines : List (List ℕ)) × KeepsLines lines db
+        × IsShortIn C.Commands identity.now site.old lines) }
 
     // The site stays as it is.
     ensures same { C.state site.new ≡ C.state site.old }

@@ -11,4 +11,4 @@ mod replay;
 pub use compacting::{compact, compact_file};
 pub use fault::StartFault;
 pub use identity::identity_of;
-pub use opening::{open_site, start};
+pub use opening::{FileLog, open_site, start};

@@ -1,13 +1,14 @@
 //! Making a site anew by the lines of its log.
-ghost use Rattle.std.specs.Prelude.{◌≡◌, ◌≢◌, ℕ, List, ◌∷◌, ◌++◌, [], IfErr, IfOk, OnOk, OnErr};
+ghost use Rattle.std.specs.Prelude.{◌≡◌, ◌≢◌, ℕ, List, ◌∷◌, ◌++◌, []};
+ghost use Rattle.std.specs.Prelude.{IfErr, IfOk, IfSome, OnOk, OnErr};
 ghost use Rattle.sqlite.specs.Files.{over_files};
 ghost use Rattle.sqlite.specs.Held.{state};
 ghost use Rattle.sqlite.specs.State.{HasCleanDisk, Survives};
 ghost use Rattle.sqlite.specs.WalFiles.{image_at};
-ghost use Rattle.command_log.specs.Found.{ReadsLines};
-ghost use Rattle.command_log.specs.Lines.{IsOpen, IsAppended, KeepsLines, lines_of};
+ghost use Rattle.command_log.specs.Found.{Finds};
+ghost use Rattle.command_log.specs.Lines.{IsOpen, IsAppended, KeepsLines, MayHold, lines_of};
 ghost use Rattle.site_serving.specs.Served.{state_after};
-ghost use Rattle.site_start.specs.Started.{HasEdits, IsOfAnother, IsTakenOver};
+ghost use Rattle.site_start.specs.Started.{HasEdits, IsLeftBy, IsOfAnother, IsTakenOver};
 ghost use Rattle.site_start.specs.declared.fault.StartFault.TheVariants.{OtherProgram};
 
 use crate::fault::StartFault;
@@ -18,16 +19,21 @@ use sqlite::{FileFrom, FileStore, Start};
 use sqlite_trees::store::Alter;
 use std::alloc::Global;
 
+/// A log in a file. `S` is what the files held as they were opened.
+pub type FileLog<S> = CommandLog<FileStore<FileFrom<S>>>;
+
 /// Opens the log in a file, or makes it, and carries out its lines in the site, as [`start`] does.
-/// What the files held as they were opened is `S`, and so is what a torn write may leave of them. It
-/// has neither the clause `err` nor `survives` of [`start`].
+/// What the files held as they were opened is `S`, and so is what a torn write may leave of them.
+///
+/// A fault comes with the log, if it could be opened. Of files that could not be opened as a log no
+/// clause speaks: what is left of them is dropped.
 pub fn open_site<C: Commands, S: Start>(
     rt: &HostRuntime,
     path: &str,
     files: S,
     site: &mut C,
     identity: &str,
-) -> Result<CommandLog<FileStore<FileFrom<S>>>, StartFault>
+) -> Result<FileLog<S>, (StartFault, Option<FileLog<S>>)>
     // The site is what the lines of the log make of it.
     ensures replayed { IfOk result (λ log. HasCleanDisk (state over_files log)
         → C.state site.new
@@ -37,17 +43,32 @@ pub fn open_site<C: Commands, S: Start>(
 
     // They are the lines that the files held, or the identity alone if they held none.
     ensures found { IfOk result (λ log. HasCleanDisk (state over_files log)
-        → (held : List (List ℕ)) × ReadsLines (image_at S.Start) held
+        → (held : List (List ℕ)) × Finds (image_at S.Start) held
         × IsTakenOver identity.now held (lines_of over_files log)) }
     ensures edits { IfOk result (λ log. HasCleanDisk (state over_files log)
         → HasEdits C.edits identity.now (lines_of over_files log)) }
     ensures opened { IfOk result (λ log. HasCleanDisk (state over_files log)
         → IsOpen over_files log) }
+
+    // After a fault the log has the lines that the files held.
+    ensures err { IfErr result (λ e. IfSome e.1 (λ log. IsOpen over_files log
+        → Finds (image_at S.Start) (lines_of over_files log))) }
+
+    // A crash then leaves these lines, or the identity alone if there was none.
+    ensures survives { IfErr result (λ e. IfSome e.1 (λ log. (lines : List (List ℕ))
+        → MayHold over_files log lines → IsLeftBy (image_at S.Start) identity.now lines)) }
     ensures fixed { C.fixed site.new ≡ C.fixed site.old }
 {
-    let mut log = CommandLog::open(rt, path, files)?;
-    start(rt.alloc(), site, &mut log, identity)?;
-    Ok(log)
+    match CommandLog::open(rt, path, files) {
+        Ok(mut log) => {
+            log.law_left_by_a_crash();
+            match start(rt.alloc(), site, &mut log, identity) {
+                Ok(()) => Ok(log),
+                Err(fault) => Err((fault, Some(log))),
+            }
+        }
+        Err(fault) => Err((StartFault::Log(fault), None)),
+    }
 }
 
 /// Carries out the lines of a log in a site, with no limit on their number. The first has to be the
@@ -81,9 +102,9 @@ pub fn start<C: Commands, S: Alter>(
     ensures err { IsOpen S.Store log.new
         → OnErr result (lines_of S.Store log.new ≡ lines_of S.Store log.old) }
 
-    // A crash leaves what it could leave before, or a log that has the identity alone.
+    // A crash leaves what it could leave before, or a log that had no line has the identity alone.
     ensures survives { Survives (state S.Store log.old) (state S.Store log.new)
-        (KeepsLines (identity.now ∷ [])) }
+        (λ db. (lines_of S.Store log.old ≡ []) × KeepsLines (identity.now ∷ []) db) }
     ensures fixed { C.fixed site.new ≡ C.fixed site.old }
 {
     let first = log.read_batch(LogPlace::start(), 1)?;

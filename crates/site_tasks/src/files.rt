@@ -1,57 +1,118 @@
-//! The journal over the log in a file.
-ghost use Rattle.std.specs.Prelude.{◌≡◌, IfOk};
+//! Serving an input into the log in a file.
+ghost use Rattle.std.specs.Prelude.{◌≡◌, ℕ, List, false, IfOk};
+ghost use Rattle.command_log.specs.Found.{FindsOnlySuch};
+ghost use Rattle.site_tasks.specs.Lasting.{Lasts};
+ghost use Rattle.sqlite.specs.FileStore.{view};
+ghost use Rattle.sqlite.specs.View.{IsClean};
+ghost use Rattle.sqlite.specs.WalFiles.{image_at};
 
 use crate::status::{failed, failed_at};
-use byte_io::Journal;
-use command_log::CommandLog;
+use byte_io::Source;
+use command_log::LogFault;
+use page_trace::Watch;
 use site_journal::{LogJournal, Steady};
 use site_replies::ServeFault;
-use site_serving::Commands;
-use site_start::open_site;
-use sqlite::{FileFrom, FileStore, Wary};
+use site_serving::{Commands, serve};
+use site_start::{StartFault, open_site};
+use sqlite::{FileFrom, FileStore, Start, Wary};
+use sqlite_disk::Disk;
 use std::process::ExitCode;
 
-/// The store of a log in a file.
-pub type FileLog = FileStore<FileFrom<Wary>>;
+/// What is left of a file and of the client's end after the file was served.
+#[derive(Drop)]
+pub struct Served<D: Disk, W> {
+    /// How serving ended.
+    pub result: Result<(), ServeFault>,
+    /// Why edits could not be committed, if that ended it.
+    pub fault: Option<LogFault>,
+    /// The files, in which nothing is under way.
+    pub files: FileStore<D>,
+    /// The end that the replies were written to.
+    pub sink: W,
+}
 
-/// Makes the site anew by the log in a file, whose first line has to be the identity, and returns a
-/// journal over that log and the sink. If that fails, a line on standard error says why.
-pub fn open_journal<C: Commands, W: Steady + Drop>(
+/// Makes the site anew by the log in a file, whose first line has to be the identity, and serves the
+/// input into that log: edits are committed before the replies to them are written.
+///
+/// On `Err` no line of the input was read. However serving ends, `Served` has the files.
+pub fn serve_file<C: Commands, S: Start, R: Source, W: Steady + Drop, V: Watch>(
     rt: &HostRuntime,
+    path: &str,
+    files: S,
     site: &mut C,
     identity: &str,
-    path: &str,
+    reader: &mut R,
     sink: W,
-) -> Result<LogJournal<FileLog, W>, ExitCode>
-    ensures sound { IfOk result (λ journal.
-        ⟦<LogJournal<FileLog, W> as Journal>⟧.has_failed journal ≡ W.has_failed sink) }
+    watch: &mut V,
+) -> Result<Served<FileFrom<S>, W>, StartFault>
+    requires reader { R.has_failed reader.old ≡ false }
+    requires sink { W.has_failed sink ≡ false }
+
+    // Whatever a crash leaves of the files, an open of them finds the lines that they held and then
+    // the edits done at some first lines of the input; and what was written to the sink is the
+    // beginning of the replies to exactly these lines.
+    ensures lasts { IfOk result (λ served. IsClean (view served.files)
+        → FindsOnlySuch served.files (Lasts (C.steps (C.fixed site.old))
+        (C.replies (C.fixed site.old)) C.keeps (image_at S.Start) identity.now
+        (C.state site.old) (C.state site.new) (R.remaining reader.old)
+        (W.contents sink) (W.contents served.sink))) }
 {
-    match open_site(rt, path, Wary, site, identity) {
-        Ok(log) => Ok(LogJournal::new(rt.alloc(), log, sink)),
-        Err(fault) => Err(failed_at(rt, path, fault)),
+    match open_site(rt, path, files, site, identity) {
+        Ok(log) => {
+            let mut journal = LogJournal::new(rt.alloc(), log, sink);
+            let result = serve(rt.alloc(), site, reader, &mut journal, watch);
+            let fault = journal.fault();
+            let (log, sink) = journal.into_parts();
+            Ok(Served {
+                result,
+                fault,
+                files: log.into_store(),
+                sink,
+            })
+        }
+        Err((fault, _log)) => Err(fault),
     }
 }
 
-/// Shuts the log after the site has served into it, and returns the exit status.
-pub fn close_journal<W: Steady + Drop>(
-    rt: &HostRuntime,
-    journal: LogJournal<FileLog, W>,
-    served: Result<(), ServeFault>,
-) -> ExitCode {
-    match served {
-        Ok(()) => close(journal.into_log()),
-        Err(fault) => match journal.fault() {
-            Some(cause) => failed_at(rt, "the database failed", cause),
-            None => failed(rt, fault),
-        },
-    }
-}
-
-/// Copies what was committed into the file, which then has the history by itself. If the disk has
+/// Serves a file as [`serve_file`] does, and returns the program's exit status. What was committed is
+/// then copied into the database file, which has the history by itself from then on. If the disk has
 /// no room for that, the file and its log have it together, as before.
-fn close(log: CommandLog<FileLog>) -> ExitCode {
-    match log.close() {
-        Ok(_files) => ExitCode::SUCCESS,
-        Err((_fault, _store)) => ExitCode::SUCCESS,
+///
+/// A line on standard error says why a start was refused, or why serving ended before the input.
+pub fn serve_path<C: Commands, R: Source, W: Steady + Drop, V: Watch>(
+    rt: &HostRuntime,
+    path: &str,
+    site: &mut C,
+    identity: &str,
+    reader: &mut R,
+    sink: W,
+    watch: &mut V,
+) -> ExitCode
+    requires reader { R.has_failed reader.old ≡ false }
+    requires sink { W.has_failed sink ≡ false }
+{
+    match serve_file(rt, path, Wary, site, identity, reader, sink, watch) {
+        Ok(served) => finish(rt, served),
+        Err(fault) => failed_at(rt, path, fault),
+    }
+}
+
+/// Ends the program after serving.
+fn finish<D: Disk + Drop, W: Drop>(rt: &HostRuntime, served: Served<D, W>) -> ExitCode {
+    let Served {
+        result,
+        fault,
+        mut files,
+        sink: _,
+    } = served;
+    match result {
+        Ok(()) => {
+            let _ = files.checkpoint();
+            ExitCode::SUCCESS
+        }
+        Err(ended) => match fault {
+            Some(cause) => failed_at(rt, "the database failed", cause),
+            None => failed(rt, ended),
+        },
     }
 }

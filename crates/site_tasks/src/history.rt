@@ -8,7 +8,7 @@ use std::process::ExitCode;
 
 /// Writes the short lines of the site of a file to standard output.
 pub fn export<C: Commands>(rt: &HostRuntime, site: &mut C, identity: &str, path: &str) -> ExitCode {
-    if let Err(fault) = open_site(rt, path, Wary, site, identity) {
+    if let Err((fault, _log)) = open_site(rt, path, Wary, site, identity) {
         return failed_at(rt, path, fault);
     }
     match site.short_history() {
@@ -38,7 +38,7 @@ pub fn compact<C: Commands>(
     path: &str,
 ) -> ExitCode {
     match compact_file(rt, path, Wary, site, copy, identity) {
-        Ok(()) => ExitCode::SUCCESS,
-        Err(fault) => failed_at(rt, path, fault),
+        Ok(_log) => ExitCode::SUCCESS,
+        Err((fault, _log)) => failed_at(rt, path, fault),
     }
 }

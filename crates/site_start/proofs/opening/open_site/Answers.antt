@@ -1,17 +1,27 @@
+use Rattle.std.proofs.Common.{sym, subst}
 use Rattle.sqlite.specs.Files.{over_files}
+use Rattle.sqlite.specs.WalFiles.{image_at}
+use Rattle.command_log.specs.Found.{Finds}
 use Rattle.command_log.specs.Lines.{lines_of}
+use Rattle.site_start.proofs.Leaving.{clean_if_open, left_by_start}
 use Rattle.site_start.proofs.Replaying.{clean_before}
 use Rattle.site_start.proofs.opening.open_site.Goals as goal
 
-pub returns-clause-opened : goal.returns-clause-opened
-returns-clause-opened g c = c.in_ok-start.ensures.opened
-
 -- the log that was opened has the lines that the files held
-pub returns-clause-found : goal.returns-clause-found
-returns-clause-found g c = λ clean.
-    let log = c.in_ok-log.log in
-    let up = c.in_ok-log.ensures.opened (clean_before over_files log c.start.new.log _ c.in_ok-start.ensures.survives clean) in
-    (lines_of over_files log, c.in_ok-log.ensures.read up, c.in_ok-start.ensures.lines clean)
+pub returns-in-Ok-start-clause-found : goal.returns-in-Ok-start-clause-found
+returns-in-Ok-start-clause-found g c = λ clean.
+    let log = c.in-Ok.log in
+    let up = c.in-Ok.ensures.opened (clean_before over_files log c.start.new.log _ c.start.ensures.survives clean) in
+    (lines_of over_files log, record { each = c.in-Ok.ensures.found up; one = c.in-Ok.ensures.read up }, c.in-Ok-start.ensures.lines clean)
 
-pub returns-clause-edits : goal.returns-clause-edits
-returns-clause-edits g c = c.in_ok-start.ensures.edits
+pub returns-in-Err-start-clause-err : goal.returns-in-Err-start-clause-err
+returns-in-Err-start-clause-err g c = λ up.
+    let log = c.in-Ok.log in
+    let clean = clean_before over_files log c.start.new.log _ c.start.ensures.survives (clean_if_open c.start.new.log up) in
+    let early = c.in-Ok.ensures.opened clean in
+    subst (Finds (image_at g.S.Start)) (sym (c.in-Err-start.ensures.err up)) (record { each = c.in-Ok.ensures.found early; one = c.in-Ok.ensures.read early })
+
+pub returns-in-Err-start-clause-survives : goal.returns-in-Err-start-clause-survives
+returns-in-Err-start-clause-survives g c =
+    left_by_start (image_at g.S.Start) c.args.identity.now c.in-Ok.log c.start.new.log c.in-Ok.ensures.opened c.law_left_by_a_crash.ensures.holds
+    c.start.ensures.survives (λ up. record { each = c.in-Ok.ensures.found up; one = c.in-Ok.ensures.read up })

@@ -60,11 +60,11 @@ returns-in-empty-clause-err g c = λ up.
 pub returns-in-empty-clause-survives : goal.returns-in-empty-clause-survives
 returns-in-empty-clause-survives g c =
     survives_then (state g.S.Store c.args.log.now) (state g.S.Store c.read_batch.new.self) (state g.S.Store c.append_first.new.log) _ _
-    (KeepsLines (c.args.identity.now ∷ []))
+    (λ db. (lines_of g.S.Store c.args.log.now ≡ []) × KeepsLines (c.args.identity.now ∷ []) db)
     (λ clean db none. absurd none)
     (λ clean db appended.
     let early = clean_before g.S.Store c.read_batch.new.self c.append_first.new.log _ c.append_first.ensures.survives clean in
-    subst (λ lines. KeepsLines (lines ++ c.args.identity.now ∷ []) db) (none_after g c early) appended.1)
+    (none_read g c early, subst (λ lines. KeepsLines (lines ++ c.args.identity.now ∷ []) db) (none_after g c early) appended.1))
     c.in_ok-first.ensures.survives c.append_first.ensures.survives
 
 -- ---- the log has a first line
