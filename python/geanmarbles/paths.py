@@ -10,6 +10,8 @@ EXAMPLES = ROOT / "examples"
 TESTS = ROOT / "tests"
 # The program, once it is built.
 BUILT_PROGRAM = CRATES / "site" / "out" / "site"
+# The program that has the plugin `snippets` too.
+BUILT_PRESS = CRATES / "press" / "out" / "press"
 
 
 def command(name: str) -> list[str]:

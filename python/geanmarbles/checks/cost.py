@@ -8,6 +8,9 @@ of them and a run with one, divided by their number. A request fails that replie
 either than counts.txt beside this script says; --record writes that file anew. What takes less than recorded by as much
 is named, so that it can be recorded. Without valgrind nothing is counted, which is said.
 
+A snippet of the program `press`, which is crates/press/out/press, is counted beside a bundled plugin that prints the
+same: it may take twice as many instructions.
+
 The last line is 'N passed, M failed'. The exit status is 0 if nothing failed.
 """
 
@@ -17,7 +20,7 @@ import subprocess
 import sys
 import tempfile
 from collections import Counter
-from collections.abc import Iterator, Sequence
+from collections.abc import Iterator, Mapping, Sequence
 from concurrent.futures import ThreadPoolExecutor
 from typing import NamedTuple
 
@@ -35,7 +38,7 @@ from geanmarbles.client.exchanges import (
     put,
     shown,
 )
-from geanmarbles.paths import BUILT_PROGRAM, TESTS
+from geanmarbles.paths import BUILT_PRESS, BUILT_PROGRAM, TESTS
 
 HERE = TESTS / "cost"
 COUNTS = HERE / "counts.txt"
@@ -45,19 +48,25 @@ TIMES = 20
 ALLOCATE = ("malloc", "calloc", "realloc", "posix_memalign")
 NAMED = re.compile(r"(c?)fn=\((\d+)\)(?: (.*))?$")
 
+# What a request may take at most, in instructions, as a multiple of another.
+AT_MOST = {"100 links of a snippet": (2, "100 links of a bundled plugin")}
+
 LETTERS = "word " * 10_000
+LINK = '<a href="/a">Home</a>'
 FIVE = activate("args", "atts", "bold", "marks", "note")
 # What the five plugins make of a post that is empty.
 OF_FIVE = shown("[1:]", "n0X1Y(2 1)")
 
 
 class Request(NamedTuple):
-    """A request: its name, what is sent before it, the exchange that is counted, and the program's arguments."""
+    """A request: its name, what is sent before it, the exchange that is counted, and the program: its arguments, its
+    crate."""
 
     name: str
     before: Exchange
     counted: Exchange
     options: tuple[str, ...] = ()
+    program: str = "site"
 
 
 class Cost(NamedTuple):
@@ -102,6 +111,16 @@ def requests() -> Iterator[Request]:
     yield Request("a plugin that goes and comes", activate("bold"), gone + activate("bold"))
 
 
+def links() -> Iterator[Request]:
+    """Pages of 100 links: by a plugin of the bundle, and by a snippet."""
+    site, front = posts(1, '[link href="/a" label="Home"]' * 100, shows=LINK * 100)
+    yield Request("100 links of a bundled plugin", activate("atts") + site, front, program="press")
+    site, front = posts(1, '[button href="/a"]Home[/button]' * 100, shows=LINK * 100)
+    template = done("option", name="[button]", value='<a href="{{href|#}}">{{content|link}}</a>')
+    listed = activate("snippets") + done("option", name="snippets", value="[button]")
+    yield Request("100 links of a snippet", listed + template + site, front, program="press")
+
+
 def counted(program: str, options: Sequence[str], exchange: Exchange) -> Cost | None:
     """What a run over an exchange takes."""
     with tempfile.NamedTemporaryFile("r", encoding="utf-8", errors="replace") as counts:
@@ -126,6 +145,7 @@ def counted(program: str, options: Sequence[str], exchange: Exchange) -> Cost | 
 
 def cost_of(program: str, request: Request) -> Cost | None:
     """What one request takes, or None if one is replied to wrongly."""
+    program = str(BUILT_PRESS) if request.program == "press" else program
     one, many = (counted(program, request.options, request.before + request.counted * it) for it in (1, 1 + TIMES))
     if not one or not many:
         return None
@@ -137,6 +157,16 @@ def recorded() -> dict[str, Cost]:
     lines = COUNTS.read_text(encoding="utf-8").splitlines() if COUNTS.is_file() else []
     words = (it.split(" ", 2) for it in lines if not it.startswith("#"))
     return {name: Cost(float(instructions), float(allocations)) for instructions, allocations, name in words}
+
+
+def too_many(name: str, costs: Mapping[str, Cost | None]) -> str | None:
+    """What is to be said if a request takes too many instructions beside another, or None."""
+    times, other = AT_MOST[name]
+    mine, its = costs[name], costs[other]
+    if not mine or not its or mine.instructions <= times * its.instructions:
+        return None
+    taken = f"{mine.instructions:,.0f} instructions, more than {times} times the {its.instructions:,.0f}"
+    return f"{name}: {taken} of {other}"
 
 
 def judged(cost: Cost | None, was: Cost | None) -> tuple[bool, str]:
@@ -158,14 +188,14 @@ def main() -> int:
     parser.add_argument("--record", action="store_true", help="write counts.txt anew")
     parser.add_argument("program", nargs="?", default=str(BUILT_PROGRAM), metavar="PROGRAM")
     options = parser.parse_args()
-    fault = missing(options.program)
+    fault = missing(options.program) or missing(BUILT_PRESS)
     if fault:
         print(f"tests/cost/run: {fault}", file=sys.stderr)
         return 2
     if not shutil.which("valgrind"):
         print("tests/cost/run: valgrind isn't on the PATH, so nothing is counted\n0 passed, 0 failed")
         return 0
-    asked = list(requests())
+    asked = [*requests(), *links()]
     with ThreadPoolExecutor(2) as pool:
         costs = list(pool.map(lambda it: cost_of(options.program, it), asked))
     if options.record and all(costs):
@@ -178,5 +208,9 @@ def main() -> int:
         passes, said = judged(cost, was.get(request.name))
         failed += not passes
         print(f"{'' if passes else 'FAILED: '}{request.name}: {said}")
-    print(f"{len(asked) - failed} passed, {failed} failed")
+    by_name = {request.name: cost for request, cost in zip(asked, costs)}
+    for fault in filter(None, (too_many(name, by_name) for name in AT_MOST)):
+        failed += 1
+        print(f"FAILED: {fault}")
+    print(f"{len(asked) + len(AT_MOST) - failed} passed, {failed} failed")
     return 1 if failed else 0

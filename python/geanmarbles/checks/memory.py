@@ -1,10 +1,10 @@
 """Runs the program with each of its allocations refused in turn.
 
-    tests/memory/run [PROGRAM]
+    tests/memory/run [--lines FILE --replies FILE] [PROGRAM]
 
-PROGRAM is crates/site/out/site of this repository if it is left out. It reads script.jsonl, and refuse.c, loaded
-before the C library, refuses one allocation of the run: the first in one run, the second in the next, to the last. What
-must come of it is one of these:
+PROGRAM is crates/site/out/site of this repository if it is left out. It reads script.jsonl, whose replies are
+script.out, or the lines and replies of other files, and refuse.c, loaded before the C library, refuses one allocation
+of the run: the first in one run, the second in the next, to the last. What must come of it is one of these:
 
 - the program ends with status 1 and `site: out of memory`, the replies so far being those of script.out;
 - the reply to one line is `refused 11 OutOfMemory`, those before it are as in script.out, and those after it as in a
@@ -24,12 +24,14 @@ from collections import Counter
 from collections.abc import Iterable
 from concurrent.futures import ThreadPoolExecutor
 from pathlib import Path
+from typing import Any
 
 from geanmarbles.checks.programs import compiled, missing, parser_of
 from geanmarbles.client.replies import Wrong, shown, whole_replies
 from geanmarbles.paths import TESTS
 
 HERE = TESTS / "memory"
+LINES, REPLIES = HERE / "script.jsonl", HERE / "script.out"
 REFUSED = b"refused 11 OutOfMemory\n"
 SECONDS = 60
 # More turns than any page of the script has.
@@ -41,12 +43,14 @@ KEPT, CLOSED = "as it was", "closed"
 class Runs:
     """Runs of a program over the script, with the replies that each must write."""
 
-    def __init__(self, program: str, refuser: Path, count_file: Path) -> None:
+    def __init__(
+        self, program: str, refuser: Path, count_file: Path, lines: Path = LINES, replies: Path = REPLIES
+    ) -> None:
         self.program = program
         self.refuser = refuser
         self.count_file = count_file
-        self.lines = (HERE / "script.jsonl").read_bytes().splitlines(keepends=True)
-        self.replies = whole_replies((HERE / "script.out").read_bytes())
+        self.lines = lines.read_bytes().splitlines(keepends=True)
+        self.replies = whole_replies(replies.read_bytes())
         self.others: dict[int, dict[str, list[bytes]]] = {}
 
     def run(self, lines: Iterable[bytes], **variables: str) -> subprocess.CompletedProcess[bytes]:
@@ -57,7 +61,7 @@ class Runs:
         """How many allocations the whole script makes."""
         done = self.run(self.lines, REFUSE_COUNT=str(self.count_file))
         if done.returncode != 0 or whole_replies(done.stdout) != self.replies:
-            raise Wrong("with all memory, the output isn't script.out")
+            raise Wrong("with all memory, the output is another")
         return int(self.count_file.read_text())
 
     def expected(self, place: int) -> dict[str, list[bytes]]:
@@ -94,11 +98,11 @@ class Runs:
         raise Wrong(f"allocation {number}: what follows the refused line {place + 1} isn't as without it")
 
 
-def tried(program: str) -> tuple[int, int]:
+def tried(program: str, lines: Path, replies: Path) -> tuple[int, int]:
     """Refuses each allocation once, and says which lines passed and which were never refused."""
     with tempfile.TemporaryDirectory() as name:
         folder = Path(name)
-        runs = Runs(program, compiled(HERE / "refuse.c", folder), folder / "count")
+        runs = Runs(program, compiled(HERE / "refuse.c", folder), folder / "count", lines, replies)
         count = runs.count()
         with ThreadPoolExecutor(os.cpu_count()) as pool:
             came = Counter(pool.map(runs.judge, range(1, count + 1)))
@@ -112,13 +116,18 @@ def tried(program: str) -> tuple[int, int]:
 
 
 def main() -> int:
-    program = parser_of(__doc__).parse_args().program
+    parser = parser_of(__doc__)
+    how: dict[str, Any] = {"type": Path, "metavar": "FILE"}
+    parser.add_argument("--lines", default=LINES, help="the lines to read", **how)
+    parser.add_argument("--replies", default=REPLIES, help="the replies to them", **how)
+    options = parser.parse_args()
+    program = options.program
     if missing(program):
         print(f"FAILED: {missing(program)}")
         passed, failed = 0, 1
     else:
         try:
-            passed, failed = tried(program)
+            passed, failed = tried(program, options.lines, options.replies)
         except (Wrong, OSError, subprocess.SubprocessError) as error:
             print(f"FAILED: {error}")
             passed, failed = 0, 1

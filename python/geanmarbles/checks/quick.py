@@ -4,9 +4,9 @@
     tests/quick --sums
 
 Crates whose sources, definitions, proofs or edits changed are checked over the proofs that earlier checks kept in out/,
-then the program `site` is built by the toolchain's own, faster compiler and the rows are run against it, and then the
-wrong bodies of the changed crates and the other crates above them are tried. What passed is kept in out/quick.json.
-`./test` alone is the verdict: it proves everything from nothing, and tries the edits in must-fail/ too.
+then the programs `site` and `press` are built by the toolchain's own, faster compiler and the rows are run against
+them, and then the wrong bodies of the changed crates and the other crates above them are tried. What passed is kept in
+out/quick.json. `./test` alone is the verdict: it proves everything from nothing, and tries the edits in must-fail/ too.
 
 The last line is 'N passed, M failed'. With --sums, it prints what out/quick.json would have if all passed.
 """
@@ -21,7 +21,7 @@ from pathlib import Path
 from typing import Any
 
 from geanmarbles.arguments import Parser
-from geanmarbles.paths import ROOT
+from geanmarbles.paths import BUILT_PRESS, ROOT
 from geanmarbles.repository.crates import (
     EDITS,
     SOURCES,
@@ -107,6 +107,11 @@ def build_site(counts: Counts) -> bool:
     return counts.count(well, "site proved and built")
 
 
+def build_press(counts: Counts) -> bool:
+    """Proves and builds the program `press`, by the same compiler."""
+    return counts.count(run(["rt", "run", "--backend", "rattle"], "crates/press")[0], "press proved and built")
+
+
 def check_above(counts: Counts, crates: Crates, affected: set[str]) -> None:
     """Checks the crates above the changed ones that the program doesn't depend on, and runs their tests."""
     for name in lowest_first(crates, affected - below(crates, "site") - {"site"}):
@@ -132,12 +137,15 @@ def main() -> int:
     well = check_changed(counts, crates, changed)
     if well and ("site" in affected or not PROGRAM.is_file()):
         well = build_site(counts)
+    if well and ("press" in affected or not BUILT_PRESS.is_file()):
+        well = build_press(counts)
     if well:
         script(counts, ["tests/links/run"])
         script(counts, ["tests/scripts/run"])
         script(counts, ["tests/rows/run", str(PROGRAM)])
         script(counts, ["tests/browse/run", str(PROGRAM)])
         script(counts, ["tests/refusals/run", "--lists", "40", str(PROGRAM)])
+        script(counts, ["tests/press/run", str(BUILT_PRESS), str(PROGRAM)])
         script(counts, ["tests/from_wordpress/run", str(PROGRAM)])
         script(counts, ["tests/memory/run", str(PROGRAM)])
         script(counts, ["tests/ends/run", str(PROGRAM)])

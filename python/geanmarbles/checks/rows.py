@@ -11,6 +11,7 @@ a line of UTF-8. It is the first look after a change, and no verdict.
 Each FILE.json beside this script is a list of rows, and a row is an object:
 
     name           what the row shows; no two rows share one
+    program        the crate of the program that it runs, if that is another than PROGRAM: crates/NAME/out/NAME
     args           the program's arguments, a list of texts without zero bytes
     input          what the program reads from standard input
     status         the exit status that it must end with
@@ -54,7 +55,7 @@ from typing import Any
 
 from geanmarbles.arguments import Parser
 from geanmarbles.checks.programs import missing
-from geanmarbles.paths import BUILT_PROGRAM, EXAMPLES, ROOT, TESTS
+from geanmarbles.paths import BUILT_PROGRAM, CRATES, EXAMPLES, ROOT, TESTS
 
 # A row, and a row with the name of its file.
 Row = dict[str, Any]
@@ -80,7 +81,7 @@ CONTENT_TABLE = re.compile(r"^\| Content \| Printed \|.*\n\|[-|]+\|\n((?:\|.*\n)
 CODE = re.compile(r"`([^`]*)`")
 REQUIRED_KEYS = {"name", "args", "input", "status"}
 OUTPUT_KEYS = {"output", "output_begins", "output_any"}
-KNOWN_KEYS = REQUIRED_KEYS | OUTPUT_KEYS | {"stderr"}
+KNOWN_KEYS = REQUIRED_KEYS | OUTPUT_KEYS | {"program", "stderr"}
 
 
 class BadRows(Exception):
@@ -250,8 +251,17 @@ def ended_as(status: int) -> str:
     return f"was ended by signal {-status}" if status < 0 else f"ended with status {status}"
 
 
+def program_of(row: Row, program: Path) -> Path:
+    """The program that a row runs."""
+    other: str | None = row.get("program")
+    return CRATES / other / "out" / other if other else program
+
+
 def faults_of(row: Row, program: Path) -> list[str]:
     """Runs one row, and says in lines what was wrong; no line if nothing was."""
+    program = program_of(row, program)
+    if fault := missing(program):
+        return [fault]
     try:
         run = subprocess.run(
             [str(program), *arguments_of(row)], input=text_of(row["input"]), capture_output=True, timeout=SECONDS
@@ -304,7 +314,7 @@ def tried_faults(row: Row, said: str, run: str, status: str, written: bytes) -> 
     return faults
 
 
-def try_rows(rows: Sequence[Named]) -> list[list[str]]:
+def try_rows(rows: Sequence[Named], crate: str) -> list[list[str]]:
     """The faults of each row, by one `rt try` of them all, or what it said if it couldn't run them."""
     with tempfile.TemporaryDirectory(prefix="rows-") as room:
         for number, (_, row) in enumerate(rows):
@@ -314,7 +324,7 @@ def try_rows(rows: Sequence[Named]) -> list[list[str]]:
             if "output_any" not in row and "stderr" not in row:
                 wanted = text_of(row["output"] if "output" in row else row["output_begins"])
                 Path(room, f"{number}.stdout").write_bytes(wanted)
-        how: dict[str, Any] = {"cwd": ROOT / "crates" / "site", "stdin": subprocess.DEVNULL}
+        how: dict[str, Any] = {"cwd": CRATES / crate, "stdin": subprocess.DEVNULL}
         words = ["rt", "try", "--cases", room, "--seconds", str(TRY_SECONDS)]
         ran = subprocess.run(words, capture_output=True, **how)
     heads = [(int(head[1]), head.start(), head.end()) for head in re.finditer(rb"^== (\d+)\n", ran.stdout, re.M)]
@@ -334,12 +344,19 @@ def try_rows(rows: Sequence[Named]) -> list[list[str]]:
 
 
 def try_side_by_side(rows: Sequence[Named]) -> list[list[str]]:
-    """The faults of each row, by as many `rt try` as pay, each with its share of the rows."""
-    lanes = max(1, min(LANES, os.cpu_count() or 1, len(rows) // ROWS_A_LANE))
+    """The faults of each row, by as many `rt try` of each program as pay, each with its share of the rows."""
+    most = min(LANES, os.cpu_count() or 1)
+    shares: list[tuple[str, list[int]]] = []
+    for crate in sorted({row.get("program", "site") for _, row in rows}):
+        places = [place for place, (_, row) in enumerate(rows) if row.get("program", "site") == crate]
+        lanes = max(1, min(most, len(places) // ROWS_A_LANE))
+        shares += [(crate, places[lane::lanes]) for lane in range(lanes)]
     found: list[list[str]] = [[]] * len(rows)
-    with ThreadPoolExecutor(max_workers=lanes) as pool:
-        for lane, faults in enumerate(pool.map(try_rows, [rows[lane::lanes] for lane in range(lanes)])):
-            found[lane::lanes] = faults
+    with ThreadPoolExecutor(max_workers=most) as pool:
+        tried = pool.map(lambda share: try_rows([rows[place] for place in share[1]], share[0]), shares)
+        for (_, places), faults in zip(shares, tried):
+            for place, fault in zip(places, faults):
+                found[place] = fault
     return found
 
 

@@ -1,0 +1,5 @@
+mod Cuts
+mod Firsts
+mod InPlace
+mod Markup
+mod Steps

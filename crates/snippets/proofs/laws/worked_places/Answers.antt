@@ -1,0 +1,35 @@
+use Rattle.std.proofs.Common.{refl}
+use Rattle.snippets.proofs.laws.worked_places.Goals as goal
+
+pub returns-clause-text : goal.returns-clause-text
+returns-clause-text c = refl
+
+pub returns-clause-quotes : goal.returns-clause-quotes
+returns-clause-quotes c = refl
+
+pub returns-clause-no_quotes : goal.returns-clause-no_quotes
+returns-clause-no_quotes c = refl
+
+pub returns-clause-tag : goal.returns-clause-tag
+returns-clause-tag c = refl
+
+pub returns-clause-name : goal.returns-clause-name
+returns-clause-name c = refl
+
+pub returns-clause-script : goal.returns-clause-script
+returns-clause-script c = refl
+
+pub returns-clause-after_script : goal.returns-clause-after_script
+returns-clause-after_script c = refl
+
+pub returns-clause-style : goal.returns-clause-style
+returns-clause-style c = refl
+
+pub returns-clause-strong : goal.returns-clause-strong
+returns-clause-strong c = refl
+
+pub returns-clause-comment : goal.returns-clause-comment
+returns-clause-comment c = refl
+
+pub returns-clause-after_comment : goal.returns-clause-after_comment
+returns-clause-after_comment c = refl

@@ -1,0 +1,5 @@
+pub mod Places
+pub mod Templates
+pub mod Pieces
+pub mod Snippets
+pub mod Markup

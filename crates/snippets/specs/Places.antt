@@ -1,0 +1,155 @@
+-- Where in a page's markup a text ends, as a browser reads it (HTML Standard, Tokenization). Of markup that isn't well
+-- formed what a browser forgives isn't followed everywhere: a comment, say, ends at `-->` alone.
+use Rattle.std.specs.Prelude.{ℕ, Bool, true, false, ◌==◌, ◌||◌, ◌&&◌, if◌then◌else◌, [], ◌∷◌, length, codes, unwrap_or, Option, Some, None, option_map}
+use Rattle.std.specs.Char.{to_ascii_lowercase, is_ascii_alphabetic}
+use Rattle.plain_data.specs.Steps.{only_if}
+use Rattle.plain_data.specs.Texts.{Text}
+use Rattle.snippets.specs.declared.places.Element.{Element}
+use Rattle.snippets.specs.declared.places.Element.TheVariants.{Script, Style, Other}
+use Rattle.snippets.specs.declared.places.Place as code
+use Rattle.snippets.specs.declared.places.Place.TheVariants as variant
+
+pub data Place : Type 0 where
+  -- between tags
+  Between : Place
+  -- after a `<`
+  Opened : Place
+  -- after a `<!` or a `<?`, with so many `-` just before, of which two count
+  Comment : ℕ → Place
+  -- in the name of a tag, with what is left of `script` and of `style` if it has been of these so far
+  Name : Option Text → Option Text → Place
+  -- in a tag of the element: before an attribute's name, in it or after it, after its `=`, in a value without quotes, and
+  -- in one within two of the quote
+  Inside : Element → Place
+  Attribute : Element → Place
+  Equals : Element → Place
+  Bare : Element → Place
+  Quoted : ℕ → Element → Place
+  -- in the text of a script or a style, with what is left of `</script` or `</style`
+  Raw : Element → Text → Place
+
+-- white space (HTML Standard, ASCII whitespace), and what else ends a name: `/` is 47, `>` 62, `<` 60, `=` 61, `-` 45
+abbrev pub is_blank : ℕ → Bool
+is_blank b = b == 32 || b == 9 || b == 10 || b == 12 || b == 13
+
+abbrev pub is_gap : ℕ → Bool
+is_gap b = is_blank b || b == 47
+
+-- `"` and `'`
+abbrev pub is_quote : ℕ → Bool
+is_quote b = b == 34 || b == 39
+
+-- what is left of a word after a byte, if that is its next one, in either case
+abbrev pub word_after : Text → ℕ → Option Text
+word_after [] b = None
+word_after (c ∷ rest) b = only_if (to_ascii_lowercase b == c) rest
+
+abbrev pub name_after : Option Text → ℕ → Option Text
+name_after None b = None
+name_after (Some word) b = word_after word b
+
+-- whether a word has been read whole
+abbrev pub is_whole : Option Text → Bool
+is_whole None = false
+is_whole (Some left) = length left == 0
+
+-- the element of a tag's name
+abbrev pub element_of : Option Text → Option Text → Element
+element_of script style = if is_whole script then Script else (if is_whole style then Style else Other)
+
+-- what ends the text of an element that is no markup
+abbrev pub end_of : Element → Text
+end_of Script = codes "</script"
+end_of Style = codes "</style"
+end_of Other = []
+
+abbrev pub after_tag : Element → Place
+after_tag Script = Raw Script (end_of Script)
+after_tag Style = Raw Style (end_of Style)
+after_tag Other = Between
+
+abbrev pub after_angle : ℕ → Place
+after_angle b =
+    if is_ascii_alphabetic b then Name (word_after (codes "script") b) (word_after (codes "style") b)
+    else (if b == 47 then Name None None
+    else (if b == 33 || b == 63 then Comment 0
+    else (if b == 60 then Opened else Between)))
+
+abbrev pub in_comment : ℕ → ℕ → Place
+in_comment dashes b =
+    if b == 45 then Comment (if dashes == 0 then 1 else 2)
+    else (if b == 62 && dashes == 2 then Between else Comment 0)
+
+abbrev pub in_name : Option Text → Option Text → ℕ → Place
+in_name script style b =
+    if b == 62 then after_tag (element_of script style)
+    else (if is_gap b then Inside (element_of script style)
+    else Name (name_after script b) (name_after style b))
+
+abbrev pub in_tag : Element → ℕ → Place
+in_tag element b = if b == 62 then after_tag element else (if is_gap b then Inside element else Attribute element)
+
+abbrev pub in_attribute : Element → ℕ → Place
+in_attribute element b =
+    if b == 62 then after_tag element
+    else (if b == 61 then Equals element
+    else (if b == 47 then Inside element else Attribute element))
+
+abbrev pub after_equals : Element → ℕ → Place
+after_equals element b =
+    if b == 62 then after_tag element
+    else (if is_blank b then Equals element
+    else (if is_quote b then Quoted b element else Bare element))
+
+abbrev pub in_bare : Element → ℕ → Place
+in_bare element b = if b == 62 then after_tag element else (if is_blank b then Inside element else Bare element)
+
+abbrev pub in_quotes : ℕ → Element → ℕ → Place
+in_quotes quote element b = if b == quote then Inside element else Quoted quote element
+
+-- what is left of the end after a byte: it begins anew at each `<`
+abbrev pub end_after : Element → Text → ℕ → Text
+end_after element left b = unwrap_or (word_after left b) (unwrap_or (word_after (end_of element) b) (end_of element))
+
+abbrev pub in_raw : Element → Text → ℕ → Place
+in_raw element left b =
+    if length left == 0 && b == 62 then Between
+    else (if length left == 0 && is_gap b then Inside Other
+    else Raw element (end_after element left b))
+
+-- the place after one more byte
+abbrev pub next_place : Place → ℕ → Place
+next_place Between b = if b == 60 then Opened else Between
+next_place Opened b = after_angle b
+next_place (Comment dashes) b = in_comment dashes b
+next_place (Name script style) b = in_name script style b
+next_place (Inside element) b = in_tag element b
+next_place (Attribute element) b = in_attribute element b
+next_place (Equals element) b = after_equals element b
+next_place (Bare element) b = in_bare element b
+next_place (Quoted quote element) b = in_quotes quote element b
+next_place (Raw element left) b = in_raw element left b
+
+-- the place after a text
+abbrev pub place_after : Place → Text → Place
+place_after place [] = place
+place_after place (b ∷ rest) = place_after (next_place place b) rest
+
+-- where escaping makes a text safe: between tags, and within quotes
+abbrev pub takes_values : Place → Bool
+takes_values Between = true
+takes_values (Quoted quote element) = is_quote quote
+takes_values place = false
+
+-- a place of the code, by its texts
+abbrev pub place_now : code.Place → Place
+place_now variant.Between = Between
+place_now variant.Opened = Opened
+place_now (variant.Comment dashes) = Comment dashes
+place_now (variant.Name script style) = Name (option_map (λ left. left.now) script) (option_map (λ left. left.now) style)
+place_now (variant.Inside element) = Inside element
+place_now (variant.Attribute element) = Attribute element
+place_now (variant.Equals element) = Equals element
+place_now (variant.Bare element) = Bare element
+place_now (variant.Quoted quote element) = Quoted quote element
+place_now (variant.Raw element left) = Raw element left.now

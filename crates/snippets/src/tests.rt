@@ -1,0 +1,131 @@
+//! What some templates print: that anything is printed at all, no contract can say, since a body
+//! may report an allocation failure at each call.
+
+use crate::printing::printed;
+use hook_changes::{Call, Listed, Text};
+use shortcode_atts::parse;
+use std::alloc::{AllocError, Global};
+
+/// A template, the text of attributes, a content, and what is printed.
+const PRINTED: [(&str, &str, &str, &str); 32] = [
+    ("2026", "", "", "2026"),
+    (
+        "<a class=\"button\" href=\"{{href|#}}\">{{content|Read more}}</a>",
+        "href=/bread?a=1&b=2",
+        "",
+        "<a class=\"button\" href=\"/bread?a=1&amp;b=2\">Read more</a>",
+    ),
+    (
+        "<a href=\"{{href|#}}\">{{content}}</a>",
+        "href=' java\tSCRIPT:alert(1)'",
+        "<i>x</i>",
+        "<a href=\"\"><i>x</i></a>",
+    ),
+    ("{{a}}", "a='\"><script>'", "", "&quot;&gt;&lt;script&gt;"),
+    ("{{a|b}}", "a=''", "", ""),
+    ("{{a|b|c}}", "", "", "b|c"),
+    ("{{#a}}({{a}}){{/a}}.", "a=1", "", "(1)."),
+    ("{{#a}}({{a}}){{/a}}.", "", "", "."),
+    ("{{#a}}1{{#b}}2{{/b}}3{{/a}}4", "a=x", "", "134"),
+    ("{{#a}}1{{#b}}2{{/b}}3{{/a}}4", "b=x", "", "4"),
+    ("{{#a}}1{{/b}}2", "", "", ""),
+    ("{{#content}}<p>{{content}}</p>{{/content}}", "", "", ""),
+    (
+        "{{ a }} {{}} {{{a}}} {{a",
+        "a=1",
+        "",
+        "{{ a }} {{}} {{{a}}} {{a",
+    ),
+    (".a{color:red}.b{}}", "", "", ".a{color:red}.b{}}"),
+    ("{{^a}}none{{/a}}{{#a}}{{a}}{{/a}}", "", "", "none"),
+    ("{{^a}}none{{/a}}{{#a}}{{a}}{{/a}}", "a=1", "", "1"),
+    ("{{^content}}empty{{/content}}", "", "", "empty"),
+    ("{{^content}}empty{{/content}}", "", "x", ""),
+    ("{{2}}", "2=b", "", "b"),
+    (
+        "<script>x={{a}}</script>{{a}}",
+        "a=1",
+        "",
+        "<script>x=</script>1",
+    ),
+    (
+        "<Script>\"</b>\"{{a}}</SCRIPT >{{a}}",
+        "a=1",
+        "",
+        "<Script>\"</b>\"</SCRIPT >1",
+    ),
+    (
+        "<style>b{c:{{a}}}</style><strong>{{a}}",
+        "a=1",
+        "",
+        "<style>b{c:}</style><strong>1",
+    ),
+    (
+        "<!-- {{a}} ---->{{a}}<!-->{{a}}",
+        "a=1",
+        "",
+        "<!--  ---->1<!-->1",
+    ),
+    (
+        "<a href={{a}} title={{a|x}}>{{a}}</a>",
+        "a=1",
+        "",
+        "<a href= title=>1</a>",
+    ),
+    (
+        "<a href={{b}} title={{b|x}}>{{a}}</a>",
+        "a=1",
+        "",
+        "<a href= title=x>1</a>",
+    ),
+    (
+        "<a href = '{{a}}' {{a}} b=\"{{a}}\"{{a}}>{{a}}",
+        "a=1",
+        "",
+        "<a href = '1'  b=\"1\">1",
+    ),
+    ("<a =\"{{a}}\">", "a=1", "", "<a =\"\">"),
+    ("<h{{a}}>{{a}}</h{{a}}>{{a}}", "a=1", "", "<h>1</h>1"),
+    ("<h{{b|2}} class=\"{{a}}\">", "a=1", "", "<h2 class=\"1\">"),
+    ("1 < {{a}} <{{a}}", "a=1", "", "1 < 1 <"),
+    (
+        "<img src=\"/{{a}}.jpg\"/>{{a}}",
+        "a=1",
+        "",
+        "<img src=\"/1.jpg\"/>1",
+    ),
+    (
+        "<p title=\"{{content}}{{a}}\">{{a}}",
+        "a=1",
+        "\">",
+        "<p title=\"\">1\">1",
+    ),
+];
+
+/// Returns whether a template prints this.
+fn is_printed(
+    alloc: Global,
+    template: &str,
+    atts: &str,
+    content: &str,
+    wanted: &str,
+) -> Result<bool, AllocError> {
+    let call = Call {
+        hook: Text::empty(alloc),
+        args: Listed::empty(alloc),
+        tag: Text::empty(alloc),
+        atts: parse(alloc, atts)?,
+        content: Text::empty(alloc),
+        answers: Listed::empty(alloc),
+    };
+    let text = printed(alloc, template, &call, content)?;
+    Ok(text.as_str() == wanted)
+}
+
+#[test]
+fn templates_are_printed(rt: HostRuntime) {
+    let alloc = rt.alloc();
+    for (template, atts, content, wanted) in &PRINTED {
+        assert!(rt; is_printed(alloc, template, atts, content, wanted).unwrap_or(false));
+    }
+}
