@@ -20,11 +20,11 @@ use Rattle.site_program.specs.State.{State, empty_under}
 use Rattle.site_program.specs.Step.{step}
 use Rattle.site_program.specs.History.{site_after}
 use Rattle.site_serving.proofs.Histories.{state_after-append}
-use Rattle.short_lines.specs.Stored.{IsId, IsPost, AreStored, RisesFrom}
-use Rattle.short_lines.proofs.Readings.{delete-is}
-use Rattle.short_lines.proofs.Maps.{set-again, put-again}
-use Rattle.short_lines.proofs.Posts.{UpTo, largest_stays, largest_reached}
-use Rattle.short_lines.proofs.Stages.{AreUtf8, utf8_first, utf8_later, over, more_posts, step-is, one_more, import_step, batches_after, options-after, templates-after, active-after}
+use Rattle.site_laws.specs.Stored.{IsId, IsPost, AreStored, RisesFrom}
+use Rattle.site_laws.proofs.Readings.{delete-is}
+use Rattle.site_laws.proofs.Maps.{set-again, put-again}
+use Rattle.site_laws.proofs.Posts.{UpTo, largest_stays, largest_reached}
+use Rattle.site_laws.proofs.Stages.{AreUtf8, utf8_first, utf8_later, over, more_posts, step-is, one_more, import_step, batches_after, options-after, templates-after, active-after}
 
 all_above : (n : ℕ) (ps : List Post) → RisesFrom n ps → filter (λ p. nat_lt 0 p.id) ps ≡ ps
 all_above n [] rises = refl

@@ -5,7 +5,7 @@ ghost use Rattle.plain_data.specs.Texts.{Text};
 ghost use Rattle.site_commands.specs.Asked.{activate, delete, edit, option};
 ghost use Rattle.site_commands.specs.Worked.{line_command};
 ghost use Rattle.site_export.specs.Lines.{activate_line, delete_line, edit_line, option_line};
-ghost use Rattle.short_lines.specs.Stored.{IsId, IsOptionName};
+ghost use Rattle.site_laws.specs.Stored.{IsId, IsOptionName};
 
 /// A law: each short line, printed from what a site may store, is the command that it says. A
 /// program prints its lines in UTF-8, as texts are.

@@ -6,7 +6,7 @@ use Rattle.std.proofs.lemmas.Bool.{cases_Bool, lt-ltb, ne_eqb, eq-eqb, eqb-true}
 use Rattle.std.proofs.lemmas.List.{append_assoc}
 use Rattle.site_records.specs.declared.post.Post.{Post}
 use Rattle.post_tables.specs.Rows.{PostEdit, with_post, with_posts, largest_of, has_post, are_new, edited_post, edited_posts}
-use Rattle.short_lines.specs.Stored.{IsPost, RisesFrom}
+use Rattle.site_laws.specs.Stored.{IsPost, RisesFrom}
 
 or_true : (b : Bool) → (b || true) ≡ true
 or_true true = refl

@@ -35,8 +35,8 @@ use Rattle.site_commands.specs.Asked as asked
 use Rattle.site_commands.specs.Worked.{line_command}
 use Rattle.site_replies.specs.Reply.{done}
 use Rattle.site_export.specs.Lines.{post_tokens, import_line, room_of, fits}
-use Rattle.short_lines.specs.Stored.{IsPost}
-use Rattle.short_lines.proofs.Readings.{line-is, small, id_is}
+use Rattle.site_laws.specs.Stored.{IsPost}
+use Rattle.site_laws.proofs.Readings.{line-is, small, id_is}
 
 -- ---- one post
 

@@ -21,11 +21,11 @@ use Rattle.site_program.specs.State.{State}
 use Rattle.site_program.specs.Step.{step, carried_out}
 use Rattle.site_program.specs.History.{site_after}
 use Rattle.site_serving.proofs.Histories.{state_after-append}
-use Rattle.short_lines.specs.Stored.{IsId, IsPost, IsOption, IsTemplate, RisesFrom}
-use Rattle.short_lines.proofs.Readings.{activate-is, option-is, title-is, content-is}
-use Rattle.short_lines.proofs.Imports.{import-is, import-does, few_fit}
-use Rattle.short_lines.proofs.Templates.{template-is, template-does}
-use Rattle.short_lines.proofs.Posts.{UpTo, more_up, up_append, put_lasts, new_lasts, edited_last, has_last, largest_append, all_first, all_later, last_of, rise_first, rise_later, last_above, all_up}
+use Rattle.site_laws.specs.Stored.{IsId, IsPost, IsOption, IsTemplate, RisesFrom}
+use Rattle.site_laws.proofs.Readings.{activate-is, option-is, title-is, content-is}
+use Rattle.site_laws.proofs.Imports.{import-is, import-does, few_fit}
+use Rattle.site_laws.proofs.Templates.{template-is, template-does}
+use Rattle.site_laws.proofs.Posts.{UpTo, more_up, up_append, put_lasts, new_lasts, edited_last, has_last, largest_append, all_first, all_later, last_of, rise_first, rise_later, last_above, all_up}
 
 abbrev pub AreUtf8 : List Text → Type 0
 AreUtf8 lines = AllByRecursion (λ l. is_utf8 l ≡ true) lines

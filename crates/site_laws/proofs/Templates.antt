@@ -23,8 +23,8 @@ use Rattle.site_commands.specs.Worked.{line_command}
 use Rattle.site_edits.specs.Templates.{set_template}
 use Rattle.site_replies.specs.Reply.{done}
 use Rattle.site_export.specs.Lines.{template_line}
-use Rattle.short_lines.specs.Stored.{IsTemplate}
-use Rattle.short_lines.proofs.Readings.{line-is}
+use Rattle.site_laws.specs.Stored.{IsTemplate}
+use Rattle.site_laws.proofs.Readings.{line-is}
 
 template_json : Text → Json → Json
 template_json name body =

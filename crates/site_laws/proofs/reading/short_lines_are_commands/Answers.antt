@@ -1,5 +1,5 @@
-use Rattle.short_lines.proofs.Readings.{activate-is, option-is, delete-is, title-is, content-is}
-use Rattle.short_lines.proofs.reading.short_lines_are_commands.Goals as goal
+use Rattle.site_laws.proofs.Readings.{activate-is, option-is, delete-is, title-is, content-is}
+use Rattle.site_laws.proofs.reading.short_lines_are_commands.Goals as goal
 
 pub returns-clause-activate : goal.returns-clause-activate
 returns-clause-activate c = activate-is

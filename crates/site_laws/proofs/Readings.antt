@@ -23,7 +23,7 @@ use Rattle.site_commands.specs.Asked as asked
 use Rattle.site_commands.specs.Tree.{tree_of}
 use Rattle.site_commands.specs.Worked.{line_command}
 use Rattle.site_export.specs.Lines.{activate_line, option_line, delete_line, edit_line}
-use Rattle.short_lines.specs.Stored.{IsId, IsOptionName}
+use Rattle.site_laws.specs.Stored.{IsId, IsOptionName}
 
 -- a JSON value that is printed is read back
 pub read-print : (j : Json) (d : Data) → HasNumbers j → depth j ≤ max_depth → of_json j ≡ Some d → read (print (json_tokens j)) ≡ Some d

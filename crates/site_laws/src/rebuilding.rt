@@ -7,7 +7,7 @@ ghost use Rattle.hook_meaning.specs.Meaning.{Engine};
 ghost use Rattle.post_tables.specs.Rows.{Rows};
 ghost use Rattle.site_export.specs.Lines.{IsHistory};
 ghost use Rattle.site_program.specs.History.{rows_after};
-ghost use Rattle.short_lines.specs.Stored.{AreStored};
+ghost use Rattle.site_laws.specs.Stored.{AreStored};
 
 /// A law: short lines rebuild the rows that they are printed of. If rows are such as a site may
 /// have, then a new site that carries out short lines of them has the same posts, options,
