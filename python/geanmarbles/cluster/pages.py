@@ -12,21 +12,8 @@ from geanmarbles.cluster.commands import carry_out, check_token, request_of
 from geanmarbles.cluster.etcd import Refused, Unreachable, WentBack, reason_of
 from geanmarbles.cluster.replica import Fault
 from geanmarbles.cluster.site_node import WAIT_SECONDS, Node
-from geanmarbles.web.edit_bodies import Bad, check_length
-from geanmarbles.web.pages import NoPage, PageHandler, PageServer
-
-# How long a client may take to send a body.
-BODY_SECONDS = 60
-# How much of a body is read that isn't taken.
-PASSED_BYTES = 1 << 26
-# The most digits of a number in a header: those of etcd's largest revision.
-DIGITS = 19
-
-
-def number(text: str) -> int | None:
-    """The number that a text is, or None."""
-    text = text.strip()
-    return int(text) if text.isascii() and text.isdigit() and len(text) <= DIGITS else None
+from geanmarbles.web.edit_bodies import Bad, EditHandler, number
+from geanmarbles.web.pages import NoPage, PageServer
 
 
 class Server(PageServer):
@@ -56,12 +43,10 @@ class Server(PageServer):
             self.turn.wait_for(lambda: not self.busy, seconds)
 
 
-class Handler(PageHandler):
+class Handler(EditHandler):
     """The requests of one connection to a node."""
 
     server: Server
-    # Whether the body of the request under way is read, or is being read.
-    is_read: bool
 
     protocol_version = "HTTP/1.1"
     server_version = "site-node"
@@ -134,10 +119,6 @@ class Handler(PageHandler):
         cookies = [it.strip().partition("=") for it in self.headers.get("Cookie", "").split(";")]
         return next((number(value) or 0 for name, _, value in cookies if name == "site_revision"), 0)
 
-    def length(self) -> int | None:
-        """How many bytes the body has, or None if that isn't told."""
-        return None if "Transfer-Encoding" in self.headers else number(self.headers.get("Content-Length", ""))
-
     # Edits.
 
     def do_POST(self) -> None:
@@ -161,22 +142,6 @@ class Handler(PageHandler):
             cookie = f"site_revision={result.place}; Path=/; HttpOnly; SameSite=Lax"
             headers |= {"X-Site-Revision": str(result.place), "Set-Cookie": cookie}
         self.respond(result.status, "text/plain", "".join(f"{it}\n" for it in result.replies).encode(), headers)
-
-    def body(self) -> bytes:
-        size = check_length(self.length())
-        self.server.allow(self.connection, BODY_SECONDS)
-        self.is_read = True
-        body = self.rfile.read(size)
-        if len(body) < size:
-            raise Bad(400, "the body is shorter than its Content-Length")
-        return body
-
-    def pass_over_body(self) -> None:
-        """Reads what is left of a body, within bounds: a client that still sends would lose the response."""
-        left = 0 if self.is_read else min(self.length() or 0, PASSED_BYTES)
-        while left > 0:
-            came = self.rfile.read1(min(left, 1 << 16))
-            left = left - len(came) if came else 0
 
     # Health.
 

@@ -71,14 +71,12 @@ from geanmarbles.paths import EXAMPLES
 from geanmarbles.repository.unproved import MINUTES, NotRun
 from geanmarbles.supervisor.programs import FIRST_SECONDS, MARGIN, Explained, NotServed, Plain, Site, Unknown
 from geanmarbles.supervisor.recorded import Missing, Recorded
-from geanmarbles.web.edit_bodies import Bad, check_length, check_token, lines_of_body
+from geanmarbles.web.edit_bodies import Bad, EditHandler, check_token, lines_of_body
 from geanmarbles.web.edit_requests import COMMAND, HISTORY, Edits, token_of
-from geanmarbles.web.pages import NoPage, PageHandler, PageServer
+from geanmarbles.web.pages import NoPage, PageServer
 
 BAKERY = EXAMPLES / "bakery.jsonl"
 ADDRESS = "127.0.0.1"
-# How long a client may take to send a body, and how much of one is read that isn't taken.
-BODY_SECONDS, PASSED_BYTES = 60, 1 << 26
 # The names by which a browser on this machine can mean this machine, with any port or none.
 HERE = re.compile(r"(127\.0\.0\.1|localhost|\[::1\])(:[0-9]*)?", re.I)
 NOT_MADE = (
@@ -141,12 +139,10 @@ class Server(PageServer):
         super().service_actions()
 
 
-class Handler(PageHandler):
+class Handler(EditHandler):
     """The request of one connection."""
 
     server: Server
-    # Whether the body of the request under way is read, or is being read.
-    is_read: bool
 
     def is_taken(self) -> bool:
         return self.is_for_here() and (self.is_an_edit() or self.is_read_only())
@@ -202,28 +198,6 @@ class Handler(PageHandler):
         else:
             told = "".join(f"{it}\n" for it in outcome.replies).encode()
             self.respond(outcome.status, "text/plain", told, {"Idempotency-Key": key})
-
-    def length(self) -> int | None:
-        """How many bytes the body has, or None if that isn't told."""
-        given = self.headers.get("Content-Length", "")
-        is_number = given.isascii() and given.isdigit() and len(given) < 20
-        return int(given) if is_number and "Transfer-Encoding" not in self.headers else None
-
-    def body(self) -> bytes:
-        size = check_length(self.length())
-        self.server.allow(self.connection, BODY_SECONDS)
-        self.is_read = True
-        body = self.rfile.read(size)
-        if len(body) < size:
-            raise Bad(400, "the body is shorter than its Content-Length")
-        return body
-
-    def pass_over_body(self) -> None:
-        """Reads what is left of a body, within bounds: a client that still sends would lose the response."""
-        left = 0 if self.is_read else min(self.length() or 0, PASSED_BYTES)
-        while left > 0:
-            came = self.rfile.read1(min(left, 1 << 16))
-            left = left - len(came) if came else 0
 
     def page_of(self, path: str) -> tuple[Reply, dict[str, str]]:
         begun = time.monotonic()

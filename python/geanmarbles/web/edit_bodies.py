@@ -1,4 +1,4 @@
-"""What a request that brings edits may hold, of a node of a cluster and of examples/browse.
+"""What a request that brings edits may hold, and how its body is read: of a node of a cluster and of examples/browse.
 
 docs/CLUSTER.md (Requests) says the same to those who send one.
 """
@@ -9,10 +9,15 @@ import re
 import secrets
 
 from geanmarbles.client.program import LINE_BYTES
+from geanmarbles.web.pages import PageHandler
 
 EDITS = {"put", "edit", "delete", "option", "activate", "deactivate", "template", "import"}
 # What one request may hold.
 BODY_BYTES, BODY_LINES = 8 << 20, 10_000
+# How long a client may take to send a body, and how much of one is read that isn't taken.
+BODY_SECONDS, PASSED_BYTES = 60, 1 << 26
+# The most digits of a number in a header: those of etcd's largest revision.
+DIGITS = 19
 # A client's own key for a request.
 KEY = re.compile(r"[!-~]{1,200}")
 
@@ -23,6 +28,12 @@ class Bad(Exception):
     def __init__(self, status: int, text: str, **headers: str) -> None:
         super().__init__(text)
         self.status, self.text, self.headers = status, text, headers
+
+
+def number(text: str) -> int | None:
+    """The number that a text is, or None."""
+    text = text.strip()
+    return int(text) if text.isascii() and text.isdigit() and len(text) <= DIGITS else None
 
 
 def check_token(token: bytes, given: str | None) -> None:
@@ -80,3 +91,30 @@ def fault_of(line: bytes) -> str:
     if not isinstance(name, str) or name not in EDITS:
         return "its `cmd` isn't an edit's: " + ", ".join(sorted(EDITS))
     return ""
+
+
+class EditHandler(PageHandler):
+    """The requests of one connection that may bring edits."""
+
+    # Whether the body of the request under way is read, or is being read.
+    is_read: bool
+
+    def length(self) -> int | None:
+        """How many bytes the body has, or None if that isn't told."""
+        return None if "Transfer-Encoding" in self.headers else number(self.headers.get("Content-Length", ""))
+
+    def body(self) -> bytes:
+        size = check_length(self.length())
+        self.server.allow(self.connection, BODY_SECONDS)
+        self.is_read = True
+        body = self.rfile.read(size)
+        if len(body) < size:
+            raise Bad(400, "the body is shorter than its Content-Length")
+        return body
+
+    def pass_over_body(self) -> None:
+        """Reads what is left of a body, within bounds: a client that still sends would lose the response."""
+        left = 0 if self.is_read else min(self.length() or 0, PASSED_BYTES)
+        while left > 0:
+            came = self.rfile.read1(min(left, 1 << 16))
+            left = left - len(came) if came else 0
