@@ -5,3 +5,11 @@ pub mod Posts
 pub mod Templates
 pub mod Stages
 pub mod Rebuilt
+pub mod Results
+pub mod Trees
+pub mod Shapes
+pub mod Entries
+pub mod Inserted
+pub mod Commands
+pub mod Imported
+pub mod Kept

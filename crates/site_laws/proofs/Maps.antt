@@ -10,12 +10,12 @@ use Rattle.std.proofs.lemmas.List.{append_assoc}
 use Rattle.plain_data.specs.Texts.{Text}
 use Rattle.post_tables.specs.Rows.{by_bytes, Named, Names, set_all, put_all}
 
-is_true : (b : Bool) → T b → b ≡ true
+pub is_true : (b : Bool) → T b → b ≡ true
 is_true true h = refl
 is_true false h = absurd h
 
 -- what is greater is no equal
-greater : (x k : Text) → is_lt (by_bytes x k) ≡ true → eq_by_cmp by_bytes k x ≡ false
+pub greater : (x k : Text) → is_lt (by_bytes x k) ≡ true → eq_by_cmp by_bytes k x ≡ false
 greater x k less = ap is_eq (nat_list_cmp_total.antisymm k x) ∙ by (by_bytes x k) less
   where
     by : (o : _) → is_lt o ≡ true → is_eq (ordering_reverse o) ≡ false
@@ -25,7 +25,7 @@ greater x k less = ap is_eq (nat_list_cmp_total.antisymm k x) ∙ by (by_bytes x
 
 module _ {X : Type 0} where
   -- a key that comes later in a sorted list isn't before
-  below_later : (x : Text) (xs ys : List (Text × X)) (e : Text × X) → below_all by_bytes x (xs ++ e ∷ ys) ≡ true → is_lt (by_bytes x e.0) ≡ true
+  pub below_later : (x : Text) (xs ys : List (Text × X)) (e : Text × X) → below_all by_bytes x (xs ++ e ∷ ys) ≡ true → is_lt (by_bytes x e.0) ≡ true
   below_later x [] ys e h = (and_parts _ _ h).0
   below_later x (y ∷ xs) ys e h = below_later x xs ys e ((and_parts _ _ h).1)
 

@@ -20,3 +20,19 @@ pub fn short_lines_rebuild_the_rows()
         → IsHistory rows lines
         → rows_after engine calls limit lines ≡ record rows { step_limit = limit } }
 {}
+
+/// A law: the rows of a site are such as a site may have, whatever lines a new site has carried out.
+pub fn rows_are_stored()
+    ensures { (engine : Engine) (calls : ℕ) (limit : Option ℕ) (lines : List Text)
+        → AreStored engine.plugins (rows_after engine calls limit lines) }
+{}
+
+/// A law: a history that is shortened makes the same rows. Whatever lines a new site has carried
+/// out, another new site that carries out short lines of its rows has the same rows. The short lines
+/// are in UTF-8, as a program prints them.
+pub fn short_lines_make_the_same_rows()
+    ensures { (engine : Engine) (calls : ℕ) (limit : Option ℕ) (lines short : List Text)
+        → AllByRecursion (λ line. is_utf8 line ≡ true) short
+        → IsHistory (rows_after engine calls limit lines) short
+        → rows_after engine calls limit short ≡ rows_after engine calls limit lines }
+{}
