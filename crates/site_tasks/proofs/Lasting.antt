@@ -1,6 +1,5 @@
 -- From what a run says of its journal to what an open finds afterwards.
 use Rattle.std.proofs.Common.{◌≡◌, ◌∙◌, ℕ, Bool, true, false, List, [], ◌++◌, Option, Some, None, refl, sym, ap, subst, subst₂, append-nil}
-use Rattle.std.proofs.Math.Logic.{∥∥₁_map}
 use Rattle.std.specs.Prelude.{IsTrue, IfSome, if◌then◌else◌}
 use Rattle.byte_io.specs.Journal.{Grows}
 use Rattle.byte_io.specs.Known.{AppendsFront}
@@ -12,7 +11,7 @@ use Rattle.sqlite.specs.Recovery.{Image}
 use Rattle.sqlite.specs.State.{HasCleanDisk}
 use Rattle.sqlite_store.specs.declared.store.FileStore.{FileStore}
 use Rattle.command_log.specs.Found.{Finds}
-use Rattle.command_log.specs.Lines.{IsOpen, lines_of}
+use Rattle.command_log.specs.Lines.{lines_of}
 use Rattle.site_journal.specs.Known.{known_lines}
 use Rattle.site_replies.specs.Reply.{ReplyData}
 use Rattle.site_serving.specs.Journaled.{KeepsAhead}

@@ -1,21 +1,24 @@
 //! Serving an input into the log in a file.
-ghost use Rattle.std.specs.Prelude.{◌≡◌, ℕ, List, false, IfOk};
+ghost use Rattle.std.specs.Prelude.{◌≡◌, ℕ, List, false, IfOk, IfErr, IfSome};
 ghost use Rattle.command_log.specs.Found.{FindsOnlySuch};
-ghost use Rattle.site_tasks.specs.Lasting.{Lasts};
+ghost use Rattle.site_start.specs.Started.{IsLeftBy};
+ghost use Rattle.site_tasks.specs.Lasting.{IsOpenedFrom, Lasts};
 ghost use Rattle.sqlite.specs.FileStore.{view};
+ghost use Rattle.sqlite.specs.Recovery.{Image};
 ghost use Rattle.sqlite.specs.View.{IsClean};
 ghost use Rattle.sqlite.specs.WalFiles.{image_at};
 
 use crate::status::{failed, failed_at};
 use byte_io::Source;
-use command_log::LogFault;
+use command_log::{CommandLog, LogFault};
 use page_trace::Watch;
 use site_journal::{LogJournal, Steady};
 use site_replies::ServeFault;
 use site_serving::{Commands, serve};
-use site_start::{StartFault, open_site};
+use site_start::{StartFault, start};
 use sqlite::{FileFrom, FileStore, Start, Wary};
 use sqlite_disk::Disk;
+use std::alloc::Global;
 use std::process::ExitCode;
 
 /// What is left of a file and of the client's end after the file was served.
@@ -31,10 +34,58 @@ pub struct Served<D: Disk, W> {
     pub sink: W,
 }
 
-/// Makes the site anew by the log in a file, whose first line has to be the identity, and serves the
-/// input into that log: edits are committed before the replies to them are written.
+/// Makes the site anew by a log, whose first line has to be the identity, and serves the input into
+/// that log: edits are committed before the replies to them are written.
 ///
-/// On `Err` no line of the input was read. However serving ends, `Served` has the files.
+/// On `Err` no line of the input was read. However serving ends, the log's files come back.
+pub fn serve_log<C: Commands, D: Disk + Drop, R: Source, W: Steady + Drop, V: Watch>(
+    alloc: Global,
+    mut log: CommandLog<FileStore<D>>,
+    site: &mut C,
+    identity: &str,
+    reader: &mut R,
+    sink: W,
+    watch: &mut V,
+) -> Result<Served<D, W>, (StartFault, FileStore<D>)>
+    requires reader { R.has_failed reader.old ≡ false }
+    requires sink { W.has_failed sink ≡ false }
+
+    // Whatever a crash leaves of the files, an open of them finds the lines that they held and then
+    // the edits done at some first lines of the input; and what was written to the sink is the
+    // beginning of the replies to exactly these lines.
+    ensures lasts { (image : Image) → IsOpenedFrom image log
+        → IfOk result (λ served. IsClean (view served.files)
+        → FindsOnlySuch served.files (Lasts (C.steps (C.fixed site.old))
+        (C.replies (C.fixed site.old)) C.keeps image identity.now
+        (C.state site.old) (C.state site.new) (R.remaining reader.old)
+        (W.contents sink) (W.contents served.sink))) }
+
+    // If the log was not taken over, it finds the lines that they held, or the identity alone.
+    ensures refused { (image : Image) → IsOpenedFrom image log
+        → IfErr result (λ e. IsClean (view e.1)
+        → FindsOnlySuch e.1 (IsLeftBy image identity.now)) }
+{
+    log.law_left_by_a_crash();
+    match start(alloc, site, &mut log, identity) {
+        Ok(()) => {
+            let mut journal = LogJournal::new(alloc, log, sink);
+            let result = serve(alloc, site, reader, &mut journal, watch);
+            let fault = journal.fault();
+            let (log, sink) = journal.into_parts();
+            Ok(Served {
+                result,
+                fault,
+                files: log.into_store(),
+                sink,
+            })
+        }
+        Err(fault) => Err((fault, log.into_store())),
+    }
+}
+
+/// Opens the log in a file, or makes it, and serves the input into it as [`serve_log`] does.
+///
+/// A fault comes with the files, if they could be opened as a log.
 pub fn serve_file<C: Commands, S: Start, R: Source, W: Steady + Drop, V: Watch>(
     rt: &HostRuntime,
     path: &str,
@@ -44,7 +95,7 @@ pub fn serve_file<C: Commands, S: Start, R: Source, W: Steady + Drop, V: Watch>(
     reader: &mut R,
     sink: W,
     watch: &mut V,
-) -> Result<Served<FileFrom<S>, W>, StartFault>
+) -> Result<Served<FileFrom<S>, W>, (StartFault, Option<FileStore<FileFrom<S>>>)>
     requires reader { R.has_failed reader.old ≡ false }
     requires sink { W.has_failed sink ≡ false }
 
@@ -56,21 +107,18 @@ pub fn serve_file<C: Commands, S: Start, R: Source, W: Steady + Drop, V: Watch>(
         (C.replies (C.fixed site.old)) C.keeps (image_at S.Start) identity.now
         (C.state site.old) (C.state site.new) (R.remaining reader.old)
         (W.contents sink) (W.contents served.sink))) }
+
+    // If the log was not taken over, it finds the lines that they held, or the identity alone.
+    ensures refused { IfErr result (λ e. IfSome e.1 (λ files. IsClean (view files)
+        → FindsOnlySuch files (IsLeftBy (image_at S.Start) identity.now))) }
 {
-    match open_site(rt, path, files, site, identity) {
-        Ok(log) => {
-            let mut journal = LogJournal::new(rt.alloc(), log, sink);
-            let result = serve(rt.alloc(), site, reader, &mut journal, watch);
-            let fault = journal.fault();
-            let (log, sink) = journal.into_parts();
-            Ok(Served {
-                result,
-                fault,
-                files: log.into_store(),
-                sink,
-            })
-        }
-        Err((fault, _log)) => Err(fault),
+    let log = match CommandLog::open(rt, path, files) {
+        Ok(log) => log,
+        Err(fault) => return Err((StartFault::Log(fault), None)),
+    };
+    match serve_log(rt.alloc(), log, site, identity, reader, sink, watch) {
+        Ok(served) => Ok(served),
+        Err((fault, files)) => Err((fault, Some(files))),
     }
 }
 
@@ -93,7 +141,7 @@ pub fn serve_path<C: Commands, R: Source, W: Steady + Drop, V: Watch>(
 {
     match serve_file(rt, path, Wary, site, identity, reader, sink, watch) {
         Ok(served) => finish(rt, served),
-        Err(fault) => failed_at(rt, path, fault),
+        Err((fault, _files)) => failed_at(rt, path, fault),
     }
 }
 

@@ -9,6 +9,6 @@ mod files;
 mod history;
 mod status;
 
-pub use files::{Served, serve_file, serve_path};
+pub use files::{Served, serve_file, serve_log, serve_path};
 pub use history::{compact, export};
 pub use status::failed;
