@@ -6,13 +6,14 @@ from typing import TYPE_CHECKING, NamedTuple
 
 from geanmarbles.cluster.etcd import Refused, Unreachable, WentBack, reason_of
 from geanmarbles.cluster.history import OtherBody, sum_of
-from geanmarbles.web.edit_bodies import Bad, check_token as check_bearer, key_of, lines_of_body
+from geanmarbles.cluster.tokens import Tokens
+from geanmarbles.web.edit_bodies import Bad, lines_of_body
 
 if TYPE_CHECKING:
     from geanmarbles.cluster.site_node import Node
 
-# How long one line may take.
-LINE_SECONDS = 12
+# How long one line may take, and how long the program may owe a reply before no edit is taken.
+LINE_SECONDS, OWES_SECONDS = 12, 5
 
 
 class Request(NamedTuple):
@@ -34,24 +35,29 @@ class Result(NamedTuple):
     place: int
 
 
-def check_token(token: bytes | None, given: str | None) -> None:
-    """Makes sure that a request may edit."""
-    if token is None:
+def name_of(tokens: Tokens | None, given: str | None) -> str:
+    """The name of whoever edits by a request, which has to have a token."""
+    if tokens is None:
         raise Bad(403, "this node takes no edits: it was started without a token")
-    check_bearer(token, given)
+    return tokens.name_of(given)
 
 
-def request_of(key: str | None, body: bytes) -> Request:
+def request_of(key: str, body: bytes) -> Request:
     """The request that a body makes. Each line is looked at before any is carried out."""
     lines = lines_of_body(body)
-    return Request(key_of(key), lines, sum_of(b"\n".join(lines)) if len(lines) > 1 else "")
+    return Request(key, lines, sum_of(b"\n".join(lines)) if len(lines) > 1 else "")
+
+
+def check_ready(node: Node) -> None:
+    """Makes sure that a node can take edits now. They wait for a slow program longer than visitors should."""
+    why = node.state(OWES_SECONDS)
+    if why:
+        raise Bad(503, ": ".join(why), Retry_After="1")
 
 
 def carry_out(node: Node, request: Request) -> Result:
     """Makes each line an edit, one after the other, and waits for its reply."""
-    why = node.state()
-    if why:
-        raise Bad(503, ": ".join(why), Retry_After="1")
+    check_ready(node)
     replies: list[str] = []
     place = 0
     for number in range(1, len(request.lines) + 1):

@@ -61,6 +61,11 @@ class Lost(Exception):
     """An endpoint was sent a call and hasn't answered, or has failed at it."""
 
 
+def text_of(fault: BaseException) -> str:
+    """What a fault says, or of which kind it is if it says nothing."""
+    return str(fault) or type(fault).__name__
+
+
 def encoded(text: bytes) -> str:
     return base64.b64encode(text).decode()
 
@@ -159,7 +164,7 @@ class Etcd:
             status, text = response.status, response.read()
         except (OSError, http.client.HTTPException) as fault:
             connection.close()
-            raise Lost(f"{self.endpoints[at].netloc}: {fault or type(fault).__name__}") from None
+            raise Lost(f"{self.endpoints[at].netloc}: {text_of(fault)}") from None
         with self.turn:
             self.free[at].append(connection)
         return before, answer_of(status, text)
@@ -211,7 +216,7 @@ class Etcd:
             response = connection.getresponse()
             return str(answer_of(response.status, response.read())["token"])
         except (OSError, http.client.HTTPException) as fault:
-            raise NotSent(f"{self.endpoints[at].netloc}: {fault or type(fault).__name__}") from None
+            raise NotSent(f"{self.endpoints[at].netloc}: {text_of(fault)}") from None
         except Lost as fault:
             raise NotSent(str(fault)) from None
         finally:
@@ -233,7 +238,7 @@ class Etcd:
         except (OSError, http.client.HTTPException) as fault:
             connection.close()
             self.pass_on(at)
-            raise NotSent(f"{self.endpoints[at].netloc}: {fault or type(fault).__name__}") from None
+            raise NotSent(f"{self.endpoints[at].netloc}: {text_of(fault)}") from None
         return connection, response
 
 

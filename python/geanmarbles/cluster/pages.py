@@ -1,46 +1,96 @@
 """A node's HTTP: pages, edits and its health."""
 
 import json
+import re
+import select
 import socket
-import threading
-from collections.abc import Iterator
-from contextlib import contextmanager
+import time
+from collections.abc import Callable
 from typing import NoReturn
 
 from geanmarbles.client.program import Reply
-from geanmarbles.cluster.commands import carry_out, check_token, request_of
+from geanmarbles.cluster.commands import carry_out, check_ready, name_of, request_of
 from geanmarbles.cluster.etcd import Refused, Unreachable, WentBack, reason_of
 from geanmarbles.cluster.replica import Fault
+from geanmarbles.cluster.service import Service
+from geanmarbles.cluster.sight import Seen, Sight
 from geanmarbles.cluster.site_node import WAIT_SECONDS, Node
-from geanmarbles.web.edit_bodies import Bad, EditHandler, number
-from geanmarbles.web.pages import NoPage, PageServer
+from geanmarbles.cluster.tokens import Tokens
+from geanmarbles.web.edit_bodies import Bad, EditHandler, key_of, number
+from geanmarbles.web.heads import Fields, Head
+from geanmarbles.web.pages import NoPage, PageServer, Unchanged
+
+# The cookie of those who have edited, what goes with it, and for how many seconds a browser sends it: nodes are seconds
+# apart, so whoever comes later sees the edit without it.
+COOKIE, OF_COOKIE, COOKIE_SECONDS = "site_revision", "Path=/; HttpOnly; SameSite=Lax", 60
+COOKIE_VALUE = re.compile(r"([0-9a-f]+)\.([0-9]{1,19})")
+NO_COOKIE = f"{COOKIE}=; Max-Age=0; {OF_COOKIE}"
+# What a page rests on beside its path: a cache keeps one for each.
+VARY = "Cookie, X-Site-Fresh, X-Site-Revision"
+
+
+class Wanted:
+    """What a request wants its page to show: an edit's place, which a header or a cookie names, or every edit that is
+    there. A cookie that another cluster's node has set wants nothing."""
+
+    def __init__(self, headers: Fields, origin: str) -> None:
+        self.is_fresh, self.is_by_cookie = headers.get("X-Site-Fresh") == "1", False
+        self.place, self.is_foreign = 0, False
+        given = headers.get("X-Site-Revision")
+        self.has_header = given is not None
+        if given is not None:
+            revision = number(given)
+            if revision is None:
+                raise NoPage("X-Site-Revision has to be a number", 400)
+            self.place = revision
+            return
+        for it in cookies_of(headers):
+            value, self.is_by_cookie = COOKIE_VALUE.fullmatch(it), True
+            if value and value[1] == origin:
+                self.place = max(self.place, int(value[2]))
+            else:
+                self.is_foreign = True
+
+    def is_promised(self) -> bool:
+        """Whether the page is for this request alone, so that no cache may answer another one with it."""
+        return self.is_fresh or self.has_header or self.is_by_cookie
+
+
+def cookies_of(headers: Fields) -> list[str]:
+    """The values that the cookie of a request has; there may be some by mistake."""
+    found = [it.strip().partition("=") for given in headers.get_all("Cookie") for it in given.split(";")]
+    return [value for name, _, value in found if name == COOKIE]
 
 
 class Server(PageServer):
-    """A node's server."""
+    """A node's server. A cache may keep a page that no promise was asked of for `max_age` seconds."""
 
-    def __init__(self, address: tuple[str, int], node: Node, token: bytes | None) -> None:
-        self.address_family = socket.AF_INET6 if ":" in address[0] else socket.AF_INET
-        super().__init__(address, Handler)
-        self.node, self.token = node, token
-        # The requests that are being answered.
-        self.busy, self.turn = 0, threading.Condition()
+    def __init__(
+        self,
+        address: tuple[str, int],
+        node: Node,
+        tokens: Tokens | None,
+        max_age: int = 0,
+        listening: socket.socket | None = None,
+        service: Service | None = None,
+        sight: Sight | None = None,
+    ) -> None:
+        super().__init__(address, Handler, listening)
+        self.node, self.tokens, self.service = node, tokens, service or Service()
+        self.sight = sight or Sight()
+        self.cached = f"public, max-age=0, s-maxage={max_age}" if max_age else "public, max-age=0, must-revalidate"
 
-    @contextmanager
-    def answering(self) -> Iterator[None]:
-        with self.turn:
-            self.busy += 1
-        try:
-            yield
-        finally:
-            with self.turn:
-                self.busy -= 1
-                self.turn.notify_all()
+    def service_actions(self) -> None:
+        """Tells the service's manager how the node is."""
+        why = self.node.state()
+        self.service.tell(": ".join(why) if why else "", self.node.is_alive())
 
-    def drain(self, seconds: float) -> None:
-        """Waits until no request is being answered, for some seconds at most."""
-        with self.turn:
-            self.turn.wait_for(lambda: not self.busy, seconds)
+    def wait_until(self, is_time: Callable[[], bool], seconds: float, step: float = 0.05) -> None:
+        """Takes no connection until it is time to, for some seconds at most."""
+        until = time.monotonic() + seconds
+        while not is_time() and time.monotonic() < until and not self.is_ending:
+            select.select([self.woken], [], [], step)
+            self.service_actions()
 
 
 class Handler(EditHandler):
@@ -48,98 +98,104 @@ class Handler(EditHandler):
 
     server: Server
 
-    protocol_version = "HTTP/1.1"
-    server_version = "site-node"
+    is_kept, name = True, "site-node"
+    # The place that the response names; and who edits by the request, and how many of its lines have a reply.
+    told: int | None
+    by: str | None
+    edits: int | None
 
-    def version_string(self) -> str:
-        return self.server_version
+    def begin(self, line: bytes, head: Head) -> None:
+        super().begin(line, head)
+        self.told = self.by = self.edits = None
 
-    def log_message(self, *_: object) -> None:
-        """Nothing is logged of a request."""
+    def log(self, status: int, size: int) -> None:
+        path = self.asked.decode("utf-8", "replace")
+        forwarded, spent = self.headers.get("X-Forwarded-For"), time.monotonic() - self.begun
+        told = (self.told, self.by, self.edits)
+        self.server.sight.note(Seen(self.client, forwarded, self.command, path, status, size, spent, *told))
 
     def is_taken(self) -> bool:
-        if self.command in ("GET", "HEAD"):
-            # What follows a body that nobody reads would be taken for the next request.
-            has_body = self.headers.get("Content-Length", "0") != "0" or "Transfer-Encoding" in self.headers
-            self.close_connection |= has_body
-            return True
-        if self.command == "POST" and self.asked == b"/command":
+        is_command = self.asked == b"/command"
+        if self.command in ("GET", "HEAD") or self.command == "POST" and is_command:
             return True
         self.close_connection = True
-        self.refuse(405, f"there is no {self.command} here", Allow="POST" if self.asked == b"/command" else "GET, HEAD")
+        self.refuse(405, f"there is no {self.command} here", Allow="POST" if is_command else "GET, HEAD")
         return False
 
     def do_GET(self) -> None:
-        with self.server.answering():
-            if self.asked == b"/health":
-                self.tell_health()
-            else:
-                super().do_GET()
-
-    do_HEAD = do_GET
+        if self.asked == b"/health":
+            self.tell_health()
+        else:
+            super().do_GET()
 
     # Pages.
 
     def page_of(self, path: str) -> tuple[Reply, dict[str, str]]:
-        node = self.server.node
+        node, wanted = self.server.node, Wanted(self.headers, self.server.node.origin())
+        self.awaited(node, wanted)
+        cached = "private, no-cache" if wanted.is_promised() else self.server.cached
+        about = {"Vary": VARY, "Cache-Control": cached} | ({"Set-Cookie": NO_COOKIE} if wanted.is_foreign else {})
+        shown = node.shown_place()
+        if shown and shown >= wanted.place and self.has(node.tag(shown)):
+            self.told = shown
+            raise Unchanged({**about, "ETag": node.tag(shown), "X-Site-Revision": str(shown)})
         try:
-            reply, place = node.get(path, self.awaited(node))
+            reply, place = node.get(path, wanted.place)
         except Fault as fault:
             raise NoPage(str(fault), Retry_After="1") from None
-        return reply, {"X-Site-Revision": str(place)}
+        self.told, about["X-Site-Revision"] = place, str(place)
+        if reply.words[:2] == ["page", "200"]:
+            about["ETag"] = node.tag(place)
+            if self.has(about["ETag"]) or self.has("*"):
+                raise Unchanged(about)
+        return reply, about
 
-    def awaited(self, node: Node) -> int:
-        """The revision that a page has to have, once this node has come to it."""
-        place, is_fresh = self.asked_revision(), self.headers.get("X-Site-Fresh") == "1"
-        if is_fresh or place > max(node.place(), node.known.place):
+    def has(self, tag: str) -> bool:
+        """Whether the client has the page with a tag."""
+        given = ",".join(self.headers.get_all("If-None-Match")).split(",")
+        return tag in (it.strip().removeprefix("W/") for it in given)
+
+    def awaited(self, node: Node, wanted: Wanted) -> None:
+        """Waits until this node has come to what a page is to show. A place that nobody has heard of yet costs the
+        cluster no question: the next one that is asked anyway tells."""
+        if wanted.is_fresh or wanted.place > max(node.place(), node.known.place):
             try:
-                last = node.history.last(seconds=WAIT_SECONDS).place
+                last = node.news.after(time.monotonic(), WAIT_SECONDS, wanted.is_fresh).place
             except (Unreachable, Refused, WentBack) as fault:
-                raise NoPage(": ".join(reason_of(fault)), Retry_After="1") from None
-            if place > last:
+                # A node that serves no more asks no more, and says why.
+                raise NoPage(": ".join(node.ended or reason_of(fault)), Retry_After="1") from None
+            if wanted.place > last:
                 # No edit has that place, so there is nothing to wait for.
-                self.refuse_place(node, place)
-            place = max(place, last) if is_fresh else place
-        if place and not node.wait(place):
-            self.refuse_place(node, place)
-        return place
+                if not wanted.is_by_cookie:
+                    self.refuse_place(node, wanted.place)
+                wanted.place, wanted.is_foreign = 0, True
+            if wanted.is_fresh:
+                wanted.place = max(wanted.place, last)
+        if wanted.place and not node.wait(wanted.place):
+            self.refuse_place(node, wanted.place)
 
     def refuse_place(self, node: Node, place: int) -> NoReturn:
         why = node.state() or ("revision-not-reached", f"this node is at {node.place()}, and {place} was asked for")
         raise NoPage(": ".join(why), Retry_After="1", X_Site_Revision=str(node.place()))
 
-    def asked_revision(self) -> int:
-        """The revision that a header or a cookie asks for, or 0."""
-        given = self.headers.get("X-Site-Revision")
-        if given is not None:
-            revision = number(given)
-            if revision is None:
-                raise NoPage("X-Site-Revision has to be a number", 400)
-            return revision
-        cookies = [it.strip().partition("=") for it in self.headers.get("Cookie", "").split(";")]
-        return next((number(value) or 0 for name, _, value in cookies if name == "site_revision"), 0)
-
     # Edits.
 
     def do_POST(self) -> None:
-        with self.server.answering():
-            self.take_edits()
-
-    def take_edits(self) -> None:
-        self.is_read = False
+        node = self.server.node
         try:
-            check_token(self.server.token, self.headers.get("Authorization"))
-            request = request_of(self.headers.get("Idempotency-Key"), self.body())
-            self.server.forget(self.connection)
-            result = carry_out(self.server.node, request)
+            # What can be told without the body is told before it has come.
+            self.by = name_of(self.server.tokens, self.headers.get("Authorization"))
+            check_ready(node)
+            key = key_of(self.headers.get("Idempotency-Key"))
+            result = carry_out(node, request_of(key, self.body()))
         except Bad as fault:
-            self.pass_over_body()
-            self.close_connection = True
-            self.refuse(fault.status, fault.text, Connection="close", **fault.headers)
+            self.refuse(fault.status, fault.text, **fault.headers)
             return
-        headers = {"Idempotency-Key": request.key}
+        headers = {"Idempotency-Key": key}
+        self.edits = len(result.replies) - (result.status != 200)
         if result.place:
-            cookie = f"site_revision={result.place}; Path=/; HttpOnly; SameSite=Lax"
+            self.told = result.place
+            cookie = f"{COOKIE}={node.origin()}.{result.place}; Max-Age={COOKIE_SECONDS}; {OF_COOKIE}"
             headers |= {"X-Site-Revision": str(result.place), "Set-Cookie": cookie}
         self.respond(result.status, "text/plain", "".join(f"{it}\n" for it in result.replies).encode(), headers)
 
@@ -147,7 +203,8 @@ class Handler(EditHandler):
 
     def tell_health(self) -> None:
         node = self.server.node
-        why, head = node.state(), node.head
+        why = ("stopping", "the node ends") if self.server.is_ending else node.state()
+        head = node.head
         told: dict[str, object] = {
             "ready": why is None,
             "applied": node.place(),
@@ -155,5 +212,4 @@ class Handler(EditHandler):
         }
         told |= {"reason": why and why[0], "why": why and why[1], "snapshot": head.last.place if head else 0}
         told |= {"edits": node.last.count, "name": node.name, "cluster": node.history.etcd.cluster}
-        self.server.allow(self.connection)
         self.respond(503 if why else 200, "application/json", json.dumps(told).encode() + b"\n")

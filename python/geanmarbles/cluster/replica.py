@@ -3,9 +3,14 @@
 A replica is made from the newest snapshot and the edits after it. What its
 program does is a function of these lines, but for four things that end a replica for good, so that the next one takes
 its place: the program refuses an edit because memory ran out (11) or by its database (12), it ends, or it has had its
-lines.
+lines. The last of these are kept for pages: a replica without lines for edits goes on with the pages that it has, until
+the next one has come as far.
+
+A page has a limit of time of its own. If the program hasn't begun to reply by then, its client is told so; the reply is
+read all the same when it comes, before anything else is asked.
 """
 
+import select
 import sys
 import threading
 import time
@@ -13,7 +18,7 @@ import traceback
 from collections.abc import Callable, Sequence
 from typing import Self
 
-from geanmarbles.client.program import LINE_BYTES, Ended, NoReply, Program, Reply, get_line
+from geanmarbles.client.program import LINE_BYTES, Ended, NoReply, Program, Reply, get_line, read_reply
 from geanmarbles.cluster import snapshots
 from geanmarbles.cluster.etcd import Refused, Unreachable, WentBack, reason_of
 from geanmarbles.cluster.following import Following
@@ -27,8 +32,8 @@ TOGETHER = 200
 REPLY_SECONDS, FIRST_SECONDS = 30, 20
 # How long a goal waits for the program.
 GOAL_SECONDS = 0.2
-# How many lines are left to a program when no more is asked of it.
-MARGIN = 10
+# How many lines are left to a program when no more is asked of it, and which part of its lines is for pages alone.
+MARGIN, FOR_PAGES = 10, 8
 
 
 class Fault(Exception):
@@ -37,6 +42,17 @@ class Fault(Exception):
     def __init__(self, name: str, text: str) -> None:
         super().__init__(f"{name}: {text}")
         self.name, self.text = name, text
+
+
+class Slow(Fault):
+    """There is no page in time. The replica goes on."""
+
+    def __init__(self) -> None:
+        super().__init__("program-slow", "the program hasn't replied in time")
+
+
+class Full(Exception):
+    """The program has no line left for an edit."""
 
 
 class Replica:
@@ -56,7 +72,9 @@ class Replica:
         self.reached, self.moved = reached, moved
         self.program: Program | None = None
         self.following: Following | None = None
+        # Why it has ended, and why it carries out no more edits.
         self.fault: Fault | None = None
+        self.is_full: Fault | None = None
         # The last edit that was carried out, and how many lines the program had been sent when it was there.
         self.last, self.lines_at_start = NONE, 0
         # The edits that no snapshot has: the place, the reply and the size of each by its ID; and the place up to which
@@ -66,7 +84,7 @@ class Replica:
         # An edit of the cluster's, with how many there are up to it, and whether this has come to it.
         self.goal: Last | None = None
         self.is_verified = False
-        # Held while the program is asked; and since when it has owed a reply.
+        # Held while the program is asked, until it has replied; and since when it has owed a reply.
         self.turn = threading.Lock()
         self.owes_since: float | None = None
 
@@ -78,6 +96,8 @@ class Replica:
         try:
             self.make()
             self.follow()
+        except Full:
+            self.stop_following()
         except Fault as fault:
             self.end(fault)
         except Gap as fault:
@@ -98,6 +118,17 @@ class Replica:
             self.following.close()
         if self.program:
             self.program.__exit__()
+        self.moved()
+
+    def stop_following(self) -> None:
+        """Carries out no more edits. What it has is still the site as it was, if it was compared with the cluster's."""
+        fault = Fault("lines-used-up", f"a program takes {self.most} lines, and the next one isn't there yet")
+        if not self.is_verified:
+            self.end(fault)
+            return
+        self.is_full = fault
+        if self.following:
+            self.following.close()
         self.moved()
 
     def make(self) -> None:
@@ -137,6 +168,9 @@ class Replica:
             try:
                 if self.fault:
                     raise self.fault
+                assert self.program is not None
+                if self.program.lines + len(edits) > self.most - MARGIN - self.most // FOR_PAGES:
+                    raise Full
                 for edit in edits:
                     if len(edit.line) > LINE_BYTES or b"\n" in edit.line:
                         raise Fault("history-is-damaged", f"the edit of revision {edit.place} isn't one line")
@@ -183,21 +217,74 @@ class Replica:
         finally:
             self.turn.release()
 
-    def get(self, path: str) -> tuple[Reply, int]:
-        """The reply to a path, and the place of the last edit before it. Raises Fault if the replica has ended."""
-        with self.turn:
+    def get(self, path: str, until: float) -> tuple[Reply, int]:
+        """The reply to a path, and the place of the last edit before it. Raises Slow if there is none by a time, or
+        Fault if the replica has ended."""
+        if not self.turn.acquire(timeout=max(0.0, until - time.monotonic())):
+            raise Slow
+        is_owed = False
+        try:
             if self.fault:
                 raise self.fault
-            try:
-                [reply] = self.told([get_line(path)])
-            except (Ended, NoReply, OSError) as fault:
-                ended = Fault("program-ended", str(fault) or "it has ended")
-                self.end(ended)
-                raise self.fault or ended from None
-            except Fault as fault:
-                self.end(fault)
-                raise
-            return reply, self.last.place
+            self.send(get_line(path))
+            is_owed = not self.has_reply(until)
+            if is_owed:
+                threading.Thread(target=self.pass_over, daemon=True).start()
+                raise Slow
+            return self.read(), self.last.place
+        except Slow:
+            raise
+        except (Ended, NoReply, OSError) as fault:
+            ended = Fault("program-ended", str(fault) or "it has ended")
+            self.end(ended)
+            raise self.fault or ended from None
+        except Fault as fault:
+            self.end(fault)
+            raise
+        finally:
+            if not is_owed:
+                self.turn.release()
+
+    def send(self, line: bytes) -> None:
+        """Sends the program a line, whose reply is read next."""
+        program = self.program
+        assert program is not None
+        if program.lines >= self.most - MARGIN:
+            raise Fault("lines-used-up", f"a program takes {self.most} lines")
+        self.owes_since = time.monotonic()
+        program.lines += 1
+        rest = memoryview(line + b"\n")
+        while rest:
+            rest = rest[program.input.write(rest) :]
+
+    def has_reply(self, until: float) -> bool:
+        """Whether the program has begun to reply, by a time at the latest."""
+        assert self.program is not None
+        poll = select.poll()
+        poll.register(self.program.replies, select.POLLIN)
+        return bool(poll.poll(max(0, int(1000 * (until - time.monotonic())))))
+
+    def read(self) -> Reply:
+        """The reply that the program owes."""
+        assert self.program is not None
+        try:
+            return read_reply(self.program.replies)
+        finally:
+            self.owes_since = None
+
+    def pass_over(self) -> None:
+        """Reads a reply that nobody waits for any more, and has the program asked again."""
+        try:
+            self.read()
+        except (Ended, NoReply, OSError) as fault:
+            self.end(Fault("program-ended", str(fault) or "it has ended"))
+        finally:
+            self.turn.release()
+
+    def owes(self) -> float:
+        """For how many seconds the program has owed a reply."""
+        since = self.owes_since
+        return time.monotonic() - since if since is not None else 0.0
 
     def is_near_its_end(self) -> bool:
         """Whether the next replica should be begun, so that it is there before this one's program has had its lines."""
@@ -225,8 +312,7 @@ class Replica:
     def look_after(self, known: Last, head: Head | None) -> None:
         """What is to be done now and then: ends a program that owes a reply for too long, and a watch that is silent
         although there are edits."""
-        since = self.owes_since
-        if since and time.monotonic() - since > REPLY_SECONDS:
+        if self.owes() > REPLY_SECONDS:
             self.end(Fault("program-ended", f"it has owed a reply for {REPLY_SECONDS} s"))
         if head:
             self.forget(head.last.place)

@@ -184,16 +184,13 @@ class Handler(EditHandler):
 
     def do_POST(self) -> None:
         """Carries out the edits of a request. Nothing of its body is read before its token is right."""
-        self.is_read = False
         editing = self.server.editing
         assert editing is not None
         try:
             check_token(editing.token, self.headers.get("Authorization"))
             lines = lines_of_body(self.body())
-            self.server.forget(self.connection)
             key, outcome = editing.edits.made(self.headers.get("Idempotency-Key"), lines)
         except Bad as fault:
-            self.pass_over_body()
             self.refuse(fault.status, fault.text, **fault.headers)
         else:
             told = "".join(f"{it}\n" for it in outcome.replies).encode()

@@ -7,6 +7,7 @@ import hmac
 import json
 import re
 import secrets
+from typing import Any
 
 from geanmarbles.client.program import LINE_BYTES
 from geanmarbles.web.pages import PageHandler
@@ -14,8 +15,8 @@ from geanmarbles.web.pages import PageHandler
 EDITS = {"put", "edit", "delete", "option", "activate", "deactivate", "template", "import"}
 # What one request may hold.
 BODY_BYTES, BODY_LINES = 8 << 20, 10_000
-# How long a client may take to send a body, and how much of one is read that isn't taken.
-BODY_SECONDS, PASSED_BYTES = 60, 1 << 26
+# What a client is told that waits to send a body.
+CONTINUE = b"HTTP/1.1 100 Continue\r\n\r\n"
 # The most digits of a number in a header: those of etcd's largest revision.
 DIGITS = 19
 # A client's own key for a request.
@@ -96,25 +97,24 @@ def fault_of(line: bytes) -> str:
 class EditHandler(PageHandler):
     """The requests of one connection that may bring edits."""
 
-    # Whether the body of the request under way is read, or is being read.
-    is_read: bool
+    def methods(self) -> dict[str, Any]:
+        return {**super().methods(), "POST": self.do_POST}
 
-    def length(self) -> int | None:
-        """How many bytes the body has, or None if that isn't told."""
-        return None if "Transfer-Encoding" in self.headers else number(self.headers.get("Content-Length", ""))
+    def do_POST(self) -> None:
+        raise NotImplementedError
 
     def body(self) -> bytes:
-        size = check_length(self.length())
-        self.server.allow(self.connection, BODY_SECONDS)
+        """The body of the request. A client that waits to be told to send it is told so, once its length is right."""
+        size = check_length(self.head.length)
+        if self.head.waits and not self.stream.has_more():
+            self.stream.send(CONTINUE)
         self.is_read = True
-        body = self.rfile.read(size)
+        try:
+            body = self.stream.body(size)
+        except TimeoutError:
+            self.close_connection = True
+            raise Bad(408, "the body hasn't come in time") from None
         if len(body) < size:
+            self.close_connection = True
             raise Bad(400, "the body is shorter than its Content-Length")
         return body
-
-    def pass_over_body(self) -> None:
-        """Reads what is left of a body, within bounds: a client that still sends would lose the response."""
-        left = 0 if self.is_read else min(self.length() or 0, PASSED_BYTES)
-        while left > 0:
-            came = self.rfile.read1(min(left, 1 << 16))
-            left = left - len(came) if came else 0

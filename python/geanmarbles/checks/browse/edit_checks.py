@@ -134,12 +134,19 @@ def bodies_have_limits(program: str) -> None:
         head = f"Host: 127.0.0.1\r\nAuthorization: Bearer {TOKEN}\r\n".encode()
         for more, status in (
             (b"", 411),
-            (b"Content-Length: -1\r\n", 411),
-            (b"Content-Length: 2\r\nTransfer-Encoding: chunked\r\n", 411),
-            (b"Content-Length: 99999999999999999999\r\n", 411),
+            (b"Transfer-Encoding: chunked\r\n", 411),
+            (b"Content-Length: -1\r\n", 400),
+            (b"Content-Length: 2\r\nTransfer-Encoding: chunked\r\n", 400),
+            (b"Content-Length: 2\r\nContent-Length: 2\r\n", 400),
+            (b"Content-Length: 99999999999999999999\r\n", 413),
         ):
             response = browse.ask_bytes(b"/command", b"POST", headers=head + more)
             expect((response.status, response.kind), (status, PLAIN), f"{more!r}")
+        waits = head + b"Content-Length: 99\r\nExpect: 100-continue\r\n\r\n"
+        for sent, wanted in ((waits, b" 100 "), (waits.replace(b"Bearer ", b"Bearer x"), b" 401 ")):
+            with browse.connected() as connection:
+                connection.sendall(b"POST /command HTTP/1.1\r\n" + sent)
+                expect(connection.recv(4096)[8:13], wanted, "what a body that waits is told")
         with browse.connected() as connection:
             connection.sendall(b"POST /command HTTP/1.1\r\n" + head + b"Content-Length: 99\r\n\r\n{}")
             connection.shutdown(1)

@@ -66,7 +66,20 @@ SAME_PAGES = {
     "/caf\u00e9": NOTHING_FOUND,
 }
 # Paths that must reach the program as they are.
-ODD_PATHS = ["/?p=1&x=%F0", "//", "//a//?b", "/?", '/?"\\', "/?\u00e0\u0085\u2028", "/\U0001f35e", "/?\x01\x7f", "*"]
+ODD_PATHS = ["/?p=1&x=%F0", "//", "//a//?b", "/?", '/?"\\', "/?\u00e0\u0085\u2028", "/\U0001f35e", "*"]
+# Heads that aren't HTTP, or that two servers may read in two ways: the version and what follows the first line.
+BAD_HEADS: list[tuple[int, bytes, bytes]] = [
+    (505, b"HTTP/2.0", b"Host: 127.0.0.1\r\n"),
+    (400, b"HTTP/x", b""),
+    (400, b"HTTP/1.10", b"Host: 127.0.0.1\r\n"),
+    (431, b"HTTP/1.1", b"A: b\r\n" * 101),
+    (431, b"HTTP/1.1", b"A: " + b"b" * 70_000 + b"\r\n"),
+    (400, b"HTTP/1.1", b"Host: 127.0.0.1\r\nA B: c\r\n"),
+    (400, b"HTTP/1.1", b"Host: 127.0.0.1\r\nA: b\r\n c\r\n"),
+    (400, b"HTTP/1.1", b"Host: 127.0.0.1\nA: b\r\n"),
+    (400, b"HTTP/1.1", b"Host: 127.0.0.1\r\nContent-Length: 1\r\nContent-Length: 2\r\n"),
+    (400, b"HTTP/1.1", b"Host: 127.0.0.1@evil.example\r\n"),
+]
 
 
 def bakery() -> dict[str, Reply]:
@@ -154,6 +167,10 @@ def paths_come_unchanged(_program: str) -> None:
             for path in ODD_PATHS:
                 came = json.loads(browse.ask_bytes(path.encode()).body)
                 expect(came, {"cmd": "get", "path": path}, "the line that the program got")
+            whole = json.loads(browse.ask_bytes(b"http://localhost:1/?p=1").body)
+            expect(whole, {"cmd": "get", "path": "/?p=1"}, "the line of a whole address")
+            for path in ("/?\x01", "/\x7f", "/\x0b"):
+                expect(browse.ask_bytes(path.encode()).status, 400, f"a control in {path!r}")
 
 
 def paths_have_limits(program: str) -> None:
@@ -216,7 +233,7 @@ def other_hosts_are_refused(program: str) -> None:
             response = browse.ask_bytes(b"/", headers=b"Host:" + host + b"\r\n")
             expect_page(response, bakery()["/"], host)
         told = f"this site is for this machine alone: http://127.0.0.1:{browse.port}/\n".encode()
-        others = (b"evil.example", b"127.0.0.1.evil.example", b"localhost.evil", b"127.0.0.1@evil", b"", b"10.0.0.1")
+        others = (b"evil.example", b"127.0.0.1.evil.example", b"localhost.evil", b"", b"10.0.0.1")
         for host in others:
             expect_plain(browse.ask_bytes(b"/", headers=b"Host: " + host + b"\r\n"), 421, told, host)
         two = b"Host: 127.0.0.1\r\nHost: evil.example\r\n"
@@ -228,14 +245,21 @@ def other_hosts_are_refused(program: str) -> None:
 def bad_requests_are_told(program: str) -> None:
     """requests that aren't of HTTP as it is read here"""
     with Browse(program) as browse:
-        for status, version, headers in (
-            (505, b"HTTP/2.0", b"Host: 127.0.0.1\r\n"),
-            (400, b"HTTP/x", b""),
-            (431, b"HTTP/1.1", b"A: b\r\n" * 101),
-            (431, b"HTTP/1.1", b"A: " + b"b" * 70_000 + b"\r\n"),
-        ):
+        for status, version, headers in BAD_HEADS:
             response = browse.ask_bytes(b"/", version=version, headers=headers)
-            expect((response.status, response.kind), (status, PLAIN), version + headers[:20])
+            expect((response.status, response.kind), (status, PLAIN), version + headers[:80])
+        other = browse.ask_bytes(b"http://evil.example/")
+        expect(other.status, 421, "a whole address of another machine")
+
+
+def responses_say_what_they_are(program: str) -> None:
+    """each response says of itself of which type it is and that it isn't kept, and nothing of Python's version"""
+    with Browse(program) as browse:
+        page, other = browse.ask("/"), browse.ask("/", "PUT")
+        for response, kept in ((page, "no-cache"), (other, "no-store")):
+            said = [response.headers[name] for name in ("X-Content-Type-Options", "Cache-Control", "Server")]
+            expect(said, ["nosniff", kept, None], f"what {response.status} says of itself")
+        expect(other.headers["Content-Security-Policy"] or "", "default-src 'none'; frame-ancestors 'none'", "405")
 
 
 def drip(connection: socket.socket) -> None:
@@ -583,6 +607,7 @@ CHECKS = [
     other_methods_are_refused,
     refusals_are_named,
     bad_requests_are_told,
+    responses_say_what_they_are,
     requests_come_in_parallel,
     stalled_connections_are_closed,
     other_hosts_are_refused,

@@ -39,6 +39,10 @@ class Answer(NamedTuple):
     start: float
     end: float
 
+    def cookie(self) -> str:
+        """The cookie that it sets, as a browser sends it."""
+        return str(self.headers["Set-Cookie"]).partition(";")[0]
+
     def revision(self) -> int | None:
         return int(self.headers["X-Site-Revision"]) if self.headers["X-Site-Revision"] else None
 
@@ -185,6 +189,7 @@ class Client(threading.Thread):
         self.client, self.nodes, self.record, self.reads = name, nodes, record, reads
         self.has_ended, self.requests = threading.Event(), 0
         self.known: int | None = None
+        self.cookie = ""
         self.fault: Exception | None = None
 
     def run(self) -> None:
@@ -214,7 +219,7 @@ class Client(threading.Thread):
             node = self.random.choice(self.nodes)
             start, end, answer = self.asked(node.post, joined(lines), **headers)
             if self.record.edits(lines, start, end, answer) and answer:
-                self.known = answer.revision()
+                self.known, self.cookie = answer.revision(), answer.cookie()
                 return True
             if self.has_ended.is_set() or self.random.random() > ASKS_AGAIN:
                 return False
@@ -235,7 +240,7 @@ class Client(threading.Thread):
         if self.known is not None and kind == 1:
             return self.known, {"X_Site_Revision": str(self.known)}
         if self.known is not None and kind == 2:
-            return self.known, {"Cookie": f"other=1; site_revision={self.known}"}
+            return self.known, {"Cookie": f"other=1; {self.cookie}"}
         return None, {}
 
 

@@ -165,13 +165,14 @@ def serves_what_it_has(cluster: Cluster, network: Network) -> None:
     page = node.get("/").body
     network.cut([node.name], MEMBERS)
     try:
-        later = other.post(b'{"cmd":"option","name":"blogname","value":"after","n":"after"}').place()
+        edited = other.post(b'{"cmd":"option","name":"blogname","value":"after","n":"after"}')
+        later = edited.place()
         plain: dict[str, str] = {}
         for headers, wanted in ((plain, 200), ({"X_Site_Revision": str(known)}, 200)):
             answer = node.get("/", **headers)
             must(answer.status in (wanted, 503), f"with {headers} it answered {answer.shown()}")
             must(answer.status == 503 or (answer.body, answer.revision()) == (page, known), "it has another page")
-        for headers in ({"X_Site_Revision": str(later)}, {"X_Site_Fresh": "1"}, {"Cookie": f"site_revision={later}"}):
+        for headers in ({"X_Site_Revision": str(later)}, {"X_Site_Fresh": "1"}, {"Cookie": edited.cookie()}):
             answer = node.get("/", **headers)
             must(answer.status == 503 and answer.body, f"with {headers} it answered {answer.shown()}")
             must(answer.headers["Retry-After"], f"with {headers} it says not when to ask again")

@@ -3,6 +3,7 @@
 from __future__ import annotations
 
 import json
+import sys
 import tempfile
 import time
 from collections.abc import Callable, Iterator, Sequence
@@ -17,6 +18,11 @@ from geanmarbles.paths import ROOT
 
 NODE = ROOT / "cluster" / "node"
 TOKEN = "a token of the test's own"
+# Starts the process that follows with a socket where systemd hands one over.
+HAND_OVER = """import os, sys
+os.dup2(int(sys.argv[1]), 3)
+os.execve(sys.argv[2], sys.argv[2:], {**os.environ, "LISTEN_PID": str(os.getpid()), "LISTEN_FDS": "1"})
+"""
 # How long a node may take to listen and to be ready, and for one answer, on a machine that has much else to do.
 LISTENS, READY, ANSWERS = 120, 120, 60
 
@@ -30,6 +36,8 @@ class Node:
         self.options = tuple(options)
         self.env: dict[str, str] = {}
         self.port = place.client or free_port(place.host)
+        # A socket that listens, which it is handed over at its start, as systemd does it.
+        self.handed: int | None = None
         self.started: Process | None = None
 
     @property
@@ -52,7 +60,9 @@ class Node:
             *self.options,
         ]
         words += ["--token-file", self.cluster.token] if token else []
-        self.started = self.cluster.processes.start(self.name, list(map(str, words)), **self.env)
+        if self.handed is not None:
+            words = [sys.executable, "-c", HAND_OVER, str(self.handed), *words]
+        self.started = self.cluster.processes.start(self.name, list(map(str, words)), self.handed, **self.env)
         line = self.process.first_line(LISTENS)
         if line != f"serving http://{self.place.host}:{self.port}/\n":
             raise TimeoutError(f"the first line of {self.name} is {line!r}")

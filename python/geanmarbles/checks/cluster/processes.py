@@ -58,13 +58,15 @@ def wait_for(holds: Callable[[], T], seconds: float, what: str, pause: float = 0
 class Process:
     """A running process, and the file to which it writes what isn't read."""
 
-    def __init__(self, name: str, words: list[str], log: Path, env: dict[str, str]) -> None:
+    def __init__(self, name: str, words: list[str], log: Path, env: dict[str, str], handed: int | None = None) -> None:
+        """`handed` is a file of this process that it gets as well."""
         self.name, self.log = name, log
         how: dict[str, Any] = {
             "stdin": subprocess.DEVNULL,
             "stdout": subprocess.PIPE,
             "start_new_session": True,
             "env": env,
+            "pass_fds": () if handed is None else (handed,),
         }
         with open(log, "ab") as errors:
             self.child = subprocess.Popen(words, stderr=errors, bufsize=0, **how)
@@ -133,8 +135,9 @@ class Processes:
     def __exit__(self, *_: object) -> None:
         self.kill_all()
 
-    def start(self, name: str, words: list[str], **env: str) -> Process:
-        process = Process(name, words, self.folder / f"{name}.log", {**os.environ, **env, MARK: self.mark})
+    def start(self, name: str, words: list[str], handed: int | None = None, **env: str) -> Process:
+        given = {**os.environ, **env, MARK: self.mark}
+        process = Process(name, words, self.folder / f"{name}.log", given, handed)
         self.started.append(process)
         return process
 

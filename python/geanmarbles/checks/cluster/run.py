@@ -2,6 +2,7 @@
 
     tests/cluster/run [--rounds N] [--seed N] [--part NAME] [--verbose] [--node NODE] [PROGRAM]
     tests/cluster/run --self-test
+    tests/cluster/run --planted [PROGRAM]
 
 PROGRAM is crates/site/out/site of this repository if it is left out, and NODE cluster/node. Three members of etcd and
 three nodes are started for each check, or for a few rounds. The parts, three at a time, or one of them with --part:
@@ -15,6 +16,14 @@ three nodes are started for each check, or for a few rounds. The parts, three at
 - clocks: nodes whose clocks are years apart, jump, or say any time at all;
 - programs: programs that refuse an edit for their memory or their database, that end, that are another one, and that
   are at their last line;
+- front: a bare node as strangers meet it: requests that can be read in two ways, slow clients and such as stall, a
+  program that hangs or has had its lines, and cookies of a site that was restored from a backup;
+- restarts: nodes that are started anew under load, behind a balancer and over a socket that outlives them, which may
+  lose no request, and the units of examples/cluster (skipped without `systemd-analyze`);
+- caches: tags of pages, and what reads promise behind Varnish as Debian ships it (skipped without `varnishd`);
+- sight: a line of JSON for each request, figures (skipped without prometheus_client), and tokens with names that change
+  while a node serves;
+- proxies: nginx and HAProxy before nodes, by the files of examples/cluster (each skipped where it isn't installed);
 - secured: an etcd that asks for certificates, a user and a password (skipped without `openssl`);
 - snapshots: histories that are replaced by snapshots, nodes that start from one, or were away for too long, and makers
   of snapshots that are killed.
@@ -22,8 +31,9 @@ three nodes are started for each check, or for a few rounds. The parts, three at
 In each round several clients edit and read at all nodes. Afterwards, all being up again, every edit that was
 acknowledged has to be in the history, once, in an order that fits when it was sent and acknowledged; replies and pages,
 each at its revision, have to be those of a single program that is given the history; reads have to be as new as
-promised; and all nodes have to end with equal pages. history.py is the check, and --self-test its own test, which needs
-neither program nor etcd.
+promised; and all nodes have to end with equal pages. history.py is the check, and --self-test its own test, and that
+of the checks of a node's front (planted.py); it needs neither program nor etcd. With --planted nodes with a fault are
+run, which the checks of a node's front have to notice; that takes some minutes (planted_nodes.py).
 
 The seed of random rounds is printed, and is another one each time if --seed is left out; the moments at which things
 happen vary all the same. Without etcd nothing is run, which is said. Each process that is started is ended at the end.
@@ -42,17 +52,25 @@ import time
 from collections.abc import Callable
 from concurrent.futures import Future, ThreadPoolExecutor, as_completed
 from functools import partial
+from itertools import chain
 from random import SystemRandom
 from typing import Any
 
 from geanmarbles.checks.cluster import (
+    caches,
     clocks,
     faults,
+    front,
     networks,
     nodes,
+    planted,
+    planted_nodes,
     programs_that_end,
+    proxies,
+    restarts,
     secured,
     self_test,
+    sight,
     snapshots,
     steady,
     stores,
@@ -72,6 +90,11 @@ PARTS = {
     "faults": faults,
     "programs": programs_that_end,
     "steady": steady,
+    "front": front,
+    "restarts": restarts,
+    "caches": caches,
+    "proxies": proxies,
+    "sight": sight,
     "clocks": clocks,
     "secured": secured,
 }
@@ -123,8 +146,11 @@ def read_arguments() -> argparse.Namespace:
     parser.add_argument("--seed", metavar="N", type=int, help="the seed of random rounds")
     parser.add_argument("--part", metavar="NAME", choices=PARTS, help=f"one part alone: {', '.join(PARTS)}")
     parser.add_argument("--node", metavar="NODE", type=absolute, default=nodes.NODE, help="another node")
-    parser.add_argument("--self-test", action="store_true", help="see that the check of histories notices faults")
+    parser.add_argument("--self-test", action="store_true", help="see that the checks notice faults")
     parser.add_argument("--verbose", action="store_true", help="tell how long each check takes")
+    parser.add_argument("--planted", action="store_true", help="see that the checks notice nodes with a fault")
+    # One check alone of a part, by what its name has.
+    parser.add_argument("--check", default="", help=argparse.SUPPRESS)
     # The rest of a part that starts this script anew, in namespaces of its own.
     parser.add_argument("--inside", action="store_true", help=argparse.SUPPRESS)
     arguments = parser.parse_args()
@@ -194,7 +220,7 @@ def main() -> int:
     signal.signal(signal.SIGTERM, ended)
     signal.signal(signal.SIGHUP, ended)
     if arguments.self_test:
-        counts.judge_all("self-test", self_test.cases())
+        counts.judge_all("self-test", chain(self_test.cases(), planted.cases(), planted_nodes.sources()))
     elif lacking(arguments):
         print(f"FAILED: {lacking(arguments)}\n0 passed, 1 failed")
         return 1
@@ -203,8 +229,11 @@ def main() -> int:
     else:
         nodes.NODE = arguments.node
         print(f"seed {arguments.seed}", flush=True)
-        if arguments.part:
-            counts.judge_all(arguments.part, PARTS[arguments.part].cases(arguments))
+        if arguments.planted:
+            counts.judge_all("planted", planted_nodes.cases(arguments))
+        elif arguments.part:
+            cases = PARTS[arguments.part].cases(arguments)
+            counts.judge_all(arguments.part, (it for it in cases if arguments.check in (it[0] or "")))
         else:
             Parts(arguments).judge(counts)
     print(f"{counts.passed} passed, {counts.failed} failed")
