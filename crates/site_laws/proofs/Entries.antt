@@ -43,9 +43,10 @@ module _ {X : Type 0} (P : Text × X → Type 0) where
       → AllByRecursion P ys
   all_found xs [] h each = tt
   all_found xs (e ∷ ys) h each =
-      let regroup = append_assoc xs (e ∷ []) ys in
-      (each e.0 e.1 (there xs ys e h),
-      all_found (xs ++ e ∷ []) ys (ap (is_sorted by_bytes) regroup ∙ h) (λ q v is. each q v (ap (find by_bytes q) (sym regroup) ∙ is)))
+      let regroup = append_assoc xs (e ∷ []) ys in (
+        each e.0 e.1 (there xs ys e h),
+        all_found (xs ++ e ∷ []) ys (ap (is_sorted by_bytes) regroup ∙ h) (λ q v is. each q v (ap (find by_bytes q) (sym regroup) ∙ is)),
+      )
 
   of_entries : (m : FinMap by_bytes X) → AllByRecursion P (entries m) → (q : Text) (v : X) → get m q ≡ Some v → P (q, v)
   of_entries m all q v is = found_is q v (entries m) all (sym (get-entries m q) ∙ is)

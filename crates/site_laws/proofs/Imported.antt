@@ -139,9 +139,10 @@ front_named : (tree : Data) (name : List ℕ) → IfSome (option_map options_for
 front_named tree name =
     front_sets _ _ options_for (bytes_eq name (codes "posts")) (bytes_eq name (codes "page")) (id_at (codes "page") tree)
     (record { name = record { least = omega arith; most = omega arith }; value = omega arith }, tt)
-    (λ id is. let digits = short id is in
-    (record { name = record { least = omega arith; most = omega arith }; value = omega arith },
-    (record { name = record { least = omega arith; most = omega arith }; value = omega (arith, digits) }, tt)))
+    (λ id is. let digits = short id is in (
+      record { name = record { least = omega arith; most = omega arith }; value = omega arith },
+      (record { name = record { least = omega arith; most = omega arith }; value = omega (arith, digits) }, tt),
+    ))
     (id_found (codes "page") tree)
 
 front_found : (tree : Data) (o : Option (List ℕ)) → IfSome (option_map options_for (option_and_then (shown_named tree) o)) (AllByRecursion IsOption)
