@@ -1,18 +1,26 @@
-//! The ten bundled plugins and the plugin `snippets`, for one program.
+//! The ten bundled plugins, the plugin `snippets`, and the plugins that a site brings from WordPress
+//! most often, for one program.
 #![tactic(auto)]
 
 ghost use Rattle.std.specs.Prelude.{◌≡◌, ◌++◌, ◌∷◌, [], IfOk, map};
 ghost use Rattle.callback_store.specs.Shape.{shape_of};
 ghost use Rattle.bundled_plugins.specs.Bundle.{bundle};
 ghost use Rattle.snippets.specs.Snippets.{numbers, snippets};
+ghost use Rattle.blocks.specs.Blocks.{blocks};
+ghost use Rattle.captions.specs.Captions.{captions};
+ghost use Rattle.guard.specs.Guard.{guard};
 
+use blocks::blocks_reply;
 use bundled_plugins::bundled_reply;
 use callback_store::{Plugin, Stated};
+use captions::caption_reply;
+use guard::guard_reply;
 use hook_changes::{Call, CallbackId, Listed, Reply};
 use snippets::snippet_reply;
 use std::alloc::{AllocError, Global};
 
-/// A callback, by its number: of the bundle below 500, and from there on of `snippets`.
+/// A callback, by its number: of the bundle below 500, of `snippets` below 610, of `blocks` at 610,
+/// of `captions` below 620, and from there on of `guard`.
 #[derive(Clone, Copy)]
 pub struct Callback {
     id: CallbackId,
@@ -31,10 +39,17 @@ impl Stated for Callback {
 
     #[tactic(auto, unfolding(crate::specs::Says::says))]
     fn answer(&self, alloc: Global, call: &Call) -> Result<Reply, AllocError> {
-        if self.id.number() < 500 {
+        let number = self.id.number();
+        if number < 500 {
             bundled_reply(alloc, self.id, call)
-        } else {
+        } else if number < 610 {
             snippet_reply(alloc, self.id, call)
+        } else if number < 611 {
+            blocks_reply(alloc, call)
+        } else if number < 620 {
+            caption_reply(alloc, self.id, call)
+        } else {
+            guard_reply(alloc, self.id, call)
         }
     }
 }
@@ -53,14 +68,20 @@ fn callbacks(alloc: Global, numbers: &[u32]) -> Result<Listed<Callback>, AllocEr
     Ok(callbacks)
 }
 
-/// Makes the plugins: the bundle, and `snippets`.
+/// Makes the plugins: the bundle, and then `snippets`, `blocks`, `captions` and `guard`.
 pub fn listed(alloc: Global) -> Result<Listed<Plugin<Callback>>, AllocError>
-    ensures { IfOk result (λ plugins.
-        map (shape_of ⟦<Callback as Stated>⟧.number) plugins ≡ bundle ++ snippets ∷ []) }
+    ensures { IfOk result (λ plugins. map (shape_of ⟦<Callback as Stated>⟧.number) plugins
+        ≡ bundle ++ (snippets ∷ blocks ∷ captions ∷ guard ∷ [])) }
 {
     let bundled = callbacks(alloc, &bundled_plugins::NUMBERS)?;
     let mut plugins = bundled_plugins::bundle(alloc, bundled)?;
     let of_snippets = callbacks(alloc, &snippets::numbers(alloc)?)?;
     plugins.push(snippets::plugin(alloc, of_snippets)?)?;
+    let of_blocks = callbacks(alloc, &[blocks::NUMBER])?;
+    plugins.push(blocks::plugin(alloc, of_blocks)?)?;
+    let of_captions = callbacks(alloc, &captions::NUMBERS)?;
+    plugins.push(captions::plugin(alloc, of_captions)?)?;
+    let of_guard = callbacks(alloc, &guard::NUMBERS)?;
+    plugins.push(guard::plugin(alloc, of_guard)?)?;
     Ok(plugins)
 }

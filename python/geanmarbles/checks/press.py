@@ -1,13 +1,16 @@
 """Tries the program `press` where no row can: over files, beside the program `site`, and on random templates.
 
-    tests/press/run [--pages N] [--seed N] [PRESS [SITE]]
+    tests/press/run [--pages N] [--seed N] [--wordpress DIR] [PRESS [SITE]]
 
-PRESS is crates/press/out/press of this repository if it is left out, and SITE crates/site/out/site. It shows that
+PRESS is crates/press/out/press of this repository if it is left out, SITE crates/site/out/site, and DIR, with
+WordPress's wp-includes, /usr/share/wordpress. It shows that
 
 - snippets in a file are there after a restart, and the export of a site makes the same pages;
 - a site moves from SITE to PRESS by its export, with the same pages, and neither starts from the other's file;
 - PRESS prints random templates, with random values and contents, as a model of docs/SNIPPETS.md does that shares no
   code with it (N of them, 2,000 if it isn't said);
+- with `blocks`, `captions` or `guard` PRESS shows random contents as WordPress's own functions do (tests/press has
+  wordpress.php; N of each); skipped, and said so, without PHP or WordPress;
 - three nodes over three etcd (examples/cluster/three) show the same snippets; skipped, and said so, without etcd;
 - examples/snippets finds what is wrong with some templates, and nothing in those of docs/SNIPPETS.md.
 
@@ -26,7 +29,7 @@ import tempfile
 import time
 import urllib.error
 import urllib.request
-from collections.abc import Callable, Iterable, Mapping
+from collections.abc import Callable, Iterable, Mapping, Sequence
 from pathlib import Path
 from random import Random
 from typing import Any
@@ -34,7 +37,7 @@ from typing import Any
 from geanmarbles.arguments import Parser
 from geanmarbles.checks.programs import missing
 from geanmarbles.client.snippets import Place, faults, options_in, parts, place_after
-from geanmarbles.paths import BUILT_PRESS, BUILT_PROGRAM, EXAMPLES
+from geanmarbles.paths import BUILT_PRESS, BUILT_PROGRAM, EXAMPLES, TESTS
 
 # A line of a command file, or what a check is given: PRESS, SITE, and the arguments.
 Line = dict[str, Any]
@@ -60,6 +63,60 @@ ADDRESSES = ["javascript:x", " JAVA\tscript:x", "data:", "vbscript:"]
 VALUES = ["1", "", '"><script>', "<b>", "' onclick=x", *ADDRESSES, "a=b c", "&amp;", "é"]
 CONTENTS = ["", "x", "<i>y</i>", "\"q\" & 'r'", "<"]
 NAMES = ["a", "b", "content", "c"]
+# What random contents for the other plugins are made of. A block holds more than `0`, which WordPress loses.
+BLOCK_NAMES = ("paragraph", "core/group", "my-plugin/a_b-1", "list")
+BLOCK_ATTRIBUTES = ("", ' {"a":1}', ' {"a":{"b":[1,2]}}', '\n{"x":"}"}', " {}")
+BLOCK_TEXTS = ("<p>Rye</p>", "\n", "é", "<!-- more -->", "a < b", "{", "<!--a-->", "<!-- wp:A -->")
+PICTURES = (
+    '<img src="a.jpg" alt="x" />',
+    '<a href="b.html"><img class="c" src="a.jpg" alt="" width="300" /></a>',
+    '<a href="/?p=1&amp;q">\n<img src=x> </a>',
+    '<img src="é.png">',
+)
+CAPTIONS = (" A loaf", ' <em>A</em> & <a href="x">b</a>', "\n Two\nlines \n", ' it\'s 5 > 3 "q"', "", "  ", "é &amp; ü")
+CAPTION_VALUES = {
+    "id": ("attachment_6", "a", "x_y-z"),
+    "align": ("alignleft", "alignnone", "a b", '"q"', "x&y", "a&amp;b"),
+    "width": ("300", "1", "0", "640px", "99999", ""),
+    "class": ("k", "k l", "it's", "&lt;b", '"'),
+    "caption_id": ("b", "c_d"),
+    "caption": ("A loaf", "é", "x y"),
+}
+FORMATS = {"audio": ("mp3", "ogg", "flac", "m4a", "wav"), "video": ("mp4", "m4v", "webm", "ogv", "flv")}
+ADDRESS_BASES = ("/a/b", "http://e.org/x-y_z", "https://e.org/é", "/it's", "//e.org/a b", "/q&r", "/q&amp;r", "/A%20B")
+PLAYER_VALUES = {
+    "loop": ("on", "1", "0", "false", "", "TRUE"),
+    "autoplay": ("true", "0", "FALSE"),
+    "preload": ("auto", "none", "", '"'),
+    "class": ("k", "it's"),
+}
+VIDEO_VALUES = {
+    "width": ("320", "1", "640px"),
+    "height": ("200", "0"),
+    "poster": ("/p.jpg", "http://e.org/p q.png", "/a&b.gif", "javascript:x", ""),
+    "muted": ("on", "0"),
+}
+GUARDED_TAGS = ("[b]x[/b]", "[link]", "[none]", "[b]", "[[b]]")
+GUARDED_FORMS = (
+    '<a href="{}">x</a>',
+    "<a title='{}'>y</a>",
+    '<img alt="a {} b" src="/x.jpg">',
+    "<!-- {} -->",
+    "<p>{}</p>",
+    "text {} more",
+    '<a href="/p?x={}&amp;y=1">z</a>',
+    '<p title="it\'s {}">w</p>',
+    "{}",
+    "\n",
+    "é",
+    "<br />",
+    "<p title=\"a[0]\" lang='&#39;'>[b]&#91;[/b]</p>",
+)
+# What a callback can't know, and so doesn't print: which player of the page it is, and how old the browser is.
+OF_WORDPRESS = re.compile(
+    r"<!--\[if lt IE 9\]><script>document.createElement\('(?:audio|video)'\);</script><!\[endif\]-->\n"
+    r'| id="(?:audio|video)-\d+-\d+"|(?:\?|&#038;)_=\d+'
+)
 # The kinds of places that values may be at.
 KINDS = ("attribute", "bare", "between", "comment", "equals", "inside", "name", "opened", "quoted", "raw")
 
@@ -212,6 +269,84 @@ def prints_as_modelled(press: str, _site: str, options: argparse.Namespace) -> N
     must(places == set(KINDS), f"no random value was at these places: {sorted(set(KINDS) - places)}")
 
 
+def random_blocks(random: Random, depth: int = 0) -> str:
+    """Blocks within blocks, and texts between them."""
+    made: list[str] = []
+    for _ in range(random.randint(1, 3)):
+        name, given = random.choice(BLOCK_NAMES), random.choice(BLOCK_ATTRIBUTES)
+        inner = random_blocks(random, depth + 1) if depth < 2 else random.choice(BLOCK_TEXTS)
+        block = f"<!-- wp:{name}{given} -->{inner}<!-- /wp:{name} -->"
+        made += [random.choice(BLOCK_TEXTS), random.choice((block, block, f"<!-- wp:{name}{given} /-->"))]
+    return "".join(made)
+
+
+def chosen(random: Random, values: Mapping[str, Sequence[str]], chance: float) -> dict[str, str]:
+    return {name: random.choice(those) for name, those in values.items() if random.random() < chance}
+
+
+def random_caption(random: Random) -> str:
+    """A shortcode of `captions`. Without an attribute WordPress ends there, so each has one."""
+    kind = random.choice(("caption", "wp_caption", "audio", "video"))
+    if kind.endswith("caption"):
+        values = {"width": "300", **chosen(random, CAPTION_VALUES, 0.5)}
+        content = random.choice(PICTURES) + random.choice(CAPTIONS) if random.random() < 0.9 else "no picture"
+        return f"[{kind}{attributes(values)}]{content}[/{kind}]"
+    values = {"x": "1", **chosen(random, PLAYER_VALUES, 0.3), **chosen(random, VIDEO_VALUES, 0.3 * (kind == "video"))}
+    for name in FORMATS[kind]:
+        if random.random() < 0.3:
+            values[name] = f"{random.choice(ADDRESS_BASES)}.{name}"
+    if random.random() < 0.6:
+        values["src"] = f"{random.choice(ADDRESS_BASES)}.{random.choice((*FORMATS[kind], 'txt', 'pdf'))}"
+    return f"[{kind}{attributes(values)}]{' fallback ' if kind == 'video' else ''}[/{kind}]"
+
+
+def random_guarded(random: Random) -> str:
+    """Shortcodes in tags, values, comments and texts, at least one of which WordPress knows."""
+    forms = (
+        random.choice(GUARDED_FORMS).replace("{}", random.choice(GUARDED_TAGS)) for _ in range(random.randint(1, 4))
+    )
+    return "[b]z[/b]" + "".join(forms)
+
+
+def of_wordpress(folder: str, function: str, contents: Iterable[str]) -> list[str]:
+    """What a function of WordPress makes of contents."""
+    if not shutil.which("php") or not Path(folder, "wp-includes", "plugin.php").is_file():
+        raise Skipped("there is no PHP or no WordPress here")
+    given = joined([{"function": function, "text": content} for content in contents])
+    words = ["php", str(TESTS / "press" / "wordpress.php"), folder]
+    ran = subprocess.run(words, input=given.encode(), capture_output=True, timeout=SECONDS, check=False)
+    must(ran.returncode == 0, f"wordpress.php ended with status {ran.returncode}: {ran.stderr.decode()[-300:]}")
+    return [str(json.loads(line)) for line in ran.stdout.splitlines()]
+
+
+def shown_by(press: str, lines: Sequence[Line], contents: Iterable[str]) -> list[str]:
+    """What PRESS shows of contents, after some lines."""
+    given = [*lines, {**POST, "title": ""}]
+    for content in contents:
+        given += [{"cmd": "edit", "id": 1, "content": content}, GET]
+    return [page.removeprefix("<h2></h2>") for page in pages_in(run(press, joined(given)))]
+
+
+def agrees_with_wordpress(press: str, _site: str, options: argparse.Namespace) -> None:
+    """with `blocks`, `captions` or `guard` random contents are shown as WordPress's own functions do"""
+    random = Random(options.seed)
+    listed = [{"cmd": "activate", "plugin": name} for name in ("guard", "bold", "snippets")]
+    listed += [{"cmd": "option", "name": "snippets", "value": "[link]"}]
+    listed += [{"cmd": "option", "name": "[link]", "value": '<a href="#">link</a>'}]
+    tried: tuple[tuple[str, Callable[[Random], str], list[Line]], ...] = (
+        ("do_blocks", random_blocks, [{"cmd": "activate", "plugin": "blocks"}]),
+        ("do_shortcode", random_caption, [{"cmd": "activate", "plugin": "captions"}]),
+        ("do_shortcode", random_guarded, listed),
+    )
+    for function, made, lines in tried:
+        contents = [made(random) for _ in range(options.pages)]
+        wanted = [OF_WORDPRESS.sub("", page) for page in of_wordpress(options.wordpress, function, contents)]
+        pages = shown_by(press, lines, contents)
+        must(len(pages) == len(wanted), f"{len(wanted)} contents were shown there, {len(pages)} here")
+        for content, page, other in zip(contents, pages, wanted):
+            must(page == other, f"{made.__name__}: of {content!r} it shows {page!r}, WordPress {other!r}")
+
+
 def free_port() -> int:
     """A port such that it and those that examples/cluster/three takes after it are likely to be free."""
     with socket.socket() as taken:
@@ -287,13 +422,21 @@ def finds_mistakes(_press: str, _site: str, _options: argparse.Namespace) -> Non
     must(run(script, joined(SNIPPETS)) == "", "the script says something of fine templates")
 
 
-CHECKS: tuple[Check, ...] = (lasts, moves, shows_on_nodes, prints_as_modelled, finds_mistakes)
+CHECKS: tuple[Check, ...] = (
+    lasts,
+    moves,
+    shows_on_nodes,
+    prints_as_modelled,
+    finds_mistakes,
+    agrees_with_wordpress,
+)
 
 
 def main() -> int:
     parser = Parser(description=__doc__, formatter_class=argparse.RawDescriptionHelpFormatter)
-    parser.add_argument("--pages", type=int, default=2000, metavar="N", help="how many random templates are printed")
+    parser.add_argument("--pages", type=int, default=2000, metavar="N", help="how many random pages are shown")
     parser.add_argument("--seed", type=int, default=1, metavar="N", help="what they are made from")
+    parser.add_argument("--wordpress", default="/usr/share/wordpress", metavar="DIR", help="WordPress's folder")
     parser.add_argument("press", nargs="?", default=str(BUILT_PRESS), metavar="PRESS")
     parser.add_argument("site", nargs="?", default=str(BUILT_PROGRAM), metavar="SITE")
     options = parser.parse_args()

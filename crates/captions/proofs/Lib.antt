@@ -1,0 +1,2 @@
+mod InPlace
+mod Printing

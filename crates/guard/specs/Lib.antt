@@ -1,0 +1,3 @@
+pub mod PlaceParts
+pub mod Guarded
+pub mod Guard

@@ -1,0 +1,288 @@
+//! Where in a content's markup a byte is: between tags, in a tag, within quotes, in a comment, or in
+//! the text of a script or a style.
+ghost use Rattle.std.specs.Prelude.{◌≡◌, [], Some, None, option_map, codes};
+ghost use Rattle.snippets.specs.Places.{Inside, after_angle, element_of, end_after, in_comment, in_name, is_blank};
+ghost use Rattle.snippets.specs.Places.{is_gap, is_whole, name_after, next_place, word_after};
+ghost use Rattle.guard.specs.PlaceParts.{by_element, place_now};
+ghost use Rattle.guard.specs.declared.places.Place.{Place};
+
+/// An element, by what its text is.
+#[derive(Clone, Copy)]
+pub(crate) enum Element {
+    /// `script`: a program.
+    Script,
+    /// `style`: rules of style.
+    Style,
+    /// Any other: text and tags.
+    Other,
+}
+
+/// Where in a page's markup a text ends.
+#[derive(Clone, Copy)]
+pub(crate) enum Place<'w> {
+    /// Between tags.
+    Between,
+    /// After a `<`.
+    Opened,
+    /// After a `<!` or `<?`, with 0, 1 or 2 `-` just before.
+    Comment(u8),
+    /// In a tag's name: what is left of `script` and of `style`, if it has agreed with them so far.
+    Name(Option<&'w [u8]>, Option<&'w [u8]>),
+    /// In a tag, before the name of an attribute.
+    Inside(Element),
+    /// In the name of an attribute, or after it.
+    Attribute(Element),
+    /// After the `=` of an attribute.
+    Equals(Element),
+    /// In a value without quotes.
+    Bare(Element),
+    /// In a value within two of this quote.
+    Quoted(u8, Element),
+    /// In the text of a script or a style: what is left of the name of its end tag.
+    Raw(Element, &'w [u8]),
+}
+
+/// Returns whether a byte is white space.
+fn is_blank(byte: u8) -> bool
+    ensures { result ≡ is_blank byte }
+{
+    byte == b' ' || byte == b'\t' || byte == b'\n' || byte == 12 || byte == b'\r'
+}
+
+/// Returns whether a byte ends a name in a tag.
+fn is_gap(byte: u8) -> bool
+    ensures { result ≡ is_gap byte }
+{
+    is_blank(byte) || byte == b'/'
+}
+
+/// Returns what is left of a word after a byte, or `None` if the byte isn't its next one.
+fn word_after(word: &[u8], byte: u8) -> Option<&[u8]>
+    ensures { option_map (λ left. left.now) result ≡ word_after word.now byte }
+{
+    match word {
+        [first, rest @ ..] if byte.to_ascii_lowercase() == *first => Some(rest),
+        _ => None,
+    }
+}
+
+/// Returns what is left of a word that a name has agreed with so far.
+fn name_after(word: Option<&[u8]>, byte: u8) -> Option<&[u8]>
+    ensures { option_map (λ left. left.now) result
+        ≡ name_after (option_map (λ left. left.now) word.entry) byte }
+{
+    match word {
+        Some(left) => word_after(left, byte),
+        None => None,
+    }
+}
+
+/// Returns whether nothing is left of a word that a name has agreed with.
+fn is_whole(word: Option<&[u8]>) -> bool
+    ensures { result ≡ is_whole (option_map (λ left. left.now) word.entry) }
+{
+    match word {
+        Some(left) => left.is_empty(),
+        None => false,
+    }
+}
+
+/// Returns the element of a tag's name.
+fn element_of(script: Option<&[u8]>, style: Option<&[u8]>) -> Element
+    ensures { place_now (Place.Inside result) ≡ Inside (element_of
+        (option_map (λ left. left.now) script.entry) (option_map (λ left. left.now) style.entry)) }
+{
+    if is_whole(script) {
+        Element::Script
+    } else if is_whole(style) {
+        Element::Style
+    } else {
+        Element::Other
+    }
+}
+
+/// Returns the beginning of the end tag of an element whose text is no markup.
+fn end_of<'w>(element: Element) -> &'w [u8]
+    ensures { result.now ≡ by_element (codes "</script") (codes "</style") [] element }
+{
+    match element {
+        Element::Script => b"</script",
+        Element::Style => b"</style",
+        Element::Other => b"",
+    }
+}
+
+/// Returns the place after the `>` of an element's tag.
+fn after_tag<'w>(element: Element) -> Place<'w>
+    ensures { place_now result ≡ next_place (place_now (Place.Inside element)) 62 }
+{
+    match element {
+        Element::Script => Place::Raw(Element::Script, end_of(Element::Script)),
+        Element::Style => Place::Raw(Element::Style, end_of(Element::Style)),
+        Element::Other => Place::Between,
+    }
+}
+
+/// Returns the place after a `<` and this byte.
+fn after_angle<'w>(byte: u8) -> Place<'w>
+    ensures { place_now result ≡ after_angle byte }
+{
+    if byte.is_ascii_alphabetic() {
+        Place::Name(word_after(b"script", byte), word_after(b"style", byte))
+    } else if byte == b'/' {
+        Place::Name(None, None)
+    } else if byte == b'!' || byte == b'?' {
+        Place::Comment(0)
+    } else if byte == b'<' {
+        Place::Opened
+    } else {
+        Place::Between
+    }
+}
+
+/// Returns the place after a byte in a comment.
+fn in_comment<'w>(dashes: u8, byte: u8) -> Place<'w>
+    ensures { place_now result ≡ in_comment dashes byte }
+{
+    if byte == b'-' {
+        Place::Comment(if dashes == 0 { 1 } else { 2 })
+    } else if byte == b'>' && dashes == 2 {
+        Place::Between
+    } else {
+        Place::Comment(0)
+    }
+}
+
+/// Returns the place after a byte in a tag's name.
+fn in_name<'w>(script: Option<&'w [u8]>, style: Option<&'w [u8]>, byte: u8) -> Place<'w>
+    ensures { place_now result ≡ in_name (option_map (λ left. left.now) script.entry)
+        (option_map (λ left. left.now) style.entry) byte }
+{
+    if byte == b'>' {
+        after_tag(element_of(script, style))
+    } else if is_gap(byte) {
+        Place::Inside(element_of(script, style))
+    } else {
+        Place::Name(name_after(script, byte), name_after(style, byte))
+    }
+}
+
+/// Returns the place after a byte in a tag, before the name of an attribute.
+fn in_tag<'w>(element: Element, byte: u8) -> Place<'w>
+    ensures { place_now result ≡ next_place (place_now (Place.Inside element)) byte }
+{
+    if byte == b'>' {
+        after_tag(element)
+    } else if is_gap(byte) {
+        Place::Inside(element)
+    } else {
+        Place::Attribute(element)
+    }
+}
+
+/// Returns the place after a byte in the name of an attribute, or after it.
+fn in_attribute<'w>(element: Element, byte: u8) -> Place<'w>
+    ensures { place_now result ≡ next_place (place_now (Place.Attribute element)) byte }
+{
+    if byte == b'>' {
+        after_tag(element)
+    } else if byte == b'=' {
+        Place::Equals(element)
+    } else if byte == b'/' {
+        Place::Inside(element)
+    } else {
+        Place::Attribute(element)
+    }
+}
+
+/// Returns the place after a byte after the `=` of an attribute.
+fn after_equals<'w>(element: Element, byte: u8) -> Place<'w>
+    ensures { place_now result ≡ next_place (place_now (Place.Equals element)) byte }
+{
+    if byte == b'>' {
+        after_tag(element)
+    } else if is_blank(byte) {
+        Place::Equals(element)
+    } else if byte == b'"' || byte == b'\'' {
+        Place::Quoted(byte, element)
+    } else {
+        Place::Bare(element)
+    }
+}
+
+/// Returns the place after a byte in a value without quotes.
+fn in_bare<'w>(element: Element, byte: u8) -> Place<'w>
+    ensures { place_now result ≡ next_place (place_now (Place.Bare element)) byte }
+{
+    if byte == b'>' {
+        after_tag(element)
+    } else if is_blank(byte) {
+        Place::Inside(element)
+    } else {
+        Place::Bare(element)
+    }
+}
+
+/// Returns the place after a byte in a value within quotes.
+fn in_quotes<'w>(quote: u8, element: Element, byte: u8) -> Place<'w>
+    ensures { place_now result ≡ next_place (place_now (Place.Quoted quote element)) byte }
+{
+    if byte == quote {
+        Place::Inside(element)
+    } else {
+        Place::Quoted(quote, element)
+    }
+}
+
+/// Returns what is left of the name of an element's end tag after a byte of its text.
+fn end_after<'w>(element: Element, left: &'w [u8], byte: u8) -> &'w [u8]
+    ensures { result.now ≡ end_after (by_element (element_of (Some []) None)
+        (element_of None (Some [])) (element_of None None) element)
+        left.entry.now byte }
+{
+    if let Some(rest) = word_after(left, byte) {
+        return rest;
+    }
+    let end = end_of(element);
+    match word_after(end, byte) {
+        Some(rest) => rest,
+        None => end,
+    }
+}
+
+/// Returns the place after a byte in the text of a script or a style.
+fn in_raw<'w>(element: Element, left: &'w [u8], byte: u8) -> Place<'w>
+    ensures { place_now result ≡ next_place (place_now (Place.Raw element left.entry)) byte }
+{
+    if left.is_empty() && byte == b'>' {
+        Place::Between
+    } else if left.is_empty() && is_gap(byte) {
+        Place::Inside(Element::Other)
+    } else {
+        Place::Raw(element, end_after(element, left, byte))
+    }
+}
+
+/// Returns the place after one more byte.
+pub(crate) fn next_place<'w>(place: Place<'w>, byte: u8) -> Place<'w>
+    ensures { place_now result ≡ next_place (place_now place.entry) byte }
+{
+    match place {
+        Place::Between => {
+            if byte == b'<' {
+                Place::Opened
+            } else {
+                Place::Between
+            }
+        }
+        Place::Opened => after_angle(byte),
+        Place::Comment(dashes) => in_comment(dashes, byte),
+        Place::Name(script, style) => in_name(script, style, byte),
+        Place::Inside(element) => in_tag(element, byte),
+        Place::Attribute(element) => in_attribute(element, byte),
+        Place::Equals(element) => after_equals(element, byte),
+        Place::Bare(element) => in_bare(element, byte),
+        Place::Quoted(quote, element) => in_quotes(quote, element, byte),
+        Place::Raw(element, left) => in_raw(element, left, byte),
+    }
+}

@@ -1,0 +1,7 @@
+use Rattle.std.proofs.Common.{refl}
+use Rattle.value_escapes.specs.Escapes.{escaped, plain_address}
+use Rattle.value_escapes.proofs.worked_values.Goals as goal
+
+pub returns : goal.returns
+unfolding escaped plain_address
+returns c = record { escaped = refl; no_entity = refl; address = refl; program = refl; tab = refl }
