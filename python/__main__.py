@@ -4,6 +4,8 @@ script as it was typed, and the arguments."""
 import sys
 from importlib import import_module
 
+from geanmarbles.output import quiet_output
+
 # Each command, by its script's path in the checkout, with the module whose `main` it is.
 COMMANDS = {
     "bench/cluster/run": "benches.cluster",
@@ -58,6 +60,7 @@ COMMANDS = {
     "tests/wordpress/run": "checks.wordpress",
     "tools/build": "repository.build",
     "tools/index": "repository.index",
+    "tools/release": "repository.release",
     "tools/titles": "repository.titles",
 }
 # What other commands run in a process of its own, and no script.
@@ -68,4 +71,5 @@ PARTS = {
 
 if __name__ == "__main__":
     _, name, *sys.argv = sys.argv
-    sys.exit(import_module(f"geanmarbles.{(COMMANDS | PARTS)[name]}").main())
+    with quiet_output():
+        sys.exit(import_module(f"geanmarbles.{(COMMANDS | PARTS)[name]}").main())

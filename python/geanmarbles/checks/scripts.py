@@ -1,11 +1,12 @@
 """Tries the scripts that begin something: when ./site builds and what it runs, what ./new-plugin makes, that the
-tutorial shows the examples as they are, that tools/titles finds long titles of commits, that scripts end quietly once
-nobody reads their output, and that each script of the repository knows --help and refuses an argument that it doesn't
-know, before it does anything.
+tutorial shows the examples as they are, that tools/titles finds long titles of commits, what tools/release packs and
+refuses, that scripts end quietly once nobody reads their output, and that each script of the repository knows --help
+and refuses an argument that it doesn't know, before it does anything.
 
     tests/scripts/run
 
-No program is needed, and nothing is built or proved. ./site is tried in a small checkout made for it, where the
+Nothing is built or proved, and a program is needed for one check alone, which is skipped without it: that a release
+runs once it is unpacked where there is Python alone. ./site is tried in a small checkout made for it, where the
 toolchain's command is a script, and ./new-plugin in a copy of the crates that it reads. The last line is 'N passed, M
 failed', over the checks, each of which is a function below. The exit status is 0 if nothing failed.
 """
@@ -25,8 +26,10 @@ from pathlib import Path
 from typing import Any, Self
 
 from geanmarbles.arguments import Parser
+from geanmarbles.checks import release
 from geanmarbles.checks.programs import with_toolchain, without_toolchain
 from geanmarbles.paths import ROOT
+from geanmarbles.repository.unproved import run_telling
 
 SECONDS = 60
 # A checkout of three crates, of which the program has one below it.
@@ -298,6 +301,19 @@ def runs_unproved() -> None:
         must(len(runs) == 3, f"it compiled {len(runs)} times")
 
 
+def says_that_it_works() -> None:
+    """what runs long before a proof says now and then that it is at work, and hands on what it wrote"""
+    said: list[str] = []
+    words = ["sh", "-c", "cat; echo more >&2; sleep 0.5; exit 3"]
+    pipes: dict[str, Any] = {it: subprocess.PIPE for it in ("stdout", "stderr")}
+    with tempfile.TemporaryFile() as given:
+        given.write(b"line\n")
+        given.seek(0)
+        ran = run_telling(words, said.append, 0.1, stdin=given, **pipes)
+    must((ran.returncode, ran.stdout, ran.stderr) == (3, b"line\n", b"more\n"), f"it hands on {ran}")
+    must(said and all("s so far" in it for it in said), f"it said {said}")
+
+
 class Plugins(Checkout):
     """A checkout with the crates that ./new-plugin reads."""
 
@@ -442,11 +458,16 @@ def ends_without_a_reader() -> None:
             ["examples/from_wordpress", export],
             ["examples/refusals", bad],
         ]
+        python = [it for it in executables() if "../python" in (ROOT / it).read_text("utf-8", "replace")]
+        must(len(python) > 40, f"only {len(python)} scripts are Python's")
+        scripts += [[it, "--help"] for it in python]
         for words in scripts:
             status, said = printed_to_nobody(*words)
             # What examples/from_wordpress reports is written before its commands.
             faults = [it for it in said.splitlines() if "rror" in it or "Traceback" in it]
-            must(status == 1 and not faults, f"{words[0]} ended with {status}: {faults}")
+            # argparse drops the fault of a write that isn't buffered.
+            ends = {0, 1} if "--help" in words[1:] and words[0] != "./site" else {1}
+            must(status in ends and not faults, f"{' '.join(map(str, words))} ended with {status}: {faults}")
 
 
 def executables() -> list[str]:
@@ -507,6 +528,7 @@ CHECKS = [
     tells_failed_builds,
     answers_at_once,
     runs_unproved,
+    says_that_it_works,
     plugins_are_made,
     bad_names_are_refused,
     tutorial_shows_the_examples,
@@ -515,6 +537,7 @@ CHECKS = [
     scripts_know_help,
     packages_stand_on_lower_ones,
     package_is_sound,
+    *release.CHECKS,
 ]
 
 
@@ -524,7 +547,7 @@ def main() -> int:
     for check in CHECKS:
         try:
             check()
-        except (Wrong, OSError, ValueError, subprocess.SubprocessError) as fault:
+        except (Wrong, release.Wrong, OSError, ValueError, subprocess.SubprocessError) as fault:
             failed += 1
             print(f"FAILED: {check.__doc__}: {type(fault).__name__}: {fault}")
     print(f"{len(CHECKS) - failed} passed, {failed} failed")

@@ -55,7 +55,7 @@ def counted(words: Sequence[str]) -> tuple[int, int, int]:
 def main() -> int:
     Parser(description=__doc__, formatter_class=argparse.RawDescriptionHelpFormatter).parse_args()
     if not shutil.which("rt"):
-        why = "the command 'rt' of the Rattle toolchain isn't on the PATH (README.md, The toolchain)"
+        why = "the command 'rt' of the Rattle toolchain isn't on the PATH (README.md, Try it)"
         print(f"test: {why}", file=sys.stderr)
         print("0 passed, 1 failed")
         return 1

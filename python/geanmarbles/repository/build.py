@@ -2,10 +2,11 @@
 
     tools/build PROGRAM
 
-Crates wait for one another in chains, of which the longest decides how long the build takes. A crate of that chain is
-proved by as many processes as there are processors, the others beside it by one process each, and at a lower
-priority if the chains that they are in are much shorter. What earlier checks kept is used, as by `rt check`. A line on
-standard error says when a library is done, after what the prover said of it if it is refused.
+Crates wait for one another in chains, of which the longest decides how long the build takes; tools/seconds.txt says how
+long each takes. A crate of that chain is proved by as many processes as there are processors, one of a chain that is
+nearly as long by half as many if these are idle, the others by one process each, and at a lower priority if the chains
+that they are in are much shorter. What earlier checks kept is used, as by `rt check`. A line on standard error says
+when a library is done, after what the prover said of it if it is refused.
 
 The exit status is 0 if all are built, 1 if one isn't proved, and 2 if the argument or the toolchain is at fault. `rt
 run` in the program's folder builds them too, only more slowly.
@@ -23,29 +24,46 @@ from geanmarbles.arguments import Parser
 from geanmarbles.paths import ROOT
 from geanmarbles.repository.toolchain import ToolchainFault, load, processors
 
+# How long each library took when that was last measured.
+SECONDS = ROOT / "tools" / "seconds.txt"
+# What is in a chain longer than this part of the longest has half of the processors.
+NEARLY = 0.85
 # What is in no chain longer than this part of the longest can wait, and has a priority that is lower by this.
 LONG = 0.36
 NICE = 10
-# What a crate costs beside its own text, as bytes of text: the prover first reads the libraries below it.
-BASE = 60_000
+# What a library that wasn't measured may take: some seconds, in which the libraries below it are read, and one more for
+# so many bytes of its text.
+FIRST, BYTES = 40, 1_500
 
 
-def size_of(library: Any) -> int:
-    """What a library costs, as bytes of text that the prover reads."""
+def read_seconds() -> dict[str, float]:
+    """The seconds that each library took, by its name."""
+    lines = SECONDS.read_text(encoding="utf-8").splitlines()
+    return {name: float(count) for name, count in (it.split() for it in lines if it and it[0] != "#")}
+
+
+def text_of(library: Any) -> int:
+    """How many bytes of a library the prover reads."""
     parts = (Path(library.folder, it) for it in ("src", "specs", "proofs"))
-    return BASE + sum(it.stat().st_size for part in parts for it in part.rglob("*") if it.is_file())
+    return sum(it.stat().st_size for part in parts for it in part.rglob("*") if it.is_file())
 
 
 def lengths_of(libraries: list[Any]) -> dict[Any, float]:
     """How long the longest chain is that each library is in, as a part of the longest of all."""
-    sizes: dict[Any, int] = {it: size_of(it) for it in libraries}
-    up_to: dict[Any, int] = {}
-    from_here: dict[Any, int] = {}
+    measured = read_seconds()
+    sizes: dict[Any, float] = {it: measured.get(it.name) or FIRST + text_of(it) / BYTES for it in libraries}
+    up_to: dict[Any, float] = {}
+    from_here: dict[Any, float] = {}
     for it in libraries:
         up_to[it] = sizes[it] + max((up_to[dep] for dep in it.deps), default=0)
     for it in reversed(libraries):
         from_here[it] = sizes[it] + max((from_here[above] for above in libraries if it in above.deps), default=0)
     return {it: (up_to[it] + from_here[it] - sizes[it]) / max(up_to.values()) for it in libraries}
+
+
+def jobs_for(length: float, lanes: int, idle: int) -> int:
+    """How many processes prove a library of a chain that is this part of the longest."""
+    return lanes if length == 1 else max(1, min(lanes // 2, idle)) if length > NEARLY else 1
 
 
 def build(library: Any, jobs: int) -> int:
@@ -64,17 +82,17 @@ def build_all(libraries: list[Any]) -> int:
     """Builds libraries, those below before those above. The result is 0 if all are proved."""
     lengths, lanes = lengths_of(libraries), processors()
     left, status = sorted(libraries, key=lambda it: -lengths[it]), 0
-    running: dict[Future[int], tuple[Any, ThreadPoolExecutor]] = {}
+    running: dict[Future[int], tuple[Any, ThreadPoolExecutor, int]] = {}
     proved: set[Any] = set()
     chain, beside, later = (ThreadPoolExecutor(lanes, initializer=os.nice, initargs=(it,)) for it in (0, 0, NICE))
     rooms = {chain: 1, beside: max(1, lanes - 1), later: max(1, lanes // 2)}
     while running or left and not status:
         for it in [] if status else [it for it in left if proved.issuperset(it.below())]:
             pool = chain if lengths[it] == 1 else beside if lengths[it] > LONG else later
-            busy = [of for _, of in running.values()]
-            if busy.count(pool) < rooms[pool]:
+            if [of for _, of, _ in running.values()].count(pool) < rooms[pool]:
                 left.remove(it)
-                running[pool.submit(build, it, lanes if pool is chain else 1)] = it, pool
+                jobs = jobs_for(lengths[it], lanes, lanes - sum(jobs for _, _, jobs in running.values()))
+                running[pool.submit(build, it, jobs)] = it, pool, jobs
         for call in wait(running, return_when=FIRST_COMPLETED).done:
             status = status or call.result()
             proved.add(running.pop(call)[0])

@@ -32,6 +32,12 @@ def below(crates: Mapping[str, list[str]], name: str) -> set[str]:
     return found
 
 
+def own_crates(crates: Iterable[str]) -> list[str]:
+    """The repository's crates, but for an author's own plugins, of which ./new-plugin makes NAME and NAME_site."""
+    there = set(crates)
+    return [it for it in crates if f"{it}_site" not in there and it.removesuffix("_site") not in there - {it}]
+
+
 def lowest_first(crates: Mapping[str, list[str]], names: Iterable[str]) -> list[str]:
     return sorted(names, key=lambda it: (len(below(crates, it)), it))
 

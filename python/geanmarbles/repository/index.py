@@ -1,11 +1,18 @@
-"""Makes docs/INDEX.md: from each rule of docs/BEHAVIOUR.md to its definition, the contracts that carry it, and the
-wrong bodies that break it.
+"""Makes what is made of the sources: docs/INDEX.md, docs/THEOREM.md, and a part of docs/ARCHITECTURE.md.
 
-    tools/index [--print]
+    tools/index [--print | --check]
 
-A rule is a section of docs/BEHAVIOUR.md that ends with a line in small print, whose links name the definitions. What
-carries a definition, and which wrong bodies break it, is in the tables of the crates' README.md and DESIGN.md. With
---print the page is written to standard output in place of the file. tests/links/run fails if the file isn't this page.
+INDEX leads from each rule of docs/BEHAVIOUR.md to its definition, the contracts that carry it, and the wrong bodies
+that break it. A rule is a section that ends with a line in small print, whose links name the definitions. What carries
+a definition, and which wrong bodies break it, is in the tables of the crates' README.md and DESIGN.md.
+
+THEOREM has the clause of the headline, and each definition that it rests on, as in the crates' specs/.
+
+ARCHITECTURE has the floors of the crates, by crates.txt, and a table of what each crate's README.md says of it.
+
+Without an option the files are written, and those that had another text are named. With --print the pages are written
+to standard output instead, and with --check those that aren't up to date are named, with status 1; tests/links/run
+fails then.
 """
 
 import argparse
@@ -19,6 +26,7 @@ from typing import NamedTuple
 from geanmarbles.arguments import Parser
 from geanmarbles.output import quiet_output
 from geanmarbles.paths import CRATES, DOCS, ROOT
+from geanmarbles.repository import floors, theorem
 
 INDEX = DOCS / "INDEX.md"
 HEAD = "| Definition | The rule it states | File | Carried by | Wrong bodies refused |"
@@ -185,12 +193,29 @@ def page_text() -> str:
     return re.sub(r"\|  +\|", "| |", "\n".join(lines)) + "\n"
 
 
+def pages() -> dict[Path, str]:
+    """The pages that are made, each with the text that it should have now."""
+    return {INDEX: page_text(), theorem.PAGE: theorem.page_text(), floors.PAGE: floors.page_text()}
+
+
+def stale() -> dict[Path, str]:
+    """Those of the pages that have another text."""
+    return {it: text for it, text in pages().items() if not it.is_file() or it.read_text(encoding="utf-8") != text}
+
+
 @quiet_output()
-def main() -> None:
+def main() -> int:
     parser = Parser(description=__doc__, formatter_class=argparse.RawDescriptionHelpFormatter)
-    parser.add_argument("--print", action="store_true", help="write the page to standard output")
-    text = page_text()
-    if parser.parse_args().print:
-        sys.stdout.write(text)
-    else:
-        INDEX.write_text(text, encoding="utf-8")
+    how = parser.add_mutually_exclusive_group()
+    how.add_argument("--print", action="store_true", help="write the pages to standard output")
+    how.add_argument("--check", action="store_true", help="name the pages that aren't up to date")
+    asked = parser.parse_args()
+    if asked.print:
+        sys.stdout.write("".join(pages().values()))
+        return 0
+    other = stale()
+    for page, text in other.items():
+        print(f"{page.relative_to(ROOT)} {'is not up to date' if asked.check else 'was written'}")
+        if not asked.check:
+            page.write_text(text, encoding="utf-8")
+    return 1 if asked.check and other else 0

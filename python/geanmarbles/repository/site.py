@@ -22,9 +22,9 @@ build says goes to standard error. Without the toolchain's command `rt` a progra
 line on standard error says so if a source is newer.
 
 With --unproved the program runs for at most a minute and writes at most 1,048,576 bytes, with checks for bad memory
-accesses and overflows. Several files take one compile: each FILE is the input of a run of its own, and its output
-follows a line `== FILE`. Lines that are no JSON objects are told before the compile. The exit status is then 0 if each
-run ended with 0, and 1 if one didn't.
+accesses and overflows; a line on standard error each half minute says that it is at work. Several files take one
+compile: each FILE is the input of a run of its own, and its output follows a line `== FILE`. Lines that are no JSON
+objects are told before the compile. The exit status is then 0 if each run ended with 0, and 1 if one didn't.
 
 Bad arguments end with status 2 before anything is built.
 """
@@ -33,6 +33,7 @@ import json
 import os
 import re
 import shutil
+import signal
 import subprocess
 import sys
 import time
@@ -41,9 +42,9 @@ from pathlib import Path
 from typing import Any, NamedTuple, NoReturn
 
 from geanmarbles.output import quiet_output
-from geanmarbles.paths import BUILT_PROGRAM as PROGRAM, ROOT
+from geanmarbles.paths import BUILT_PROGRAM as PROGRAM, CRATES, ROOT
 from geanmarbles.repository.crates import SOURCES, below, read_crates, sum_of
-from geanmarbles.repository.unproved import MINUTES, Case, NotRun, run_cases
+from geanmarbles.repository.unproved import MINUTES, Case, NotRun, run_cases, run_telling
 
 CRATE = ROOT / "crates" / "site"
 # The sources that the program was built from: file times say nothing after a change of branches.
@@ -51,14 +52,16 @@ RECORD = ROOT / "out" / "site.sources"
 # The program's own options, and the largest number that each takes.
 LARGEST = {"--calls": 100_000, "--cache": 4_096}
 TRACE = "--trace"
+# The heading of a version in CHANGELOG.md.
+RELEASED = re.compile(r"^## \[(\d+\.\d+\.\d+)\]", re.M)
 DATABASE, SHORT = "--database", ("--export", "--compact")
 NEEDS = (
-    "The first build proves every crate below the program: 46 minutes on four processors with nothing else to do,"
+    "The first build proves every crate below the program: 43 minutes on four processors with little else to do,"
     " about 5 GB of disk in crates/*/out, and up to 2.6 GB of memory for each process of the prover, one a processor."
 )
 NO_TOOLCHAIN = (
     "the command 'rt' of the Rattle toolchain isn't on the PATH. The toolchain is not part of this repository, and no"
-    " address for it is known here: README.md, 'The toolchain', says which kit it is. If you have its folder, put"
+    " address for it is known here: README.md, 'Try it', says which kit it is. If you have its folder, put"
     " its bin/ on the PATH; `rt doc` then prints the path of its first page."
 )
 
@@ -141,9 +144,9 @@ def read_arguments(given: Sequence[str]) -> Asked:
     return Asked(mode, words, files)
 
 
-def crates_of_program() -> list[str]:
-    """The program's crate and those below it."""
-    return sorted({"site"} | below(read_crates(), "site"))
+def crates_of_program(program: str = "site") -> list[str]:
+    """A program's crate and those below it."""
+    return sorted({program} | below(read_crates(), program))
 
 
 def newest_source(crates: Iterable[str]) -> int:
@@ -166,8 +169,10 @@ def record(sources: str) -> None:
         pass
 
 
-def is_current() -> bool:
-    """Whether no source below the program has changed since it was built."""
+def is_current(program: str = "site") -> bool:
+    """Whether no source below a program has changed since it was built."""
+    if program != "site":
+        return newest_source(crates_of_program(program)) <= (CRATES / program / "out" / program).stat().st_mtime_ns
     crates, built = crates_of_program(), PROGRAM.stat().st_mtime_ns
     noted = RECORD.read_text(encoding="ascii") if RECORD.is_file() else ""
     is_noted = noted.startswith(f"{built} ")
@@ -266,12 +271,13 @@ def run_unproved(words: list[str], files: list[str]) -> int:
     if not shutil.which("rt"):
         say(NO_TOOLCHAIN)
         return 1
-    say(f"not proved: this run compiles the sources, which takes {MINUTES} each time.")
+    say(f"not proved: this run compiles the sources, which takes {MINUTES} each time and some 2 GB of memory.")
     if not files:
-        os.chdir(CRATE)
-        os.execvp("rt", ["rt", "try", "--", *words])
+        signal.signal(signal.SIGTERM, lambda *_: sys.exit(128 + signal.SIGTERM))
+        status = run_telling(["rt", "try", "--", *words], say, cwd=CRATE).returncode
+        return 128 - status if status < 0 else status
     well = True
-    for file, outcome in zip(files, run_cases(inputs)):
+    for file, outcome in zip(files, run_cases(inputs, tell=say)):
         sys.stdout.buffer.write(f"== {file}\n".encode() + outcome.output)
         sys.stdout.buffer.flush()
         if not outcome.ended_well():
@@ -280,13 +286,27 @@ def run_unproved(words: list[str], files: list[str]) -> int:
     return 0 if well else 1
 
 
-def version() -> str:
-    """What `--version` prints: the checkout's commit, as nothing has been released, and whether there is a program."""
+def version_of_changelog() -> str:
+    """The newest version that CHANGELOG.md has."""
+    path = ROOT / "CHANGELOG.md"
+    found = RELEASED.search(path.read_text(encoding="utf-8")) if path.is_file() else None
+    return found[1] if found else "unreleased"
+
+
+def commit() -> str:
+    """The commit that this is: of an unpacked release the file RELEASE has it."""
+    release = ROOT / "RELEASE"
+    if release.is_file():
+        return release.read_text(encoding="utf-8").split()[-1][:7]
     words = ["git", "-C", str(ROOT), "rev-parse", "--short", "HEAD"]
     git = subprocess.run(words, capture_output=True, text=True) if shutil.which("git") else None
-    commit = f"at commit {git.stdout.strip()}" if git and not git.returncode else "of an unknown commit"
+    return git.stdout.strip() if git and not git.returncode else "unknown"
+
+
+def version() -> str:
+    """What `--version` prints: the version, the commit, and whether there is a program."""
     state = "isn't built" if not is_built() else "is built" if is_current() else "is built, and a source is newer"
-    return f"Geanmarbles, unreleased, {commit}; the program {state}"
+    return f"Geanmarbles {version_of_changelog()}, commit {commit()}; the program {state}"
 
 
 @quiet_output()

@@ -5,9 +5,10 @@ import secrets
 import shutil
 import subprocess
 import tempfile
-from collections.abc import Sequence
+import time
+from collections.abc import Callable, Sequence
 from pathlib import Path
-from typing import NamedTuple
+from typing import Any, NamedTuple
 
 from geanmarbles.paths import ROOT
 
@@ -15,6 +16,8 @@ MINUTES = "two to five minutes"
 # The longest output that `rt try` hands on.
 OUTPUT_BYTES = 1_048_576
 SECONDS = 60
+# How often a run says that it is still at work.
+EVERY = 30.0
 
 
 class NotRun(Exception):
@@ -48,6 +51,24 @@ class Outcome(NamedTuple):
         )
 
 
+def run_telling(
+    words: Sequence[str], tell: Callable[[str], None], every: float = EVERY, **how: Any
+) -> subprocess.CompletedProcess[bytes]:
+    """Runs a command, and tells now and then how long it has been at work. It is ended if this is interrupted."""
+    begin = time.monotonic()
+    with subprocess.Popen(words, **how) as child:
+        try:
+            while True:
+                try:
+                    output, said = child.communicate(timeout=every)
+                    return subprocess.CompletedProcess(words, child.returncode, output, said)
+                except subprocess.TimeoutExpired:
+                    tell(f"compiling the sources, and then running them, for {time.monotonic() - begin:.0f} s so far")
+        finally:
+            if child.poll() is None:
+                child.terminate()
+
+
 def write_cases(room: str, prefix: str, cases: Sequence[Case]) -> None:
     for number, case in enumerate(cases):
         Path(room, f"{prefix}-{number}").write_bytes(case.given)
@@ -62,17 +83,20 @@ def outputs_of(prefix: str, printed: bytes) -> dict[int, bytes]:
     return {int(head[1]): printed[head.end() : end] for head, end in zip(heads, ends)}
 
 
-def run_cases(cases: Sequence[Case], crate: str = "site") -> list[Outcome]:
+def run_cases(
+    cases: Sequence[Case], crate: str = "site", tell: Callable[[str], None] = lambda said: None
+) -> list[Outcome]:
     """What came of each case of a program crate. One compile serves them all."""
     if not shutil.which("rt"):
-        raise NotRun("the command 'rt' of the Rattle toolchain isn't on the PATH (README.md, The toolchain)")
+        raise NotRun("the command 'rt' of the Rattle toolchain isn't on the PATH (README.md, Try it)")
     # No output has a line with this name, which nobody knows beforehand.
     prefix = f"case{secrets.token_hex(8)}"
     with tempfile.TemporaryDirectory(prefix="unproved-") as room:
         write_cases(room, prefix, cases)
         words = ["rt", "try", "--cases", room, "--seconds", str(SECONDS)]
         folder = ROOT / "crates" / crate
-        ran = subprocess.run(words, cwd=folder, stdin=subprocess.DEVNULL, capture_output=True)
+        pipes: dict[str, Any] = {it: subprocess.PIPE for it in ("stdout", "stderr")}
+        ran = run_telling(words, tell, cwd=folder, stdin=subprocess.DEVNULL, **pipes)
     said = ran.stderr.decode(errors="replace")
     outputs = outputs_of(prefix, ran.stdout)
     ends = {int(it[1]): it for it in re.finditer(rf"case={prefix}-(\d+) run=(\S+)(?: status=(\d+))?", said)}

@@ -11,6 +11,7 @@ from typing import NamedTuple
 
 from geanmarbles.checks.links.reading import QUOTED, Checks, rows_of
 from geanmarbles.paths import ROOT
+from geanmarbles.repository.numbers import numbers
 
 CONTRIBUTING = ROOT / "CONTRIBUTING.md"
 TIMES_HEAD = ["", "What it says", "Time"]
@@ -30,7 +31,6 @@ class Place(NamedTuple):
 TIMES = {
     "./site --unproved < FILE": [
         Place("README.md", r"`examples/browse --unproved`[^|]*\| ([^|]+?) \|"),
-        Place("README.md", r"`\./site --unproved examples[^|]*\| ([^|]+?) \|"),
         Place("docs/PLUGINS.md", r"before any proof, in ([\w ]+?):"),
         Place("python/geanmarbles/repository/site.py", r"compiles the sources, which takes ([\w ]+?), and runs"),
         Place("python/geanmarbles/repository/unproved.py", r'^MINUTES = "([^"]+)"'),
@@ -57,7 +57,7 @@ TIMES = {
 }
 # Each a figure's home, and where else it is said.
 REPEATED = [
-    (Place(GATE, r"^\| Wall \| ([^|]+?) \|"), [Place("README.md", r"tries them all \(([^)]+?), ")]),
+    (Place(GATE, r"^\| Wall \| ([^|]+?) \|"), [Place("README.md", r"`\./test anew` also tries [^(]*\(([^)]+?), ")]),
     (
         Place(GATE, r"to `site_program`: `\./test` took ([\d.]+) minutes"),
         [Place("CONTRIBUTING.md", r"from nothing, (\d+) after a change of")],
@@ -83,7 +83,7 @@ REPEATED = [
     (
         Place(BEHAVIOUR, r"^\| `--calls` \| [^|]+ \| ([\d,]+) \|"),
         [
-            Place("README.md", r"--calls: invocations for a page, (\S+) by default"),
+            Place("README.md", r"how many callbacks a page may call, (\S+) by default"),
             Place("python/geanmarbles/repository/site.py", r"^ +--calls N .* \[default: (\d+)\]"),
             Place(BEHAVIOUR, r"\| `--calls`, (\S+) by default"),
         ],
@@ -91,9 +91,17 @@ REPEATED = [
     (
         Place(BEHAVIOUR, r"^\| `--cache` \| [^|]+ \| ([\d,]+) \|"),
         [
-            Place("README.md", r"--cache: .*\n +(\d+) by default"),
+            Place("README.md", r"kept with their\s+shortcodes found, (\d+) by default"),
             Place("python/geanmarbles/repository/site.py", r"^ +--cache N .* \[default: (\d+)\]"),
         ],
+    ),
+    (
+        Place(GATE, r"^\| Proof \| [^|]+ \| ([^|]+?) \|"),
+        [Place("README.md", r"(\S+) seconds of a\s+processor for all")],
+    ),
+    (
+        Place(GATE, r"^\| Date, commit \| [^|]+ \| (\d+ \w+ \d+),"),
+        [Place("README.md", r"processor for all proofs \((\d+ \w+ \d+)\)")],
     ),
     (Place(WORDPRESS, r"Figures of (\d+ \w+ \d+)"), [Place("README.md", r"in the same run, (\d+ \w+ \d+)")]),
     (Place(WORDPRESS, r"WordPress\s+(\d+\.\d+\.\d+)"), [Place("README.md", r"beside WordPress (\d+\.\d+\.\d+)")]),
@@ -104,20 +112,21 @@ REPEATED = [
     ),
     (Place(WORDPRESS, r"^\| `\[b\]`, 99,999 times \| ([^|]+?) \|"), [Place("README.md", r"here it takes (\S+ ms)")]),
 ]
+# Where the size of the repository is said, by what is counted; a tenth more or less may be there.
+COUNTED = {
+    "source": Place("README.md", r"([\d,]+) lines of source"),
+    "definitions": Place("README.md", r"lines of source,\s+([\d,]+) of definitions"),
+    "proofs": Place("README.md", r"of definitions and\s+([\d,]+) of\s+proofs"),
+    "functions": Place("README.md", r"proofs;\s+([\d,]+) functions"),
+    "wrong bodies": Place("README.md", r"functions;\s+([\d,]+)\s+wrong\s+bodies"),
+}
 # The rows of README's table of figures by those of bench/wordpress/README.md; each is the first of its name there.
 FIGURES_HEAD = ["Here", "WordPress's functions", "Times as fast"]
 FIGURES = {
     "a page of 10,000 times `[b]x[/b]`": "10,000 times",
-    "200,000 times `[b`": "`[b`, 200,000 times",
     "99,999 times `[b]`": "`[b]`, 99,999 times",
-    "500,000 times `[`": "`[`, 500,000 times",
-    "plain text of 500,000 bytes, asked for again": "plain text of 500,000 bytes",
-    "the same after a change, for which it is read from the tables anew and copied several times": (
-        "the same text, after a change"
-    ),
+    "plain text of 500,000 bytes, after a change": "the same text, after a change",
     "ten posts of 3 KB with 14 shortcodes each": "ten posts of 2,940 bytes, 14 shortcodes each",
-    "the front of 100 empty posts": "the front of 100 empty posts",
-    "a filter over 1,000 callbacks": "1,000 callbacks, at one priority",
 }
 NUMBERS = "one two three four five six seven eight nine ten".split()
 WORDS = {word: str(number) for number, word in enumerate(NUMBERS, 1)}
@@ -151,6 +160,15 @@ def check_times(checks: Checks) -> None:
         checks.check(command in rows, CONTRIBUTING, f"no time of {command}")
         if command in rows:
             compare(checks, re.split(r"[,:]| from nothing", rows[command])[0], "CONTRIBUTING.md", places)
+
+
+def check_counted(checks: Checks) -> None:
+    """What is said of the size of the repository is about what is there."""
+    there = numbers()
+    for what, place in COUNTED.items():
+        said = said_at(checks, place)
+        near = said is None or 10 * abs(int(said.replace(",", "")) - there[what]) <= there[what]
+        checks.check(near, ROOT / place.file, f"it says {said!r}, and there are {there[what]:,} ({what})")
 
 
 def check_figures(checks: Checks) -> None:

@@ -4,12 +4,13 @@ import re
 import shutil
 import subprocess
 import tempfile
+from collections.abc import Callable
 from pathlib import Path
 
-from geanmarbles.checks.links.figures import FIGURES, REPEATED, TIMES, WORDS, Place
+from geanmarbles.checks.links.figures import COUNTED, FIGURES, REPEATED, TIMES, WORDS, Place
 from geanmarbles.paths import ROOT
 
-SECONDS = 120
+SECONDS = 600
 ANYWHERE = "in any crate"
 HERE = "in this crate, what it depends on or the crates named here"
 # What is written at the end of a page, and what the check must say of that page.
@@ -44,7 +45,9 @@ SENTENCES = [
         "| What | Function | Clause |\n|---|---|---|\n| a | `Run::start` | `never_there` |",
         "no clause never_there of Run::start",
     ),
-    ("docs/INDEX.md", "More.", "isn't what tools/index makes of the documents"),
+    ("docs/INDEX.md", "More.", "isn't what tools/index makes of the sources"),
+    ("docs/THEOREM.md", "More.", "isn't what tools/index makes of the sources"),
+    ("README.md", "\n" * 190, "it has not at most 190 lines"),
     ("README.md", "`Run::start` (`never_there`)", "no clause never_there of Run::start"),
     # A clause of another function of that name.
     ("README.md", "`Plans::start` (`started`)", "no clause started of Plans::start"),
@@ -53,8 +56,11 @@ SENTENCES = [
 # What is written in the place of a text, and what the check must say.
 CHANGED = [
     ("crates/byte_io/README.md", "**Called by**:", "**Called by**: `never_there`,", "no crate never_there"),
+    ("crates/byte_io/README.md", "let mut buf = [0; 2];", "let mut buf = [0; 3];", "its use isn't in ../test_engine/"),
+    ("crates/call_plans/README.md", "**Limits**", "**Use**", "the heads are "),
+    ("crates/call_plans/README.md", "# call_plans", "# call_plan", "the title isn't call_plans"),
     ("crates/byte_io/README.md", "# byte_io", "# bytes_io", "the title isn't byte_io"),
-    ("docs/ARCHITECTURE.md", "| [`byte_io`]", "| [`bytes_io`]", "no row for byte_io"),
+    ("docs/ARCHITECTURE.md", "| [`byte_io`]", "| [`bytes_io`]", "isn't what tools/index makes of the sources"),
 ]
 
 
@@ -76,7 +82,12 @@ def another(said: str) -> str:
     return re.sub(r"\w+", lambda word: "nine" if WORDS.get(word[0], "").isdigit() else word[0], said, count=2)
 
 
-def change(folder: Path, place: Place) -> str:
+def larger(said: str) -> str:
+    """A number that is far larger."""
+    return f"9{said}"
+
+
+def change(folder: Path, place: Place, another: Callable[[str], str] = another) -> str:
     """Plants another figure at a place; returns what the check must say of it."""
     path = folder / place.file
     text = path.read_text(encoding="utf-8")
@@ -92,6 +103,7 @@ def plant(folder: Path) -> list[str]:
     places = [place for places in TIMES.values() for place in places]
     places += [place for _, repeated in REPEATED for place in repeated]
     wanted = [change(folder, place) for place in places]
+    wanted += [change(folder, place, larger) for place in COUNTED.values()]
     readme = folder / "README.md"
     row = next(iter(FIGURES))
     text = readme.read_text(encoding="utf-8")

@@ -14,20 +14,22 @@ functions have a mark that the program doesn't reach, by tests/reach/reasons.txt
 docs/PROOFS.md: each row leads to an edit or a test by its name, and its functions are those that the edits change,
 with clauses of theirs. Its section on what is trusted names each library of the toolchain that crates.txt has.
 
-Of each crate, but for an author's own plugins: its README.md has no more than 30 lines and the same heads as the
-others, the crates that it says call it depend on it, and the functions, clauses and edits that it names are there. Of
-the tables of definitions in a crate's README.md or DESIGN.md: each definition is in the crate's specs/ or a type of
-its sources, each file named for it is there, each function that carries it is in some crate with the clauses named,
-and each edit is the crate's or of the crate that is named for it. Each edit is named in one of these pages. Each
-type, function of a type, source, file of definitions or lemmas, and other name with an underscore that these pages
-have is in the crate itself, in one that it depends on, or in one that the same paragraph or row names.
+Of each crate, but for an author's own plugins: its README.md has no more than 40 lines and the same heads as the
+others, a use that it shows is in the source that it names, the crates that it says call it depend on it, and the
+functions, clauses and edits that it names are there. Of the tables of definitions in a crate's README.md or DESIGN.md:
+each definition is in the crate's specs/ or a type of its sources, each file named for it is there, each function that
+carries it is in some crate with the clauses named, and each edit is the crate's or of the crate that is named for it.
+Each edit is named in one of these pages. Each type, function of a type, source, file of definitions or lemmas, and
+other name with an underscore that these pages have is in the crate itself, in one that it depends on, or in one that
+the same paragraph or row names.
 
-docs/INDEX.md is what tools/index makes of them. The functions that README.md names with clauses have them.
-docs/ARCHITECTURE.md has a row for each crate, which names no crate that the one doesn't depend on. Each edit that
-docs/BEHAVIOUR.md names changes a function that the program reaches, or a law.
+docs/INDEX.md, docs/THEOREM.md and what is made in docs/ARCHITECTURE.md are what tools/index makes now, and each
+definition in THEOREM has a sentence. The functions that README.md names with clauses have them, and it has no more than
+190 lines. Each edit that docs/BEHAVIOUR.md names changes a function that the program reaches, or a law.
 
-The times of CONTRIBUTING.md's table are those that other documents and scripts say, and the figures of a bench those
-that README.md repeats; figures.py has the places.
+The times of CONTRIBUTING.md's table are those that other documents and scripts say, the figures of a bench those that
+README.md repeats, and README's numbers of lines, functions and wrong bodies about those of the sources; figures.py has
+the places.
 
 A line is printed for each thing that is missing. The last line is 'N passed, M failed', over the documents. The exit
 status is 0 if nothing is missing. With --self-test wrong sentences, names and figures are planted in a copy of the
@@ -43,7 +45,7 @@ from pathlib import Path
 
 from geanmarbles.arguments import Parser
 from geanmarbles.checks.links.declared import contracts_of
-from geanmarbles.checks.links.figures import check_figures, check_times
+from geanmarbles.checks.links.figures import check_counted, check_figures, check_times
 from geanmarbles.checks.links.naming import check_naming
 from geanmarbles.checks.links.planted import self_test
 from geanmarbles.checks.links.reading import (
@@ -60,13 +62,12 @@ from geanmarbles.checks.links.reading import (
     text_of,
 )
 from geanmarbles.paths import CRATES, ROOT
-from geanmarbles.repository.crates import read_crates
+from geanmarbles.repository import index, theorem
+from geanmarbles.repository.crates import own_crates, read_crates
 
 README = ROOT / "README.md"
 PROOFS = ROOT / "docs" / "PROOFS.md"
 FAILURES = ROOT / "docs" / "FAILURES.md"
-INDEX = ROOT / "docs" / "INDEX.md"
-ARCHITECTURE = ROOT / "docs" / "ARCHITECTURE.md"
 LINK = re.compile(r"\[[^\]]*\]\(([^()\s]+)\)")
 LINK_WITH_TEXT = re.compile(r"\[([^\]]*)\]\(([^()\s]+)\)")
 SOURCE_LINK = re.compile(r"\[`([\w:]+)`\]\(([^()\s]+\.(?:rt|antt|edit))\)")
@@ -78,7 +79,6 @@ MADE = re.compile(r"/[A-Z]+\b(?!\.md)|/out\b|^crates/shout")
 # The last headings of the tables that are looked at.
 PROMISES_HEAD = ["Function", "Clause"]
 WRONG_BODIES_HEAD = ["Edit or test", "Function", "Clause"]
-CRATES_HEAD = ["Crate", "Job", "Depends on", "What it promises to the crate above"]
 # Why the program doesn't reach some functions, and the mark that these have where a promise names them.
 REASONS = ROOT / "tests" / "reach" / "reasons.txt"
 MARKED = re.compile(r"`([\w:]+)`(°?)")
@@ -86,9 +86,14 @@ MARKED = re.compile(r"`([\w:]+)`(°?)")
 ONE_CLAUSE = re.compile(r"\bensures\*? \{")
 FUNCTION_NAME = re.compile(r"^function: (?:\w+::)*(\w+)$", re.M)
 FUNCTION_PATH = re.compile(r"^function: *(\S+)$", re.M)
+# What README.md has at most.
+MOST_LINES = 190
 # What a crate's README.md has, in this order, in at most so many lines.
 README_HEADS = ["Called by", "Read first", "Contracts see", "Proved", "Limits", "Wrong bodies"]
-README_LINES = 30
+README_LINES = 40
+# What it may have besides, each right after one of these; and a use, with the source that it is taken from.
+FURTHER_HEADS = {"Use": "Read first", "What no clause says": "Proved"}
+USE = re.compile(r"^, as in \[\w+\]\((\.\./[\w/.]+)\):\n\n```rust\n(.*?)^```$", re.M | re.S)
 # Functions with clauses, as "`a`, `B::c` (`clause`, `other`)", and what is of another crate.
 WITH_CLAUSES = re.compile(r"((?:`[\w:]+`°?(?:, | and )?)+) \(((?:`\w+`(?:, )?)+)\)")
 OF_CRATE = re.compile(r"^\s*of `(\w+)` (.*)$")
@@ -101,7 +106,11 @@ def anchor_of(heading: str) -> str:
 
 
 def anchors_of(path: Path) -> set[str]:
-    return {anchor_of(it) for it in HEADING.findall(FENCE.sub("", path.read_text(encoding="utf-8")))}
+    """The anchors of a page; the second heading of a name has `-1` after its anchor, the third `-2`."""
+    found: dict[str, int] = {}
+    for anchor in map(anchor_of, HEADING.findall(FENCE.sub("", path.read_text(encoding="utf-8")))):
+        found[anchor] = found.get(anchor, 0) + 1
+    return {f"{anchor}-{at}" if at else anchor for anchor, times in found.items() for at in range(times)}
 
 
 def check_links(checks: Checks, page: Path) -> None:
@@ -213,8 +222,13 @@ def check_readme(checks: Checks, page: Path, crates: Mapping[str, list[str]]) ->
     lines = text.count("\n")
     checks.check(lines <= README_LINES, page, f"{lines} lines, and not at most {README_LINES}")
     heads = re.findall(r"^\*\*([^*]+)\*\*", text, re.M)
-    checks.check(heads == README_HEADS, page, f"the heads are {heads}, and not {README_HEADS}")
+    there = [it for it in heads if it not in FURTHER_HEADS]
+    checks.check(there == README_HEADS, page, f"the heads are {there}, and not {README_HEADS}")
+    for head, before in zip(heads[1:], heads):
+        checks.check(FURTHER_HEADS.get(head, before) == before, page, f"{head} is not right after {before}")
     parts = dict(zip(heads, re.split(r"^\*\*[^*]+\*\*", text, flags=re.M)[1:]))
+    if "Use" in parts:
+        check_use(checks, page, parts["Use"])
     users = {it for it, libraries in crates.items() if crate in libraries}
     callers = parts.get("Called by", "")
     for name in set(names_in(callers)) & set(crates):
@@ -227,9 +241,12 @@ def check_readme(checks: Checks, page: Path, crates: Mapping[str, list[str]]) ->
         checks.check(name in edits_of(crate), page, f"no edit {name}")
 
 
-def own_crates(crates: set[str]) -> list[str]:
-    """The repository's crates, but for an author's own plugins, of which ./new-plugin makes NAME and NAME_site."""
-    return sorted(it for it in crates if f"{it}_site" not in crates and it.removesuffix("_site") not in crates - {it})
+def check_use(checks: Checks, page: Path, text: str) -> None:
+    """The use of a crate is code of the source that it names."""
+    found = USE.match(text)
+    path = (page.parent / found[1]).resolve() if found else page
+    known = found and path.is_file() and " ".join(found[2].split()) in " ".join(path.read_text("utf-8").split())
+    checks.check(known, page, f"its use isn't in {found[1] if found else 'a source'}")
 
 
 def check_crates(checks: Checks) -> None:
@@ -237,29 +254,18 @@ def check_crates(checks: Checks) -> None:
     crates = read_crates()
     named: set[tuple[str, str]] = set()
     there: dict[tuple[str, str], Path] = {}
-    check_architecture(checks, own_crates(set(crates)))
-    for crate in own_crates(set(crates)):
+    for crate in own_crates(sorted(crates)):
         readme = CRATES / crate / "README.md"
         pages = [it for it in (readme, CRATES / crate / "DESIGN.md") if it.is_file()]
         checks.check(readme in pages, readme, "isn't there")
         for page in pages:
             named |= check_definitions(checks, page)
-            named |= {(crate, name) for name in QUOTED.findall(page.read_text(encoding="utf-8"))}
+            named |= {(crate, name) for name in QUOTED.findall(FENCE.sub("", page.read_text(encoding="utf-8")))}
         if readme in pages:
             check_readme(checks, readme, crates)
         there |= {(crate, name): readme for name in edits_of(crate)}
     for (crate, name), readme in there.items():
         checks.check((crate, name) in named, readme, f"the edit {name} isn't named")
-
-
-def check_architecture(checks: Checks, crates: Iterable[str]) -> None:
-    listed = libraries()
-    rows = {names_in(row[0])[0]: row for row in rows_of(ARCHITECTURE.read_text(encoding="utf-8"), CRATES_HEAD)}
-    for crate in sorted(set(crates) - set(rows)):
-        checks.check(False, ARCHITECTURE, f"no row for {crate}")
-    for crate, (_, _, named, _) in rows.items():
-        for name in set(names_in(named)) - {"std"} - listed.get(crate, set()):
-            checks.check(False, ARCHITECTURE, f"{crate} doesn't depend on {name}")
 
 
 def check_trusted(checks: Checks, text: str) -> None:
@@ -271,10 +277,15 @@ def check_trusted(checks: Checks, text: str) -> None:
         checks.check(named, PROOFS, f"the library {name} isn't named as trusted")
 
 
-def check_index(checks: Checks) -> None:
-    ran = subprocess.run([ROOT / "tools" / "index", "--print"], capture_output=True, check=True, text=True)
-    same = INDEX.is_file() and INDEX.read_text(encoding="utf-8") == ran.stdout
-    checks.check(same, INDEX, "isn't what tools/index makes of the documents: run it")
+def check_made(checks: Checks) -> None:
+    """The pages that are made of the sources are up to date, and a sentence says what each definition there is."""
+    other = index.stale()
+    for page in index.pages():
+        checks.check(page not in other, page, "isn't what tools/index makes of the sources: run it")
+    for name in theorem.without_sentence():
+        checks.check(
+            False, theorem.PAGE, f"{name} has no sentence, or one besides its comment: SENTENCES in theorem.py"
+        )
 
 
 def check_wrong_bodies(checks: Checks, text: str) -> None:
@@ -310,15 +321,19 @@ def check_all() -> tuple[int, int]:
     check_naming(checks, pages())
     check_times(checks)
     check_figures(checks)
+    check_counted(checks)
     text = PROOFS.read_text(encoding="utf-8")
     for page in (PROOFS, FAILURES):
         check_promises(checks, page, unreached())
     check_rules(checks, unreached())
-    check_clauses(checks, README, README.read_text(encoding="utf-8"))
+    readme = README.read_text(encoding="utf-8")
+    check_clauses(checks, README, readme)
+    lines = readme.count("\n")
+    checks.check(lines <= MOST_LINES, README, f"it has not at most {MOST_LINES} lines, but {lines}")
     check_wrong_bodies(checks, text)
     check_trusted(checks, text)
     check_crates(checks)
-    check_index(checks)
+    check_made(checks)
     return len(checks.seen) - len(checks.bad), len(checks.bad)
 
 

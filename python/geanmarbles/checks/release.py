@@ -1,0 +1,219 @@
+"""What tests/scripts/run tries of tools/release: what it packs and what it refuses, and that the archive runs where
+there is Python alone."""
+
+from __future__ import annotations
+
+import atexit
+import hashlib
+import os
+import re
+import shutil
+import signal
+import subprocess
+import tarfile
+import tempfile
+import urllib.request
+from functools import cache
+from pathlib import Path
+from typing import Any
+
+from geanmarbles.checks.links.planted import copy_to
+from geanmarbles.checks.programs import executable, missing, without_toolchain
+from geanmarbles.paths import BUILT_PROGRAM, EXAMPLES
+
+SECONDS = 600
+GATE = "12 passed, 0 failed"
+KIT = "kit-0 logic 0"
+OLD = 1_000_000_000
+# Copies of thousands of files are made and removed here, if the machine has it.
+MEMORY = "/dev/shm" if os.access("/dev/shm", os.W_OK) else None
+EXPORT = "tests/from_wordpress/whole/fournil.xml"
+# Whose commits the tests make, and when.
+MAKER = {f"GIT_{who}_{what}": "a" for who in ("AUTHOR", "COMMITTER") for what in ("NAME", "EMAIL")}
+MAKER |= {f"GIT_{who}_DATE": "2026-01-02T03:04:05Z" for who in ("AUTHOR", "COMMITTER")}
+
+
+class Wrong(Exception):
+    """What came otherwise than it must."""
+
+
+def must(holds: object, what: str) -> None:
+    if not holds:
+        raise Wrong(what)
+
+
+class Repository:
+    """A copy of this repository as one commit, with a program, in a folder that is gone at the end."""
+
+    def __init__(self) -> None:
+        self.room = tempfile.TemporaryDirectory(dir=MEMORY)
+        self.folder = Path(self.room.name)
+        self.root = self.folder / "here"
+        copy_to(self.root)
+        executable(self.folder, "rt", f"#!/bin/sh\necho '{KIT}'\n")
+        self.env = {**os.environ, **MAKER, "PATH": f"{self.folder}:{os.environ['PATH']}"}
+        self.git("add", "-A")
+        self.git("commit", "-q", "-m", "all")
+        self.program = self.put(self.root)
+        self.note(self.root)
+        self.log = self.folder / "log"
+        self.log.write_text(f"test: begins\n{GATE}\n", encoding="utf-8")
+        atexit.register(self.room.cleanup)
+
+    def git(self, *words: str | Path) -> None:
+        subprocess.run(["git", *words], cwd=self.root, env=self.env, check=True, capture_output=True)
+
+    @staticmethod
+    def put(root: Path) -> Path:
+        """Puts a program into a checkout: the built one, or one that writes what it reads."""
+        path = root / "crates/site/out/site"
+        path.parent.mkdir(parents=True)
+        if missing(BUILT_PROGRAM):
+            return executable(path.parent, path.name, "#!/bin/sh\ncat\n")
+        shutil.copyfile(BUILT_PROGRAM, path)
+        path.chmod(0o755)
+        return path
+
+    def note(self, root: Path) -> None:
+        """Notes the sums of a checkout's sources, as ./test does once it has passed."""
+        ran = subprocess.run([root / "tests/quick", "--sums"], check=True, capture_output=True, env=self.env)
+        (root / "out").mkdir(exist_ok=True)
+        (root / "out/quick.json").write_bytes(ran.stdout)
+
+    def release(self, to: str, root: Path | None = None, log: Path | None = None) -> subprocess.CompletedProcess[str]:
+        words: list[str | Path] = [
+            Path(root or self.root, "tools/release"),
+            "--gate",
+            log or self.log,
+            self.folder / to,
+        ]
+        how: dict[str, Any] = {"capture_output": True, "text": True, "timeout": SECONDS, "env": self.env}
+        return subprocess.run(words, **how)
+
+    def archive(self, to: str, root: Path | None = None) -> Path:
+        ran = self.release(to, root)
+        must(ran.returncode == 0 and not ran.stderr, f"it ended with {ran.returncode}: {ran.stderr}")
+        found = list((self.folder / to).glob("geanmarbles-*.tar.gz"))
+        must(len(found) == 1, f"it wrote {found}")
+        said = f"{hashlib.sha256(found[0].read_bytes()).hexdigest()}  {found[0]}\n"
+        must(ran.stdout == said, f"it said {ran.stdout!r}, wanted {said!r}")
+        return found[0]
+
+    def refuses(self, says: str, log: Path | None = None) -> None:
+        ran = self.release("refused", log=log)
+        must((ran.returncode, ran.stdout) == (1, "") and says in ran.stderr, f"it doesn't refuse {says!r}: {ran}")
+        must(not (self.folder / "refused").exists(), f"it packed something although {says}")
+
+
+@cache
+def repository() -> Repository:
+    """The copy that all checks share."""
+    return Repository()
+
+
+def one_commit_gives_one_archive() -> None:
+    """tools/release packs the same bytes of the same commit in another clone, and says of what in PROVED.md"""
+    here = repository()
+    first = here.archive("first")
+    there = here.folder / "there"
+    here.git("clone", "-q", here.root, there)
+    shutil.copy(here.program, here.put(there))
+    here.note(there)
+    (there / "untracked").write_text("more\n", encoding="utf-8")
+    must(here.archive("second", there).read_bytes() == first.read_bytes(), "another clone gives another archive")
+    with tarfile.open(first) as files:
+        names = files.getnames()
+        folder = names[0].partition("/")[0]
+        page = files.extractfile(f"{folder}/PROVED.md")
+        text = page.read().decode() if page else ""
+    for said in (GATE, KIT, hashlib.sha256(here.program.read_bytes()).hexdigest(), "| `hook_meaning` |"):
+        must(said in text, f"PROVED.md doesn't say {said!r}")
+    must(not [it for it in names if not it.startswith(f"{folder}/")], "a file is outside of the folder")
+    must(f"{folder}/untracked" not in names, "it packs what is no file of the commit")
+
+
+def unsound_releases_are_refused() -> None:
+    """tools/release packs nothing if the gate failed or was of other sources, a file was changed, or the program is old
+    or missing"""
+    here = repository()
+    bad = here.folder / "bad"
+    for line in ("12 passed, 1 failed", "0 passed, 0 failed", "", "Killed"):
+        bad.write_text(f"{GATE}\n{line}\n", encoding="utf-8")
+        here.refuses("its last line isn't", bad)
+    here.refuses("No such file", here.folder / "nowhere")
+    noted = here.root / "out/quick.json"
+    noted.rename(here.folder / "noted")
+    here.refuses("no run of ./test has passed here")
+    noted.write_text("{}", encoding="utf-8")
+    here.refuses("aren't those over which ./test passed last")
+    (here.folder / "noted").rename(noted)
+    os.utime(here.program, (OLD, OLD))
+    here.refuses("is newer than the program")
+    here.program.unlink()
+    here.refuses("there is no program")
+    here.put(here.folder / "other").rename(here.program)
+    with (here.root / "README.md").open("a", encoding="utf-8") as file:
+        file.write("More.\n")
+    here.refuses("files differ from the commit, README.md")
+
+
+def unpacked(archive: Path, room: Path) -> Path:
+    """Unpacks an archive by Python, and returns its folder, all of whose sums are as it says."""
+    with tarfile.open(archive) as files:
+        files.extractall(room)
+    (root,) = (it for it in room.iterdir() if it.is_dir() and it.name.startswith("geanmarbles-"))
+    lines = (line.partition("  ") for line in (root / "SUMS").read_text("utf-8").splitlines())
+    sums = {name: wanted for wanted, _, name in lines}
+    there = {str(it.relative_to(root)) for it in root.rglob("*") if it.is_file() and not it.is_symlink()}
+    must(there == {*sums, "SUMS"}, f"SUMS has other files: {sorted(there ^ {*sums, 'SUMS'})[:5]}")
+    for name, wanted in sums.items():
+        must(hashlib.sha256((root / name).read_bytes()).hexdigest() == wanted, f"{name} has another sum")
+    return root
+
+
+def serves_pages(root: Path, env: dict[str, str]) -> None:
+    """examples/browse of a release shows the bakery."""
+    words: list[str | Path] = [root / "examples/browse", "--port", "0"]
+    with subprocess.Popen(words, env=env, stdout=subprocess.PIPE, stderr=subprocess.DEVNULL, text=True) as child:
+        try:
+            line = child.stdout.readline() if child.stdout else ""
+            found = re.search(r"http://127\.0\.0\.1:\d+/", line)
+            must(found, f"examples/browse says {line!r}")
+            with urllib.request.urlopen(found[0] if found else "", timeout=SECONDS) as page:
+                must(page.status == 200 and b"<html" in page.read(), "examples/browse serves no page")
+            child.send_signal(signal.SIGINT)
+            must(child.wait(SECONDS) == 0, f"examples/browse ends with {child.returncode}")
+        finally:
+            child.kill()
+
+
+def releases_run() -> None:
+    """an unpacked release runs where there is Python alone: ./site, examples/browse and examples/publish"""
+    if why := missing(BUILT_PROGRAM):
+        print(f"skipped: {why}, so no release is unpacked and run")
+        return
+    here = repository()
+    with tempfile.TemporaryDirectory(dir=MEMORY) as room, tempfile.TemporaryDirectory() as commands:
+        root = unpacked(here.archive("made"), Path(room))
+        env = without_toolchain(commands)
+
+        def run(*words: str | Path, given: bytes = b"") -> bytes:
+            how: dict[str, Any] = {"capture_output": True, "env": env, "cwd": room, "timeout": SECONDS}
+            ran = subprocess.run([root / words[0], *words[1:]], input=given, **how)
+            must(ran.returncode == 0, f"{words[0]} ends with {ran.returncode}: {ran.stderr[-500:]!r}")
+            return bytes(ran.stdout)
+
+        rye = (EXAMPLES / "rye.jsonl").read_bytes()
+        for words in (["site", "--built"], ["site"]):
+            must(run(*words, given=rye) == (EXAMPLES / "rye.out").read_bytes(), f"./{' '.join(words)} writes another")
+        must((root / "RELEASE").read_text("utf-8").split()[1][:7].encode() in run("site", "--version"), "no commit")
+        serves_pages(root, env)
+        export, site, made = root / EXPORT, Path(room, "site.db"), Path(room, "made")
+        replies = run("site", "--database", site, given=run("examples/from_wordpress", "--as-shown", export))
+        must(replies and set(replies.split()) == {b"ok"}, f"the imports are refused: {replies[:200]!r}")
+        run("examples/publish", export, site, made)
+        must((made / "public/index.html").is_file(), "examples/publish writes no front")
+
+
+# The last leaves the copy changed.
+CHECKS = [one_commit_gives_one_archive, releases_run, unsound_releases_are_refused]
