@@ -4,10 +4,10 @@
  *
  *     php wordpress.php DIR < REQUESTS
  *
- * DIR is a WordPress. A request is {"function": NAME, "text": TEXT}, and the reply a JSON text: `do_blocks` and
- * `do_shortcode` of the text, the latter with core's `caption`, `wp_caption`, `audio` and `video`, and with the
- * shortcodes that are added below. No database and no theme are there: `get_option` knows four options, and no theme
- * supports HTML5.
+ * DIR is a WordPress. A request is {"function": NAME, "text": TEXT}, and the reply a JSON text: `do_blocks` of the text,
+ * `shortcode_unautop` of what `wpautop` makes of it, or `do_shortcode` of it, with core's `caption`, `wp_caption`,
+ * `audio` and `video`, and with the shortcodes that are added below. No database and no theme are there: `get_option`
+ * knows four options, and no theme supports HTML5.
  */
 error_reporting(E_ERROR | E_PARSE | E_COMPILE_ERROR);
 ini_set('display_errors', 'stderr');
@@ -47,6 +47,10 @@ add_shortcode('link', fn() => '<a href="#">link</a>');
 
 while (false !== ($line = fgets(STDIN))) {
     $request = json_decode($line, true);
-    $made = 'do_blocks' === $request['function'] ? do_blocks($request['text']) : do_shortcode($request['text']);
+    $made = match ($request['function']) {
+        'do_blocks' => do_blocks($request['text']),
+        'shortcode_unautop' => shortcode_unautop(wpautop($request['text'])),
+        default => do_shortcode($request['text']),
+    };
     echo json_encode($made, JSON_UNESCAPED_SLASHES | JSON_UNESCAPED_UNICODE), "\n";
 }

@@ -15,7 +15,7 @@ use Rattle.sqlite_trees.specs.View.{is_int}
 use Rattle.sqlite_rules.specs.Edit.{id_in}
 use Rattle.sqlite_rules.proofs.TableLemmas.{int_is}
 use Rattle.command_log.proofs.Reading.{every}
-use Rattle.command_log.specs.Lines.{IsRising, is_past, rows_after, row_of_query, text_in, line_in, place_after}
+use Rattle.command_log.specs.Lines.{IsRising, is_past, rows_after, row_of_query, text_in, line_in, sum_in, digest_in, place_after}
 
 abbrev number : Row → ℤ
 number r = id_in (rowid r)
@@ -127,19 +127,26 @@ last_shown place (r ∷ rows) = last_shown (Some (number r)) rows
 
 -- ---- what a query shows
 
+pub texts_of : (xs : List Row) → map text_in (map row_of_query xs) ≡ map line_in xs
+texts_of [] = refl
+texts_of (r ∷ xs) = ap (λ l. line_in r ∷ l) (texts_of xs)
+
+pub sums_of : (xs : List Row) → map sum_in (map row_of_query xs) ≡ map digest_in xs
+sums_of [] = refl
+sums_of (r ∷ xs) = ap (λ l. digest_in r ∷ l) (sums_of xs)
+
 module _ (place : Option ℤ) (rows : List Row) (up : IsRising rows) where
-  pub left : (n : ℕ) → map line_in (rows_after (place_after place (take n (map row_of_query (rows_after place rows)))) rows)
-      ≡ drop n (map line_in (rows_after place rows))
-  left n =
+  pub left_rows : (n : ℕ) → rows_after (place_after place (take n (map row_of_query (rows_after place rows)))) rows ≡ drop n (rows_after place rows)
+  left_rows n =
       let all : List Row = rows_after place rows in
       let next : place_after place (take n (map row_of_query all)) ≡ last place (take n all) = ap (place_after place) (take-map row_of_query n all)
       ∙ last_shown place (take n all) in
-      ap (λ q. map line_in (rows_after q rows)) next ∙ ap (map line_in) (sym (after_is (last place (take n all)) rows)
-      ∙ subst (λ l. filter (after (last place (take n l))) rows ≡ drop n l) (after_is place rows) (left_over place rows up n)) ∙ sym (drop-map line_in n all)
+      ap (λ q. rows_after q rows) next ∙ sym (after_is (last place (take n all)) rows)
+      ∙ subst (λ l. filter (after (last place (take n l))) rows ≡ drop n l) (after_is place rows) (left_over place rows up n)
 
-  texts_of : (xs : List Row) → map text_in (map row_of_query xs) ≡ map line_in xs
-  texts_of [] = refl
-  texts_of (r ∷ xs) = ap (λ l. line_in r ∷ l) (texts_of xs)
+  pub left : (n : ℕ) → map line_in (rows_after (place_after place (take n (map row_of_query (rows_after place rows)))) rows)
+      ≡ drop n (map line_in (rows_after place rows))
+  left n = ap (map line_in) (left_rows n) ∙ sym (drop-map line_in n (rows_after place rows))
 
   pub texts : (count : Option ℕ) → map text_in (limited count (map row_of_query (rows_after place rows))) ≡ limited count (map line_in (rows_after place rows))
   texts None = texts_of (rows_after place rows)

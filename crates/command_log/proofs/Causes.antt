@@ -63,6 +63,7 @@ caused_longer first old new last P Q own low high limit fault.TooBig h = own fau
 caused_longer first old new last P Q own low high limit fault.NumbersUsedUp h = own fault.NumbersUsedUp h
 caused_longer first old new last P Q own low high limit fault.NotText h = own fault.NotText h
 caused_longer first old new last P Q own low high limit fault.Store h = own fault.Store h
+caused_longer first old new last P Q own low high limit (fault.Altered n) h = own (fault.Altered n) h
 
 -- a commit
 pub commit_fault : (old new : State) → IsTrue old.is_open → (P : Own) (e : Error) → old.in_transaction ≡ true → FailsToCommit old new e

@@ -21,7 +21,7 @@ use Rattle.sqlite.specs.State.{State, mode_of, Executes, ExecutesInside}
 use Rattle.sqlite.specs.declared.error.Error.{Error}
 use Rattle.sqlite.proofs.Callers.{statement_of, runs_as, one_step}
 use Rattle.command_log.specs.Table.{log_schema, command_table}
-use Rattle.command_log.specs.Lines.{HoldsLog, IsRising, IsOpen, Makes, line_in}
+use Rattle.command_log.specs.Lines.{HoldsTable, IsRising, IsOpen, Makes, line_in}
 use Rattle.table_rows.proofs.Steps.{went, same_value}
 use Rattle.std.proofs.Common.{Some, IfErr}
 use Rattle.command_log.specs.Faults.{IsCaused, Nothing, fault_of}
@@ -35,7 +35,7 @@ none_left : (rows : List Row) → filter (λ r. false) rows ≡ []
 none_left [] = refl
 none_left (r ∷ rows) = none_left rows
 
-module _ (old new : State) (holds : HoldsLog old.now) (count : ℕ) where
+module _ (old new : State) (holds : HoldsTable old.now) (count : ℕ) where
   clears : Executes clear_text [] old new (Ok count) → IsNewLog new.now
   clears h =
       let text = statement_of clear_text (understood log_schema clear_text) in
@@ -57,14 +57,14 @@ module _ (old new : State) (holds : HoldsLog old.now) (count : ℕ) where
         sound = w.sound;
       }
 
-module _ {S : Type 0} (g : Ghosts S) (old new : Held S) (holds : IsOpen g old → HoldsLog (state g old).now) where
+module _ {S : Type 0} (g : Ghosts S) (old new : Held S) (holds : IsOpen g old → HoldsTable (state g old).now) where
   pub clears_log : (r : Result ℕ Error) → ExecutesInside 0 clear_text [] (state g old) (state g new) r → OnOk r (Makes g old new)
   clears_log (Err e) h = tt
   clears_log (Ok count) h =
       let it = clears (state g old) (state g new) (holds h.1.was_open) count h.0 in
       record { was_open = h.1.was_open; is_open = h.1.is_open; inside = h.1.mode; holds = it.holds; sound = it.sound; lines = it.lines }
 
-module _ {S : Type 0} (g : Ghosts S) (old new : Held S) (up : IsOpen g old) (holds : HoldsLog (state g old).now) where
+module _ {S : Type 0} (g : Ghosts S) (old new : Held S) (up : IsOpen g old) (holds : HoldsTable (state g old).now) where
   pub clear_failed : (r : Result ℕ Error) → ExecutesInside 0 clear_text [] (state g old) (state g new) r
       → IfErr r (λ e. IsCaused (state g old) (state g new) Nothing (fault_of e))
   clear_failed (Ok count) h = tt

@@ -11,13 +11,13 @@ use Rattle.sqlite.specs.declared.error.Error.{Error}
 use Rattle.sqlite.proofs.Callers.{runs_as}
 use Rattle.std.proofs.Common.{None}
 use Rattle.command_log.specs.Table.{create_text, command_table, no_schema, log_schema}
-use Rattle.command_log.specs.Lines.{HoldsLog, IsRising, IsOpen, Makes, lines_in, line_in}
+use Rattle.command_log.specs.Lines.{HoldsTable, IsRising, IsOpen, Makes, lines_in, line_in}
 use Rattle.command_log.proofs.Texts.{create_is, create_plain, lacks_none}
 use Rattle.table_rows.proofs.Steps.{went, same_value}
 use Rattle.std.proofs.Common.{map, false}
 
 pub record IsNewLog (new : Database) : Type 0 where
-  pub holds : HoldsLog new
+  pub holds : HoldsTable new
   pub lines : lines_in new.trees ≡ []
   pub sound : IsDatabase new
 

@@ -1,5 +1,5 @@
 -- What a call on the log leaves, by what its transaction did and how that ended.
-use Rattle.std.proofs.Common.{◌≡◌, inl, inr, ℕ, ℤ, Option, List, [], ◌++◌, true, false, Ok, Err, Result, OnOk, OnErr, IfErr, refl, sym, ap, subst, ◌∙◌, arith}
+use Rattle.std.proofs.Common.{◌≡◌, inl, inr, ℕ, ℤ, Option, List, [], ◌++◌, map, true, false, Ok, Err, Result, OnOk, OnErr, IfErr, refl, sym, ap, subst, ◌∙◌, arith}
 use Rattle.std.specs.Prelude.{IsTrue, IsErrAnd}
 use Rattle.std.proofs.lemmas.Result.{IfOk-weaker, IfErr-weaker}
 use Rattle.sqlite.specs.Order.{Row}
@@ -14,20 +14,24 @@ use Rattle.sqlite.proofs.StateLemmas.{survives_then}
 use Rattle.sqlite.proofs.Callers.{survives_begin}
 use Rattle.command_log.specs.declared.fault.LogFault.{LogFault}
 use Rattle.command_log.specs.Faults.{IsCaused, fault_of}
-use Rattle.command_log.specs.Lines.{HoldsLog, IsOpen, IsLog, Makes, Puts, PutsAny, IsReplaced, GivesRows, lines_of, lines_in}
+use Rattle.sha2.specs.Sha256.{sha256}
+use Rattle.line_digests.specs.Digests.{digest_of, digests_after, digests_of}
+use Rattle.line_digests.proofs.Digests.{digests_more}
+use Rattle.command_log.specs.Lines.{HoldsLog, HoldsTable, IsOpen, IsIdle, IsLog, IsTabled, AreSealed, Makes, Puts, PutsAny, IsReplaced, GivesRows, lines_of}
+use Rattle.command_log.specs.Lines.{lines_in, rows_of, digest_in}
 use Rattle.command_log.specs.Inside.{IsInside, InLog, ReadsRows}
 use Rattle.command_log.proofs.Causes.{caused_longer, commit_fault}
-use Rattle.command_log.proofs.States.{ShutsIfDirty, clean_of, IsKept, kept_log, kept_lines, begun, rolled_back, not_committed, commits_then}
+use Rattle.command_log.proofs.States.{ShutsIfDirty, clean_of, IsKept, kept_log, kept_lines, begun, rolled_back, not_committed, commits_then, no_rows}
 use Rattle.command_log.proofs.States.{settles, settled_lines, kept_by, read_ends, read_survives}
 
 -- ---- calls on a transaction
 
 module _ {S : Type 0} (g : Ghosts S) where
   -- a transaction of a log that has just begun
-  pub begins : (old : Held S) (tx : Transaction S) → IsLog g old → tx.conn.now ≡ begun g old → IsInside g tx
+  pub begins : (old : Held S) (tx : Transaction S) → IsTabled g old → tx.conn.now ≡ begun g old → IsInside g tx
   begins old tx log is = record {
     inside = λ clean. ap (λ (h : Held S). h.in_transaction) is;
-    holds = subst (λ h. IsOpen g h → HoldsLog (state g h).now) (sym is) log.holds;
+    holds = subst (λ h. IsOpen g h → HoldsTable (state g h).now) (sym is) log.holds;
   }
 
   -- the rows that a transaction which has just begun has read are those of the log
@@ -37,21 +41,21 @@ module _ {S : Type 0} (g : Ghosts S) where
       subst (λ k. GivesRows g old place k rows) same (subst (λ h. GivesRows g h place asked rows) is reads.are)
 
   -- appending lines does not end it
-  pub stays_inside : {Own : LogFault → Type 0} → ShutsIfDirty g → (first mid : Transaction S) (more : List (List ℕ)) (u : Unit {0}) → IsInside g first
-      → InLog g first mid (Ok u) (λ _. PutsAny g first.conn.now mid.conn.now more) Own → IsInside g mid
-  stays_inside law first mid more u before it = record {
+  pub stays_inside : {Own : LogFault → Type 0} → ShutsIfDirty g → (first mid : Transaction S) (digest : List ℕ) (more : List (List ℕ)) (u : Unit {0}) → IsInside g first
+      → InLog g first mid (Ok u) (λ _. PutsAny g first.conn.now mid.conn.now digest more) Own → IsInside g mid
+  stays_inside law first mid digest more u before it = record {
     inside = λ clean.
         let early : HasCleanDisk (state g first.conn.now) = omega (arith, it.survives.clean, clean) in
         begun_by (it.does clean) (before.inside early);
     holds = λ up. held_by (it.does (clean_of g law mid.conn.now up)) up;
   }
     where
-      begun_by : PutsAny g first.conn.now mid.conn.now more → first.conn.now.in_transaction ≡ true → mid.conn.now.in_transaction ≡ true
+      begun_by : PutsAny g first.conn.now mid.conn.now digest more → first.conn.now.in_transaction ≡ true → mid.conn.now.in_transaction ≡ true
       begun_by (inl none) = subst (λ (h : Held S). h.in_transaction ≡ true) (sym none.1)
       begun_by (inr put) = λ inside. put.inside
 
-      held_by : PutsAny g first.conn.now mid.conn.now more → IsOpen g mid.conn.now → HoldsLog (state g mid.conn.now).now
-      held_by (inl none) = subst (λ h. IsOpen g h → HoldsLog (state g h).now) (sym none.1) before.holds
+      held_by : PutsAny g first.conn.now mid.conn.now digest more → IsOpen g mid.conn.now → HoldsTable (state g mid.conn.now).now
+      held_by (inl none) = subst (λ h. IsOpen g h → HoldsTable (state g h).now) (sym none.1) before.holds
       held_by (inr put) = λ up. put.holds
 
   -- what stays true over two calls, of which the first has succeeded
@@ -122,13 +126,17 @@ module _ {S : Type 0} (g : Ghosts S) where
     pub sound : IsDatabase (state g new).now
     pub lines_are : lines_in (state g new).now.trees ≡ lines
 
+  -- a table of no row is a log
+  pub bare_log : (h : Held S) → HoldsTable (state g h).now → lines_in (state g h).now.trees ≡ [] → HoldsLog (state g h).now
+  bare_log h table none = record { table = table; sealed = let rows = no_rows (rows_of g h) none in subst AreSealed (sym rows) refl }
+
   -- it has deleted all lines, and appended these
-  pub fills : (old mid new : Held S) (lines : List (List ℕ)) → Makes g old mid → PutsAny g mid new lines → Fills old new lines
+  pub fills : (old mid new : Held S) (lines : List (List ℕ)) → Makes g old mid → PutsAny g mid new (sha256 []) lines → Fills old new lines
   fills old mid new lines made (inl none) = subst (λ h. Fills old h lines) (sym none.1) (record {
     was_open = made.was_open;
     is_open = made.is_open;
     inside = made.inside;
-    holds = made.holds;
+    holds = bare_log mid made.holds made.lines;
     sound = made.sound;
     lines_are = made.lines ∙ sym none.0;
   })
@@ -136,21 +144,34 @@ module _ {S : Type 0} (g : Ghosts S) where
     was_open = made.was_open;
     is_open = put.is_open;
     inside = put.inside;
-    holds = put.holds;
+    holds = record {
+      table = put.holds;
+      sealed = put.digests ∙ ap (λ rows. map digest_in rows ++ digests_of lines) (no_rows (rows_of g mid) made.lines)
+          ∙ ap digests_of (sym (put.lines ∙ ap (λ l. l ++ lines) made.lines));
+    };
     sound = put.sound;
     lines_are = put.lines ∙ ap (λ l. l ++ lines) made.lines;
   }
 
   -- it has appended lines to those of the last commit
-  pub fills_more : (old new : Held S) (more : List (List ℕ)) → IsLog g old → Puts g (begun g old) new more → Fills (begun g old) new (lines_of g old ++ more)
-  fills_more old new more log put = record {
-    was_open = put.was_open;
-    is_open = put.is_open;
-    inside = put.inside;
-    holds = put.holds;
-    sound = put.sound;
-    lines_are = put.lines ∙ ap (λ (d : Database). lines_in d.trees ++ more) (sym (log.idle.settled put.was_open));
-  }
+  pub fills_more : (old new : Held S) (digest : List ℕ) (more : List (List ℕ)) → IsLog g old → (IsOpen g old → digest ≡ digest_of (lines_of g old))
+      → Puts g (begun g old) new digest more → Fills (begun g old) new (lines_of g old ++ more)
+  fills_more old new digest more log is put =
+      let settled : lines_in (state g old).now.trees ≡ lines_of g old = ap (λ (d : Database). lines_in d.trees) (sym (log.idle.settled put.was_open)) in
+      let lines : lines_in (state g new).now.trees ≡ lines_of g old ++ more = put.lines ∙ ap (λ l. l ++ more) settled in
+      record {
+        was_open = put.was_open;
+        is_open = put.is_open;
+        inside = put.inside;
+        holds = record {
+          table = put.holds;
+          sealed = put.digests ∙ ap (λ ds. ds ++ digests_after digest more) ((log.holds put.was_open).sealed ∙ ap digests_of settled)
+              ∙ ap (λ d. digests_of (lines_of g old) ++ digests_after d more) (is put.was_open) ∙ sym (digests_more (sha256 []) (lines_of g old) more)
+              ∙ ap digests_of (sym lines);
+        };
+        sound = put.sound;
+        lines_are = lines;
+      }
 
   -- what the database says of a transaction that is dropped without a commit
   pub record IsDropped (last end : Held S) : Type 0 where
@@ -183,7 +204,7 @@ module _ {S : Type 0} (g : Ghosts S) where
     pub survives : Survives (state g old) (state g end) (IsReplaced g old lines)
     pub cause : HasCleanDisk (state g end) → IsOpen g old → IfErr r (λ e. IsCaused (state g old) (state g end) Own (fault_of e))
 
-  module _ (law : ShutsIfDirty g) (old end : Held S) (log : IsLog g old) (tx last : Transaction S) (is : tx.conn.now ≡ begun g old) where
+  module _ (law : ShutsIfDirty g) (old end : Held S) (resting : IsIdle g old) (tx last : Transaction S) (is : tx.conn.now ≡ begun g old) where
     -- what a crash leaves does not hang on the transaction that has begun
     survived : Survives (state g tx.conn.now) (state g last.conn.now) (λ _. ⊥) → Survives (state g (begun g old)) (state g last.conn.now) (λ _. ⊥)
     survived = subst (λ h. Survives (state g h) (state g last.conn.now) (λ _. ⊥)) is
@@ -206,7 +227,7 @@ module _ {S : Type 0} (g : Ghosts S) where
         → IsDropped last.conn.now end → (r : Result B Error) → IsErrAnd r (λ x. x ≡ e) → ((f : LogFault) → Own f → All f) → KeepsLog old end All r
     undone e it drop (Ok b) never owns = absurd never
     undone {Own = Own} {All = All} e it drop (Err x) same owns = record {
-      kept = rolled_back g law old last.conn.now end log drop.survives.clean (uncommitted it.commit) drop.ended drop.undone;
+      kept = rolled_back g law old last.conn.now end resting drop.survives.clean (uncommitted it.commit) drop.ended drop.undone;
       stays = λ clean. tt;
       survives = survives_then (state g old) (state g last.conn.now) (state g end) _ _ (λ _. ⊥) (λ _ db none. none) (λ _ db none. none)
           (survives_begin g old (state g last.conn.now) (λ _. ⊥) (survived it.survives)) drop.survives;
@@ -218,11 +239,11 @@ module _ {S : Type 0} (g : Ghosts S) where
     }
 
     -- so a call that was to make these lines fails, and changes nothing
-    pub makes_none : {A : Type 0} {Does : A → Type 0} {Own All : LogFault → Type 0} (lines : List (List ℕ)) (e : Error) → InLog g tx last (Err e) Does Own
+    pub makes_none : {A : Type 0} {Does : A → Type 0} {Own All : LogFault → Type 0} (log : IsLog g old) (lines : List (List ℕ)) (e : Error) → InLog g tx last (Err e) Does Own
         → IsDropped last.conn.now end → (r : Result (Unit {0}) Error) → IsErrAnd r (λ x. x ≡ e) → ((f : LogFault) → Own f → All f)
         → MakesLines old end lines All r
-    makes_none lines e it drop (Ok u) never owns = absurd never
-    makes_none lines e it drop (Err x) same owns =
+    makes_none log lines e it drop (Ok u) never owns = absurd never
+    makes_none log lines e it drop (Err x) same owns =
         let left = undone {B = Unit {0}} e it drop (Err x) same owns in
         record {
           log = kept_log g old end log left.kept;
@@ -242,9 +263,9 @@ module _ {S : Type 0} (g : Ghosts S) where
         }
 
     -- the transaction has left these lines alone, and is committed
-    pub committed : {A : Type 0} {Does : A → Type 0} {Own All : LogFault → Type 0} (lines : List (List ℕ)) (a : A) → InLog g tx last (Ok a) Does Own
+    pub committed : {A : Type 0} {Does : A → Type 0} {Own All : LogFault → Type 0} (log : IsLog g old) (lines : List (List ℕ)) (a : A) → InLog g tx last (Ok a) Does Own
         → (Does a → Fills (begun g old) last.conn.now lines) → (r : Result (Unit {0}) Error) → IsCommit last.conn.now end r → MakesLines old end lines All r
-    committed {All = All} lines a it fill r commit = by r commit
+    committed {All = All} log lines a it fill r commit = by r commit
       where
         filled : HasCleanDisk (state g last.conn.now) → Fills (begun g old) last.conn.now lines
         filled clean = fill (it.does clean)
@@ -269,7 +290,7 @@ module _ {S : Type 0} (g : Ghosts S) where
           cause = λ clean up. tt;
         }
         by (Err e) commit =
-            let kept = rolled_back g law old last.conn.now end log commit.survives.clean (uncommitted it.commit) commit.ended
+            let kept = rolled_back g law old last.conn.now end resting commit.survives.clean (uncommitted it.commit) commit.ended
             (λ clean. not_committed g last.conn.now end e (filled (early clean)).inside (commit.err clean)) in
             record {
               log = kept_log g old end log kept;
@@ -287,9 +308,9 @@ module _ {S : Type 0} (g : Ghosts S) where
         → ((s : S) → IsTrue (g.view s).is_open → g.recovers s (g.view s).committed)
         → (r : Result (Unit {0}) Error) → IsCommit last.conn.now end r → KeepsLog old end All r
     read {All = All} a it same stays r commit = record {
-      kept = read_ends g law old last.conn.now end log commit.survives.clean still commit.ended r commit.ok commit.err;
+      kept = read_ends g law old last.conn.now end resting commit.survives.clean still commit.ended r commit.ok commit.err;
       stays = λ clean. IfOk-weaker r _ _ (λ u done. done.1.is_open) (commit.ok clean);
-      survives = read_survives g law old last.conn.now end log commit.survives.clean still stays (survived it.survives) commit.survives;
+      survives = read_survives g law old last.conn.now end resting commit.survives.clean still stays (survived it.survives) commit.survives;
       cause = λ clean up. IfErr-weaker r _ _ (λ e failed.
           let shown = (still (omega (arith, commit.survives.clean, clean))).0 in
           commit_caused All e it.survives shown.is_open shown.mode failed) (commit.err clean);

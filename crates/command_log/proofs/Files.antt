@@ -22,7 +22,7 @@ use Rattle.sqlite_catalog.proofs.LayoutLemmas.{laid_out}
 use Rattle.sqlite.specs.Held.{Held, state}
 use Rattle.sqlite.specs.Files.{over_files, file_state, IsOpened, AreFoundIn}
 use Rattle.sqlite.specs.Start.{FindsIn}
-use Rattle.command_log.specs.Table.{log_schema}
+use Rattle.command_log.specs.Table.{IsOther, log_schema}
 use Rattle.std.proofs.Common.{◌≢◌, true≢false, false, Ok, Err, Result, IfOk, arith}
 use Rattle.sqlite.specs.State.{HasCleanDisk, Survives}
 use Rattle.sqlite_store.specs.Laws.{shut_if_dirty_at}
@@ -120,46 +120,53 @@ module _ {D : Type 0} {g : Ghosts D} (c : Held (FileStore D g)) (image : Image) 
   opened_over P opened (Ok log) stays survives = λ after. let clean : HasCleanDisk (file_state c) = omega (arith, survives.clean, after) in
       stays after (opened clean).0.is_open
 
--- an open fails by an error that says nothing of the schema
-never_other : (e : Error) → IsTrue (is_open_error e) → fault_of e ≢ NotALog
-never_other (SqliteFailure (code.ConstraintViolation rule)) named h = absurd (true≢false (sym named))
-never_other (SqliteFailure code.TypeMismatch) named h = absurd (true≢false (sym named))
-never_other (SqliteFailure code.IntegerOverflow) named h = absurd (true≢false (sym named))
-never_other (SqliteFailure code.NoRowid) named h = absurd (true≢false (sym named))
-never_other (SqliteFailure code.ForeignKeyMismatch) named h = absurd (true≢false (sym named))
-never_other (SqliteFailure code.TooDeep) named h = absurd (true≢false (sym named))
-never_other (SqliteFailure code.NoClock) named h = absurd (true≢false (sym named))
-never_other (SqliteFailure code.NameTaken) named h = absurd (true≢false (sym named))
-never_other (SqliteFailure code.BadName) named h = absurd (true≢false (sym named))
-never_other (SqliteFailure code.BadKey) named h = absurd (true≢false (sym named))
-never_other (SqliteFailure code.BadText) named h = absurd (true≢false (sym named))
-never_other (SqliteFailure code.SchemaTooBig) named h = absurd (true≢false (sym named))
-never_other (SqliteFailure code.TransactionState) named h = absurd (true≢false (sym named))
-never_other (SqliteFailure code.NoSuchSavepoint) named h = absurd (true≢false (sym named))
-never_other (SqliteFailure code.OperationInterrupted) named h = absurd (true≢false (sym named))
-never_other (SqliteFailure code.NotADatabase) named h = cc
-never_other (SqliteFailure code.DatabaseCorrupt) named h = cc
-never_other (SqliteFailure code.CannotOpen) named h = cc
-never_other (SqliteFailure code.DatabaseBusy) named h = cc
-never_other (SqliteFailure code.TooBig) named h = cc
-never_other (SqliteFailure code.OutOfMemory) named h = cc
-never_other (SqliteFailure code.SystemIoFailure) named h = cc
-never_other (SqliteFailure code.DiskFull) named h = cc
-never_other (SqliteFailure code.Closed) named h = cc
-never_other (SqlInputError fault) named h = absurd (true≢false (sym named))
-never_other (InvalidParameterCount given wanted) named h = absurd (true≢false (sym named))
-never_other ExecuteReturnedResults named h = absurd (true≢false (sym named))
-never_other InvalidQuery named h = absurd (true≢false (sym named))
-never_other MultipleStatement named h = absurd (true≢false (sym named))
-never_other QueryReturnedNoRows named h = absurd (true≢false (sym named))
-never_other (InvalidColumnIndex at) named h = absurd (true≢false (sym named))
-never_other (InvalidColumnType at type) named h = absurd (true≢false (sym named))
-never_other (IntegralValueOutOfRange at) named h = absurd (true≢false (sym named))
-never_other (Utf8Error at) named h = absurd (true≢false (sym named))
+-- no error of the database says that it holds something else than a log
+pub never_other : (e : Error) → fault_of e ≢ NotALog
+never_other (SqliteFailure (code.ConstraintViolation rule)) h = cc
+never_other (SqliteFailure code.TypeMismatch) h = cc
+never_other (SqliteFailure code.IntegerOverflow) h = cc
+never_other (SqliteFailure code.NoRowid) h = cc
+never_other (SqliteFailure code.ForeignKeyMismatch) h = cc
+never_other (SqliteFailure code.TooDeep) h = cc
+never_other (SqliteFailure code.NoClock) h = cc
+never_other (SqliteFailure code.NameTaken) h = cc
+never_other (SqliteFailure code.BadName) h = cc
+never_other (SqliteFailure code.BadKey) h = cc
+never_other (SqliteFailure code.BadText) h = cc
+never_other (SqliteFailure code.SchemaTooBig) h = cc
+never_other (SqliteFailure code.TransactionState) h = cc
+never_other (SqliteFailure code.NoSuchSavepoint) h = cc
+never_other (SqliteFailure code.OperationInterrupted) h = cc
+never_other (SqliteFailure code.NotADatabase) h = cc
+never_other (SqliteFailure code.DatabaseCorrupt) h = cc
+never_other (SqliteFailure code.CannotOpen) h = cc
+never_other (SqliteFailure code.DatabaseBusy) h = cc
+never_other (SqliteFailure code.TooBig) h = cc
+never_other (SqliteFailure code.OutOfMemory) h = cc
+never_other (SqliteFailure code.SystemIoFailure) h = cc
+never_other (SqliteFailure code.DiskFull) h = cc
+never_other (SqliteFailure code.Closed) h = cc
+never_other (SqlInputError fault) h = cc
+never_other (InvalidParameterCount given wanted) h = cc
+never_other ExecuteReturnedResults h = cc
+never_other InvalidQuery h = cc
+never_other MultipleStatement h = cc
+never_other QueryReturnedNoRows h = cc
+never_other (InvalidColumnIndex at) h = cc
+never_other (InvalidColumnType at type) h = cc
+never_other (IntegralValueOutOfRange at) h = cc
+never_other (Utf8Error at) h = cc
 
 pub fails_to_open : {D : Type 0} {g : Ghosts D} (image : Image) (e : Error) (f : LogFault) → IsTrue (is_open_error e) → f ≡ fault_of e
     → RefusesOther {D = D} {g = g} image (Err f)
-fails_to_open {D} {g} image e f named is none = absurd (never_other e named (sym is ∙ fault_in none))
+fails_to_open {D} {g} image e f named is none = absurd (never_other e (sym is ∙ fault_in none))
+  where
+    fault_in : ◌≡◌ {A = Result (Held (FileStore D g)) LogFault} (Err f) (Err NotALog) → f ≡ NotALog
+    fault_in h = cc
+
+pub refuses_over : {D : Type 0} {g : Ghosts D} (c : Held (FileStore D g)) (image : Image) → (HasCleanDisk (file_state c) → FindsIn image (file_state c))
+    → (f : LogFault) → (f ≡ NotALog → IsOther (file_state c).now.schema) → RefusesOther {D = D} {g = g} image (Err f)
+refuses_over {D} {g} c image found f other none = (c, other (fault_in none), found)
   where
     fault_in : ◌≡◌ {A = Result (Held (FileStore D g)) LogFault} (Err f) (Err NotALog) → f ≡ NotALog
     fault_in h = cc

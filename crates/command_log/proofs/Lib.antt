@@ -16,3 +16,5 @@ pub mod Refusals
 pub mod Causes
 pub mod Ending
 pub mod Statements
+pub mod Sealing
+pub mod Passing

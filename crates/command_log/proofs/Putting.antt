@@ -1,15 +1,16 @@
 -- A line that is put within a transaction.
-use Rattle.std.proofs.Common.{◌≡◌, inl, inr, ℕ, List, [], ◌∷◌, Ok, Err, Result, IfOk}
+use Rattle.std.proofs.Common.{◌≡◌, inl, inr, ℕ, List, [], ◌∷◌, ◌++◌, length, Ok, Err, Result, IfOk}
 use Rattle.sqlite.specs.Order.{Row}
-use Rattle.sqlite_value.specs.declared.value.Value.TheVariants.{Text}
+use Rattle.sqlite_value.specs.declared.value.Value.TheVariants.{Text, Blob}
 use Rattle.sqlite.specs.Store.{Ghosts}
 use Rattle.sqlite.specs.State.{State, KeepsCommit, IsUnchanged, IsRolledBack, ExecutesInside}
 use Rattle.sqlite.specs.Held.{Held, state}
 use Rattle.sqlite.specs.declared.error.Error.{Error}
-use Rattle.command_log.specs.Lines.{HoldsLog, IsOpen, Puts}
+use Rattle.command_log.specs.Lines.{HoldsTable, IsOpen, Puts}
 use Rattle.std.proofs.Common.{IfErr, Some, None, pos, ◌+ℤ◌, lit<, refl, sym, ap, subst, ◌∙◌, arith}
 use Rattle.std.proofs.lemmas.Int.{ints}
 use Rattle.sqlite_sql.specs.Ops.{fits_i64}
+use Rattle.sha2.specs.Sha256.{sha256}
 use Rattle.sqlite_rules.specs.Edit.{next_rowid}
 use Rattle.command_log.specs.Lines.{rows_of}
 use Rattle.command_log.specs.Faults.{IsCaused, Unstorable, fault_of}
@@ -30,11 +31,12 @@ keeps_commit sql params old new (Ok count) h = record { was_open = λ up. h.1.wa
 keeps_commit sql params old new (Err e) (inl ran) = elim ran.1 [ inl same ↦ same_commit old new same | inr back ↦ back_commit old new back ]
 keeps_commit sql params old new (Err e) (inr ends) = same_commit old new ends.2
 
-module _ {S : Type 0} (g : Ghosts S) (old new : Held S) (line : List ℕ) (holds : IsOpen g old → HoldsLog (state g old).now) where
-  pub puts_line : (r : Result ℕ Error) → ExecutesInside 0 insert_text (Text line ∷ []) (state g old) (state g new) r → IfOk r (λ _. Puts g old new (line ∷ []))
+module _ {S : Type 0} (g : Ghosts S) (old new : Held S) (line digest : List ℕ) (holds : IsOpen g old → HoldsTable (state g old).now) where
+  pub puts_line : (r : Result ℕ Error) → ExecutesInside 0 insert_text (Text line ∷ Blob (sha256 (digest ++ line)) ∷ []) (state g old) (state g new) r
+      → IfOk r (λ _. Puts g old new digest (line ∷ []))
   puts_line (Err e) h = tt
   puts_line (Ok count) h =
-      let adds = adds_line (state g old) (state g new) (holds h.1.was_open) line count h.0 in
+      let adds = adds_line (state g old) (state g new) (holds h.1.was_open) line (sha256 (digest ++ line)) count h.0 in
       record {
         was_open = h.1.was_open;
         is_open = h.1.is_open;
@@ -42,28 +44,30 @@ module _ {S : Type 0} (g : Ghosts S) (old new : Held S) (line : List ℕ) (holds
         holds = adds.holds;
         sound = adds.sound;
         lines = adds.lines;
+        digests = adds.digests;
         number =
             adds.number;
       }
 
-module _ {S : Type 0} (g : Ghosts S) (old new : Held S) (line : List ℕ) (up : IsOpen g old) (holds : HoldsLog (state g old).now) where
-  -- why a line is not put
-  stops : (e : Error) → PutStops (state g old) holds line (Some e) → IsCaused (state g old) (state g new) (Unstorable (rows_of g old) (line ∷ [])) (fault_of e)
-  stops e (inl late) = subst (λ x. IsCaused (state g old) (state g new) (Unstorable (rows_of g old) (line ∷ [])) (fault_of x)) (sym late.0) late.1
-  stops e (inr used) =
-      let same : next_rowid (rows_of g old) +ℤ pos 0 ≡ next_rowid (rows_of g old) = omega (arith, ints) in
-      subst (λ x. IsCaused (state g old) (state g new) (Unstorable (rows_of g old) (line ∷ [])) (fault_of x)) (sym used.0) (
-        0,
-        lit< tt,
-        ap fits_i64 same
-            ∙ used.1,
-      )
+module _ {S : Type 0} (g : Ghosts S) (old new : Held S) (line sum : List ℕ) (long : length sum ≡ 32) (up : IsOpen g old) (holds : HoldsTable (state g old).now)
+  where
+    -- why a line is not put
+    stops : (e : Error) → PutStops (state g old) holds line sum long (Some e) → IsCaused (state g old) (state g new) (Unstorable (rows_of g old) (line ∷ [])) (fault_of e)
+    stops e (inl late) = subst (λ x. IsCaused (state g old) (state g new) (Unstorable (rows_of g old) (line ∷ [])) (fault_of x)) (sym late.0) late.1
+    stops e (inr used) =
+        let same : next_rowid (rows_of g old) +ℤ pos 0 ≡ next_rowid (rows_of g old) = omega (arith, ints) in
+        subst (λ x. IsCaused (state g old) (state g new) (Unstorable (rows_of g old) (line ∷ [])) (fault_of x)) (sym used.0) (
+          0,
+          lit< tt,
+          ap fits_i64 same
+              ∙ used.1,
+        )
 
-  pub put_failed : (r : Result ℕ Error) → ExecutesInside 0 insert_text (Text line ∷ []) (state g old) (state g new) r
-      → IfErr r (λ e. IsCaused (state g old) (state g new) (Unstorable (rows_of g old) (line ∷ [])) (fault_of e))
-  put_failed (Ok count) h = tt
-  put_failed (Err e) h =
-      write_failed insert_text (Text line ∷ []) insert_plain insert_whole (state g old) (state g new) up holds.schema_is insert_command
-      (inl (0, _, refl)) insert_is (Unstorable (rows_of g old) (line ∷ []))
-      (λ x does. stops x (put_stops (state g old) holds line (Some x) does)) (λ does. (line, (0, lit< tt, refl), put_stops (state g old) holds line None does))
-      e h
+    pub put_failed : (r : Result ℕ Error) → ExecutesInside 0 insert_text (Text line ∷ Blob sum ∷ []) (state g old) (state g new) r
+        → IfErr r (λ e. IsCaused (state g old) (state g new) (Unstorable (rows_of g old) (line ∷ [])) (fault_of e))
+    put_failed (Ok count) h = tt
+    put_failed (Err e) h =
+        write_failed insert_text (Text line ∷ Blob sum ∷ []) insert_plain insert_whole (state g old) (state g new) up holds.schema_is insert_command
+        (inl (0, _, refl)) insert_is (Unstorable (rows_of g old) (line ∷ []))
+        (λ x does. stops x (put_stops (state g old) holds line sum long (Some x) does)) (λ does. (line, (0, lit< tt, refl), put_stops (state g old) holds line sum long None does))
+        e h

@@ -10,7 +10,7 @@ use Rattle.sqlite.specs.Store.{Ghosts}
 use Rattle.sqlite.specs.Held.{Held, state}
 use Rattle.sqlite.specs.Effect.{Database}
 use Rattle.sqlite.specs.State.{State, KeepsCommit, FailsToQuery, Shown, IsTooLate}
-use Rattle.command_log.specs.Lines.{HoldsLog, IsOpen, IsLog, GivesRows, lines_left, lines_after, IsLineRow, row_of_query, rows_after, text_in, place_after}
+use Rattle.command_log.specs.Lines.{HoldsTable, IsOpen, IsTabled, GivesRows, lines_left, lines_after, IsLineRow, row_of_query, rows_after, text_in, place_after}
 use Rattle.command_log.specs.Inside.{ReadsRows}
 use Rattle.command_log.proofs.Putting.{same_commit}
 use Rattle.command_log.proofs.Queries.{answered, unanswered, answered_open, unchanged}
@@ -38,7 +38,7 @@ keeps_commit sql params old new inside (Ok rows) ok err = answered old new insid
 keeps_commit sql params old new inside (Err e) ok (inl failed) = unanswered old new inside sql params e failed
 keeps_commit sql params old new inside (Err e) ok (inr late) = same_commit old new late.5
 
-module _ {S : Type 0} (g : Ghosts S) (old new : Held S) (inside : old.in_transaction ≡ true) (holds : IsOpen g old → HoldsLog (state g old).now) where
+module _ {S : Type 0} (g : Ghosts S) (old new : Held S) (inside : old.in_transaction ≡ true) (holds : IsOpen g old → HoldsTable (state g old).now) where
   -- what each query shows is the rows after its place
   pub reads_first_rows : (limit : ℤ) (r : Result (Vec Row Global) Error)
       → IfOk r (λ rows. Shown first_text (Int limit ∷ []) (state g old) (state g new) rows.items)
@@ -62,7 +62,7 @@ module _ {S : Type 0} (g : Ghosts S) (old new : Held S) (inside : old.in_transac
       }
   reads_later_rows n limit (Err e) ok = tt
 
-module _ {S : Type 0} (g : Ghosts S) (old new : Held S) (inside : old.in_transaction ≡ true) (up : IsOpen g old) (holds : HoldsLog (state g old).now) where
+module _ {S : Type 0} (g : Ghosts S) (old new : Held S) (inside : old.in_transaction ≡ true) (up : IsOpen g old) (holds : HoldsTable (state g old).now) where
   pub first_failed : (limit : ℤ) (r : Result (Vec Row Global) Error)
       → IfErr r (λ e. FailsToQuery first_text (Int limit ∷ []) (state g old) (state g new) e ⊎ IsTooLate first_text (Int limit ∷ []) (state g old)
       (state g new) e)
@@ -84,7 +84,7 @@ module _ {S : Type 0} (g : Ghosts S) (old new : Held S) (inside : old.in_transac
       (λ db. answering.never_sums 0 wheres projects [] orders (col 0 1) (lit (Int (pos 0))) db (Int n ∷ Int limit ∷ [])) Nothing e inside err
 
 -- what the rows say of a log
-module _ {S : Type 0} (g : Ghosts S) (old : Held S) (log : IsLog g old) (place : Option ℤ) (limit : ℤ) (rows : List Row)
+module _ {S : Type 0} (g : Ghosts S) (old : Held S) (log : IsTabled g old) (place : Option ℤ) (limit : ℤ) (rows : List Row)
     (gives : GivesRows g old place limit rows) where
   settled : (after : Option ℤ) → lines_after after (state g old).now.trees ≡ lines_left g old after
   settled after = ap (λ (d : Database). lines_after after d.trees) (sym (log.idle.settled gives.0))

@@ -33,7 +33,7 @@ use Rattle.sqlite.proofs.Callers.{reads_as}
 use Rattle.table_rows.specs.Sorting.{in_order, put_sorted}
 use Rattle.table_rows.proofs.Answering as answering
 use Rattle.command_log.specs.Table.{log_schema}
-use Rattle.command_log.specs.Lines.{HoldsLog, IsLineRow, is_past, rows_after, row_of_query, text_in}
+use Rattle.command_log.specs.Lines.{HoldsTable, IsLineRow, is_past, rows_after, row_of_query, text_in}
 use Rattle.command_log.proofs.Texts.{first_text, later_text, query, projects, orders, wheres, names, first_is, first_plain, later_is, later_plain}
 
 -- a list that rises is in order
@@ -92,7 +92,7 @@ module _ (tests : List Term) (limit : Term) (params : Row) where
       ∙ ap (λ l. page (query tests limit) params (map (λ (o : Output). o.1) l)) (sorted_is (output_cmp (query tests limit)) out kept rising by_number)
       ∙ ap (page (query tests limit) params) (shown_are kept)
 
-pub reads_first : (old new : State) (limit : ℤ) (rows : List Row) → HoldsLog old.now → Shown first_text (Int limit ∷ []) old new rows
+pub reads_first : (old new : State) (limit : ℤ) (rows : List Row) → HoldsTable old.now → Shown first_text (Int limit ∷ []) old new rows
     → rows ≡ limited (as_count (Int limit)) (map row_of_query (old.now.trees 0))
 reads_first old new limit rows holds h =
     let params : Row = Int limit ∷ [] in
@@ -125,7 +125,7 @@ past_are n limit (r ∷ rows) keyed =
     ap (λ l. cond (passes wheres (col 0 1) (Int n ∷ Int limit ∷ []) r) (r ∷ l) l) later
     ∙ ap (λ b. cond b (r ∷ filter (is_past n) rows) (filter (is_past n) rows)) (past_is n r keyed.0)
 
-pub reads_later : (old new : State) (n limit : ℤ) (rows : List Row) → HoldsLog old.now → Shown later_text (Int n ∷ Int limit ∷ []) old new rows
+pub reads_later : (old new : State) (n limit : ℤ) (rows : List Row) → HoldsTable old.now → Shown later_text (Int n ∷ Int limit ∷ []) old new rows
     → rows ≡ limited (as_count (Int limit)) (map row_of_query (rows_after (Some n) (old.now.trees 0)))
 reads_later old new n limit rows holds h =
     let params : Row = Int n ∷ Int limit ∷ [] in

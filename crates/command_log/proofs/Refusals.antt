@@ -17,7 +17,7 @@ use Rattle.sqlite.specs.Source.{Source}
 use Rattle.sqlite.specs.Source.TheVariants.{Values}
 use Rattle.sqlite_schema.specs.declared.program.Program.{Program}
 use Rattle.sqlite_value.specs.declared.value.Value.{Value}
-use Rattle.sqlite_value.specs.declared.value.Value.TheVariants.{Null, Int, Text}
+use Rattle.sqlite_value.specs.declared.value.Value.TheVariants.{Null, Int, Text, Blob}
 use Rattle.sqlite_value.specs.Order.{value_cmp, number}
 use Rattle.sqlite.specs.Tree.{Trees, rowid}
 use Rattle.sqlite_trees.specs.View.{IsStorableRow}
@@ -47,7 +47,7 @@ use Rattle.table_rows.proofs.Casting.{cast_null}
 use Rattle.table_rows.proofs.Answering as answering
 use Rattle.table_rows.proofs.Deleting as deleting
 use Rattle.command_log.specs.Table.{log_schema, command_table}
-use Rattle.command_log.specs.Lines.{HoldsLog, IsRising}
+use Rattle.command_log.specs.Lines.{HoldsTable, IsRising}
 use Rattle.command_log.specs.Faults.{IsTooLong}
 use Rattle.command_log.proofs.Texts.{insert_text, insert_command, clear_text, clear_command}
 use Rattle.command_log.proofs.Inserting.{rest_of}
@@ -104,26 +104,26 @@ zero_is_number = tt
 no_bit : (c : ℕ) → ¬ (bit_at 0 c ≡ 1)
 no_bit c h = absurd (omega (arith, h, bit_at-zero c))
 
-storable : (n : ℤ) (line : List ℕ) → 54 + length line ≤ 10 ^ 9 → IsStorableRow (table_reals command_table) (Int n ∷ rest_of line)
-storable n line small = (
+storable : (n : ℤ) (line sum : List ℕ) → length sum ≡ 32 → 104 + length line ≤ 10 ^ 9 → IsStorableRow (table_reals command_table) (Int n ∷ rest_of line sum)
+storable n line sum long small = (
   record {
     typed = λ c bit. absurd (no_bit c bit);
     columns = (lit< tt, lit≤ tt);
-    numbers = All-from_recursion (λ v. NotNan (number v)) (Int n ∷ rest_of line) (int_is_number n, (zero_is_number, (zero_is_number, tt)));
-    short = omega (arith, small);
+    numbers = All-from_recursion (λ v. NotNan (number v)) (Int n ∷ rest_of line sum) (int_is_number n, (zero_is_number, (zero_is_number, (zero_is_number, tt))));
+    short = omega (arith, small, long);
   },
   lit< tt,
 )
 
-module _ (old : State) (holds : HoldsLog old.now) (line : List ℕ) where
+module _ (old : State) (holds : HoldsTable old.now) (line sum : List ℕ) (long : length sum ≡ 32) where
   abbrev given : Row
-  given = Text line ∷ []
+  given = Text line ∷ Blob sum ∷ []
 
   abbrev rows : List Row
   rows = old.now.trees 0
 
   abbrev new : Row
-  new = Int (next_rowid rows) ∷ rest_of line
+  new = Int (next_rowid rows) ∷ rest_of line sum
 
   -- why it stops: the row is too large, the numbers are used up, or a limit on steps was met
   abbrev pub PutStops : Option Error → Type 0
@@ -141,7 +141,7 @@ module _ (old : State) (holds : HoldsLog old.now) (line : List ℕ) where
     refused (Violates Check) h = absurd (true≢false (subst (λ l. list_all (passes Check log_schema old.now.trees command_table) l ≡ false) news h))
     refused (Violates PrimaryKey) h =
         let taken : (not (is_taken rows new) && true) ≡ false = subst (λ l. are_fresh rows l ≡ false) news h in
-        absurd (true≢false (subst (λ b. (not b && true) ≡ false) (is_new rows (rest_of line) holds.rising) taken))
+        absurd (true≢false (subst (λ b. (not b && true) ≡ false) (is_new rows (rest_of line sum) holds.rising) taken))
     refused (Violates Unique) h = absurd (h (all_keep _, tt))
     refused (Violates ForeignKey) h = absurd h
     refused Mismatch h = absurd (true≢false (subst (λ l. have_rowids l ≡ false) news h))
@@ -152,11 +152,11 @@ module _ (old : State) (holds : HoldsLog old.now) (line : List ℕ) where
     oversized : (row : Row) → Has (put sources).news row → IsOversized log_schema command_table row → IsTooLong line
     oversized row has (inr (i, none, at, other)) = absurd none
     oversized row has (inl unstorable) = elim (subst (λ l. Has l row) news has) [
-      | inl is ↦ elim (cases_order (10 ^ 9) (54 + length line)) [
-        | inl same ↦ absurd (unstorable (subst (IsStorableRow (table_reals command_table)) (sym is) (storable (next_rowid rows) line (omega (arith, same)))))
+      | inl is ↦ elim (cases_order (10 ^ 9) (104 + length line)) [
+        | inl same ↦ absurd (unstorable (subst (IsStorableRow (table_reals command_table)) (sym is) (storable (next_rowid rows) line sum long (omega (arith, same)))))
         | inr (inl big) ↦ big
         | inr (inr small) ↦ absurd
-            (unstorable (subst (IsStorableRow (table_reals command_table)) (sym is) (storable (next_rowid rows) line (omega (arith, small)))))
+            (unstorable (subst (IsStorableRow (table_reals command_table)) (sym is) (storable (next_rowid rows) line sum long (omega (arith, small)))))
       ]
       | inr none ↦ absurd none
     ]
@@ -167,9 +167,9 @@ module _ (old : State) (holds : HoldsLog old.now) (line : List ℕ) where
     edited stop (why, inr (inr (next, applies, settles)), is) = absurd (never_settles settles.0 next [] why refl settles.1)
 
   abbrev source : Source
-  source = Values (lit Null ∷ lit Null ∷ col 0 0 ∷ []) 3
+  source = Values (lit Null ∷ lit Null ∷ col 0 0 ∷ col 0 1 ∷ []) 4
 
-  accepted : accepts_terms (lit Null ∷ lit Null ∷ col 0 0 ∷ []) given ≡ true
+  accepted : accepts_terms (lit Null ∷ lit Null ∷ col 0 0 ∷ col 0 1 ∷ []) given ≡ true
   accepted = refl
 
   sourced : (stop : Option Error) → Sourced old.step_limit (record { schema = log_schema; trees = old.now.trees }) given source (Err stop) → PutStops stop
@@ -198,7 +198,7 @@ module _ (old : State) (holds : HoldsLog old.now) (line : List ℕ) where
 
 -- ---- DELETE
 
-module _ (old : State) (holds : HoldsLog old.now) where
+module _ (old : State) (holds : HoldsTable old.now) where
   -- only a limit on steps stops it
   abbrev pub ClearStops : Option Error → Type 0
   ClearStops None = ⊥

@@ -47,7 +47,7 @@ same_lines db lines log d sound is (inr none) = absurd (not_nothing db log (subs
 
 -- a log has these lines
 pub keeps_has : (db : Trees) (lines : List (List ℕ)) → KeepsLines lines db → HasLines db lines
-keeps_has db lines keeps = (log_schema, keeps.sound, inl (refl, sym keeps.are))
+keeps_has db lines keeps = (log_schema, keeps.sound, inl (refl, sym keeps.are, keeps.sealed))
 
 -- and no others
 pub keeps_only : (db : Trees) (kept lines : List (List ℕ)) → KeepsLines kept db → HasLines db lines → kept ≡ lines
@@ -78,7 +78,7 @@ module _ {D : Type 0} {g : Ghosts D} (log : Held (FileStore D g)) where
 module _ {D : Type 0} {g : Ghosts D} (log : Held (FileStore D g)) (is : IsLog over_files log) (live : IsOpen over_files log
     → IsDatabase (file_state log).committed) where
   sound_log : IsOpen over_files log → IsSound log_schema (file_state log).committed.trees
-  sound_log up = subst (λ s. IsSound s (file_state log).committed.trees) (ap (λ (d : Database). d.schema) (is.idle.settled up) ∙ (is.holds up).schema_is)
+  sound_log up = subst (λ s. IsSound s (file_state log).committed.trees) (ap (λ (d : Database). d.schema) (is.idle.settled up) ∙ (is.holds up).table.schema_is)
       (live up)
 
   pub found_again : IsTrue (store.view log.store).is_numbered → ((db : Trees) → IsOpen over_files log → store.recovers log.store db → db

@@ -10,7 +10,7 @@ use Rattle.sqlite_rules.specs.Edit.{next_rowid}
 use Rattle.command_log.specs.declared.fault.LogFault.{LogFault}
 use Rattle.command_log.specs.declared.fault.LogFault.TheVariants as fault
 use Rattle.sqlite.specs.Order.{Row}
-use Rattle.command_log.specs.Lines.{rows_of, line_in}
+use Rattle.command_log.specs.Lines.{rows_of, line_in, digest_in}
 use Rattle.command_log.specs.Faults.{Unstorable, IsTooLong}
 use Rattle.std.proofs.lemmas.Int.{ints}
 use Rattle.std.proofs.lemmas.Bool.{cases_Bool}
@@ -28,7 +28,9 @@ use Rattle.sqlite.specs.Steps.{FailsToCommit}
 use Rattle.sqlite.specs.Held.{Held, state}
 use Rattle.sqlite.specs.declared.error.Error.{Error}
 use Rattle.command_log.specs.Table.{log_schema}
-use Rattle.command_log.specs.Lines.{HoldsLog, KeepsLines, IsOpen, IsLog, Puts, PutsAny, lines_of, lines_in}
+use Rattle.line_digests.specs.Digests.{digest_after, digests_after}
+use Rattle.line_digests.proofs.Digests.{digests_more}
+use Rattle.command_log.specs.Lines.{HoldsLog, HoldsTable, KeepsLines, IsOpen, IsIdle, IsLog, IsTabled, AreSealed, Puts, PutsAny, lines_of, lines_in}
 
 module _ {S : Type 0} (g : Ghosts S) where
   -- the law that a store which is not clean shows as shut
@@ -51,6 +53,17 @@ module _ {S : Type 0} (g : Ghosts S) where
     pub committed : IsOpen g new → (state g new).committed ≡ (state g old).committed
     pub autocommit : new.in_transaction ≡ false
 
+  -- a log is the table of one
+  pub tabled : (h : Held S) → IsLog g h → IsTabled g h
+  tabled h log = record { idle = log.idle; holds = λ up. (log.holds up).table }
+
+  -- it is the table that it was
+  pub kept_table : (old new : Held S) → IsTabled g old → IsKept old new → IsTabled g new
+  kept_table old new log kept = record {
+    idle = record { autocommit = kept.autocommit; settled = λ up. kept.committed up ∙ log.idle.settled (kept.was_open up) ∙ sym (kept.now up) };
+    holds = λ up. subst HoldsTable (sym (kept.now up)) (log.holds (kept.was_open up));
+  }
+
   -- it is the log that it was
   pub kept_log : (old new : Held S) → IsLog g old → IsKept old new → IsLog g new
   kept_log old new log kept = record {
@@ -67,16 +80,16 @@ module _ {S : Type 0} (g : Ghosts S) where
   begun old = record old { in_transaction = true }
 
   -- a transaction that is rolled back
-  pub rolled_back : ShutsIfDirty → (old last end : Held S) → IsLog g old → doubt (g.view last.store).is_clean ≤ doubt (g.view end.store).is_clean
+  pub rolled_back : ShutsIfDirty → (old last end : Held S) → IsIdle g old → doubt (g.view last.store).is_clean ≤ doubt (g.view end.store).is_clean
       → (HasCleanDisk (state g last) → KeepsCommit (state g (begun old)) (state g last)) → end.in_transaction ≡ false
       → (HasCleanDisk (state g end) → IsRolledBack (state g last) (state g end)) → IsKept old end
-  rolled_back law old last end log falls kept ended back =
+  rolled_back law old last end idle falls kept ended back =
       let early = λ (clean : HasCleanDisk (state g end)). let it : HasCleanDisk (state g last) = omega (arith, falls, clean) in it in
       let open_last = λ (up : IsOpen g end). (back (clean_of law end up)).was_open up in
       let was = λ (up : IsOpen g end). kept (early (clean_of law end up)) in
       record {
         was_open = λ up. (was up).was_open (open_last up);
-        now = λ up. ((back (clean_of law end up)).undone up).0 ∙ (was up).committed (open_last up) ∙ log.idle.settled ((was up).was_open (open_last up));
+        now = λ up. ((back (clean_of law end up)).undone up).0 ∙ (was up).committed (open_last up) ∙ idle.settled ((was up).was_open (open_last up));
         committed = λ up. ((back (clean_of law end up)).undone up).1 ∙ (was up).committed (open_last up);
         autocommit = ended;
       }
@@ -90,34 +103,39 @@ module _ {S : Type 0} (g : Ghosts S) where
   -- ---- one more line
 
   -- a line after others
-  pub puts_more : (old mid new : Held S) (more : List (List ℕ)) (line : List ℕ) → PutsAny g old mid more → Puts g mid new (line ∷ [])
-      → Puts g old new (more ++ line ∷ [])
-  puts_more old mid new more line (inl none) one =
-      subst (λ l. Puts g old new (l ++ line ∷ [])) (sym none.0) (subst (λ h. Puts g h new (line ∷ [])) none.1 one)
-  puts_more old mid new more line (inr put) one = record {
+  pub puts_more : (old mid new : Held S) (digest : List ℕ) (more : List (List ℕ)) (line : List ℕ) → PutsAny g old mid digest more
+      → Puts g mid new (digest_after digest more) (line ∷ []) → Puts g old new digest (more ++ line ∷ [])
+  puts_more old mid new digest more line (inl none) one =
+      subst (λ l. Puts g mid new (digest_after digest l) (line ∷ []) → Puts g old new digest (l ++ line ∷ [])) (sym none.0)
+      (subst (λ h. Puts g h new digest (line ∷ []) → Puts g old new digest (line ∷ [])) (sym none.1) (λ it. it)) one
+  puts_more old mid new digest more line (inr put) one = record {
     was_open = put.was_open;
     is_open = one.is_open;
     inside = one.inside;
     holds = one.holds;
     sound = one.sound;
     lines = one.lines ∙ ap (λ l. l ++ line ∷ []) put.lines ∙ append_assoc (lines_in (state g old).now.trees) more (line ∷ []);
+    digests = one.digests ∙ ap (λ l. l ++ digests_after (digest_after digest more) (line ∷ [])) put.digests
+        ∙ append_assoc (map digest_in (rows_of g old)) (digests_after digest more) (digests_after (digest_after digest more) (line ∷ []))
+        ∙ ap (λ l. map digest_in (rows_of g old) ++ l) (sym (digests_more digest more (line ∷ [])));
     number = omega (arith, ints, one.number, put.number, length-append more (line ∷ []));
   }
 
   -- a log that was open is open
-  pub puts_open : (old now : Held S) (more : List (List ℕ)) → IsOpen g old → PutsAny g old now more → IsOpen g now
-  puts_open old now more up (inl none) = subst (IsOpen g) (sym none.1) up
-  puts_open old now more up (inr put) = put.is_open
+  pub puts_open : (old now : Held S) (digest : List ℕ) (more : List (List ℕ)) → IsOpen g old → PutsAny g old now digest more → IsOpen g now
+  puts_open old now digest more up (inl none) = subst (IsOpen g) (sym none.1) up
+  puts_open old now digest more up (inr put) = put.is_open
 
   -- a list that is not empty has been appended
-  pub puts_some : {X : Type 0} (f : X → List ℕ) (xs : List X) (old new : Held S) → 0 < length xs → PutsAny g old new (map f xs) → Puts g old new (map f xs)
-  puts_some f [] old new some puts = absurd (omega (arith, some))
-  puts_some f (x ∷ xs) old new some (inl none) = absurd (let e = none.0 in cc)
-  puts_some f (x ∷ xs) old new some (inr put) = put
+  pub puts_some : {X : Type 0} (f : X → List ℕ) (xs : List X) (digest : List ℕ) (old new : Held S) → 0 < length xs → PutsAny g old new digest (map f xs)
+      → Puts g old new digest (map f xs)
+  puts_some f [] digest old new some puts = absurd (omega (arith, some))
+  puts_some f (x ∷ xs) digest old new some (inl none) = absurd (let e = none.0 in cc)
+  puts_some f (x ∷ xs) digest old new some (inr put) = put
 
-module _ {S : Type 0} (g : Ghosts S) (old mid : Held S) (lines : List (List ℕ)) (i : ℕ) (low : i < length lines) where
+module _ {S : Type 0} (g : Ghosts S) (old mid : Held S) (digest : List ℕ) (lines : List (List ℕ)) (i : ℕ) (low : i < length lines) where
   -- the next number after the first lines
-  number_of : PutsAny g old mid (take i lines) → next_rowid (rows_of g mid) ≡ next_rowid (rows_of g old) +ℤ pos i
+  number_of : PutsAny g old mid digest (take i lines) → next_rowid (rows_of g mid) ≡ next_rowid (rows_of g old) +ℤ pos i
   number_of (inl none) =
       let len : i ≡ 0 = omega (arith, low, length-take i lines, ap length none.0) in
       let same : next_rowid (rows_of g mid) ≡ next_rowid (rows_of g old) = ap (λ h. next_rowid (rows_of g h)) none.1 in
@@ -126,7 +144,7 @@ module _ {S : Type 0} (g : Ghosts S) (old mid : Held S) (lines : List (List ℕ)
       ∙ ap (λ n. next_rowid (rows_of g old) +ℤ pos n) len
 
   -- why one more line is not put, in the words of all of them
-  pub more_stops : (line : List ℕ) → Contains lines line → PutsAny g old mid (take i lines) → (f : LogFault) → Unstorable (rows_of g mid) (line ∷ []) f
+  pub more_stops : (line : List ℕ) → Contains lines line → PutsAny g old mid digest (take i lines) → (f : LogFault) → Unstorable (rows_of g mid) (line ∷ []) f
       → Unstorable (rows_of g old) lines f
   more_stops line there puts fault.TooBig h = (line, there, subst IsTooLong (alone h.0 line h.1) h.2)
     where
@@ -148,6 +166,7 @@ module _ {S : Type 0} (g : Ghosts S) (old mid : Held S) (lines : List (List ℕ)
   more_stops line there puts fault.NotText h = h
   more_stops line there puts fault.Interrupted h = h
   more_stops line there puts fault.Store h = h
+  more_stops line there puts (fault.Altered n) h = h
 
 -- no lines are no rows
 pub no_rows : (rows : List Row) → map line_in rows ≡ [] → rows ≡ []
@@ -196,8 +215,9 @@ module _ {S : Type 0} (g : Ghosts S) where
       → KeepsLines lines db
   kept_by d lines holds sound are db is = record {
     sound = subst (λ t. IsDatabase (record { schema = log_schema; trees = t })) (sym is)
-        (subst (λ s. IsDatabase (record { schema = s; trees = d.trees })) holds.schema_is sound);
+        (subst (λ s. IsDatabase (record { schema = s; trees = d.trees })) holds.table.schema_is sound);
     are = ap lines_in is ∙ are;
+    sealed = subst (λ (t : Trees). AreSealed (t 0)) (sym is) holds.sealed;
   }
 
   -- a commit that succeeds leaves a log
@@ -221,7 +241,7 @@ module _ {S : Type 0} (g : Ghosts S) where
 
 -- ---- how a read ends: the transaction has changed nothing, and is committed
 
-module _ {S : Type 0} (g : Ghosts S) (law : ShutsIfDirty g) (old last end : Held S) (log : IsLog g old) (falls : doubt (g.view last.store).is_clean ≤ doubt
+module _ {S : Type 0} (g : Ghosts S) (law : ShutsIfDirty g) (old last end : Held S) (resting : IsIdle g old) (falls : doubt (g.view last.store).is_clean ≤ doubt
     (g.view end.store).is_clean)
     (same : HasCleanDisk (state g last) → IsUnchanged (state g (begun g old)) (state g last)) where
   -- a disk that is clean at the end was clean before
@@ -240,11 +260,11 @@ module _ {S : Type 0} (g : Ghosts S) (law : ShutsIfDirty g) (old last end : Held
       record {
         was_open = λ up. (was up).was_open;
         now = λ up. (it up).now_is ∙ (was up).now_is;
-        committed = λ up. (it up).committed_is ∙ (was up).now_is ∙ sym (log.idle.settled (was up).was_open);
+        committed = λ up. (it up).committed_is ∙ (was up).now_is ∙ sym (resting.settled (was up).was_open);
         autocommit = ended;
       }
   read_ends ended (Err e) ok err =
-      rolled_back g law old last end log falls (λ clean. kept_commit (same clean)) ended (λ clean. not_committed g last end e (same (early clean)).0.mode
+      rolled_back g law old last end resting falls (λ clean. kept_commit (same clean)) ended (λ clean. not_committed g last end e (same (early clean)).0.mode
       (err clean))
     where
       kept_commit : IsUnchanged (state g (begun g old)) (state g last) → KeepsCommit (state g (begun g old)) (state g last)
@@ -265,7 +285,7 @@ module _ {S : Type 0} (g : Ghosts S) (law : ShutsIfDirty g) (old last end : Held
         crash = λ clean db may. elim (whole.crash clean db may) [
           | inl was ↦ inl was
           | inr is ↦ inl (let it = (same (early clean)).0 in
-              subst (state g old).may_leave (sym (is ∙ ap (λ (d : Database). d.trees) (it.now_is ∙ sym (log.idle.settled it.was_open))))
+              subst (state g old).may_leave (sym (is ∙ ap (λ (d : Database). d.trees) (it.now_is ∙ sym (resting.settled it.was_open))))
               (stays old.store it.was_open))
         ];
       }

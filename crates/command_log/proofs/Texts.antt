@@ -25,23 +25,23 @@ use Rattle.sqlite.proofs.Callers.{IsPlain, command_of, statement_of}
 use Rattle.command_log.specs.Table.{create_text, command_table, no_schema, log_schema}
 
 abbrev pub insert_text : List ℕ
-insert_text = codes "INSERT INTO command (line) VALUES (?1)"
+insert_text = codes "INSERT INTO command (line, digest) VALUES (?1, ?2)"
 
 abbrev pub first_text : List ℕ
-first_text = codes "SELECT number, line FROM command ORDER BY number LIMIT ?1"
+first_text = codes "SELECT number, line, digest FROM command ORDER BY number LIMIT ?1"
 
 abbrev pub later_text : List ℕ
-later_text = codes "SELECT number, line FROM command WHERE number > ?1 ORDER BY number LIMIT ?2"
+later_text = codes "SELECT number, line, digest FROM command WHERE number > ?1 ORDER BY number LIMIT ?2"
 
 abbrev pub insert_command : Command
-insert_command = Insert 0 (Values (lit Null ∷ lit Null ∷ col 0 0 ∷ []) 3)
+insert_command = Insert 0 (Values (lit Null ∷ lit Null ∷ col 0 0 ∷ col 0 1 ∷ []) 4)
 
 -- by number, ascending
 abbrev pub orders : List (Term × Key)
 orders = (col 1 0, record { collation = Binary; descending = false }) ∷ []
 
 abbrev pub projects : List Term
-projects = col 1 0 ∷ col 1 2 ∷ []
+projects = col 1 0 ∷ col 1 2 ∷ col 1 3 ∷ []
 
 -- the number is above the parameter
 abbrev pub wheres : List Term
@@ -51,14 +51,14 @@ abbrev pub query : List Term → Term → Query
 query tests limit = answering.query 0 tests projects [] orders limit (lit (Int (pos 0)))
 
 abbrev pub names : List (List ℕ)
-names = codes "number" ∷ codes "line" ∷ []
+names = codes "number" ∷ codes "line" ∷ codes "digest" ∷ []
 
 -- the text is one statement, with this many parameters
 abbrev pub IsWhole : List ℕ → ℕ → Result Compiled CompileError → Type 0
 IsWhole sql count (Ok c) = (nat_le (length sql) c.tail ≡ true) × (count ≡ length c.names)
 IsWhole sql count (Err e) = ⊥
 
-pub insert_whole : IsWhole insert_text 1 (understood log_schema insert_text)
+pub insert_whole : IsWhole insert_text 2 (understood log_schema insert_text)
 unfolding understood everything
 insert_whole = (refl, refl)
 

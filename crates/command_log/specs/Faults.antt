@@ -1,6 +1,8 @@
 -- What a call of the log returns for each error of the database.
-use Rattle.std.specs.Prelude.{◌≡◌, ◌⊎◌, ⊤, ℕ, ◌+◌, ◌^◌, ◌<◌, ◌+ℤ◌, pos, false, List, length, All, Contains, IsSome, IsUtf8}
+use Rattle.std.specs.Prelude.{◌≡◌, ◌≢◌, ◌⊎◌, ⊤, ℕ, ◌+◌, ◌^◌, ◌<◌, ◌+ℤ◌, pos, false, List, ◌++◌, length, map, take, get_or, All, Contains, IsSome, IsUtf8}
 use Rattle.sqlite.specs.Order.{Row}
+use Rattle.sha2.specs.Sha256.{sha256}
+use Rattle.line_digests.specs.Digests.{digest_of}
 use Rattle.sqlite_rules.specs.Edit.{next_rowid}
 use Rattle.sqlite_sql.specs.Ops.{fits_i64}
 use Rattle.sqlite.specs.State.{State}
@@ -12,6 +14,7 @@ use Rattle.sqlite.specs.Held.{Held}
 use Rattle.sqlite.specs.declared.error.Error.{Error}
 use Rattle.sqlite.specs.declared.error.Error.TheVariants.{SqliteFailure, Utf8Error}
 use Rattle.sqlite.specs.declared.error.ErrorCode.TheVariants as code
+use Rattle.command_log.specs.Lines.{AreSealed, digest_in, line_in}
 use Rattle.command_log.specs.declared.fault.LogFault.{LogFault}
 use Rattle.command_log.specs.declared.fault.LogFault.TheVariants as fault
 
@@ -53,13 +56,26 @@ abbrev pub Unreadable : List (List ℕ) → LogFault → Type 0
 Unreadable lines fault.NotText = ¬ AreText lines
 Unreadable lines _ = ⊥
 
--- a line and what is stored beside it has more than a billion bytes
+-- a line and what is stored beside it have more than a billion bytes
 abbrev pub IsTooLong : List ℕ → Type 0
-IsTooLong line = 10 ^ 9 < 54 + length line
+IsTooLong line = 10 ^ 9 < 104 + length line
 
 -- the number of the line after this many others is past the largest
 abbrev pub IsUsedUp : List Row → ℕ → Type 0
 IsUsedUp rows more = fits_i64 (next_rowid rows +ℤ pos more) ≡ false
+
+-- the first so many rows have the digests of the lines up to them, and the one after them doesn't
+pub record IsAltered (rows : List Row) (n : ℕ) : Type 0 where
+  pub row : Row
+  pub within : n < length rows
+  pub is : row ≡ get_or rows n row
+  pub before : AreSealed (take n rows)
+  pub differs : digest_in row ≢ sha256 (digest_of (map line_in (take n rows)) ++ line_in row)
+
+-- what a call that tests the digests of rows may meet: such a row, whose number is counted from 1
+abbrev pub Unsealed : List Row → LogFault → Type 0
+Unsealed rows (fault.Altered n) = (at : ℕ) × (n ≡ at + 1) × IsAltered rows at
+Unsealed rows _ = ⊥
 
 -- what a call that appends these lines to rows may meet
 abbrev pub Unstorable : List Row → List (List ℕ) → LogFault → Type 0

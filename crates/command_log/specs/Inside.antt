@@ -8,13 +8,13 @@ use Rattle.sqlite.specs.declared.error.Error.{Error}
 use Rattle.sqlite.specs.declared.transaction.Transaction.{Transaction}
 use Rattle.command_log.specs.declared.fault.LogFault.{LogFault}
 use Rattle.command_log.specs.Faults.{fault_of, IsCaused}
-use Rattle.command_log.specs.Lines.{HoldsLog, IsOpen, GivesRows}
+use Rattle.command_log.specs.Lines.{HoldsTable, IsOpen, GivesRows}
 
 module _ {S : Type 0} (g : Ghosts S) where
   -- a transaction of a log, unless a failure has ended it
   pub record IsInside (tx : Transaction S) : Type 0 where
     pub inside : HasCleanDisk (state g tx.conn.now) → tx.conn.now.in_transaction ≡ true
-    pub holds : IsOpen g tx.conn.now → HoldsLog (state g tx.conn.now).now
+    pub holds : IsOpen g tx.conn.now → HoldsTable (state g tx.conn.now).now
 
   -- What a call within a transaction leaves: it commits nothing, and a crash leaves what it could leave before. `Does` holds of the result if it succeeds; an
   -- open log fails by one of the faults `Own`, or by what it met.

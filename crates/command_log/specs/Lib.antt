@@ -3,3 +3,4 @@ pub mod Faults
 pub mod Lines
 pub mod Inside
 pub mod Found
+pub mod Testing

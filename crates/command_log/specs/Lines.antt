@@ -3,7 +3,7 @@ use Rattle.std.specs.Prelude.{◌≡◌, ◌⊎◌, ℕ, ℤ, pos, ◌+ℤ◌, B
 use Rattle.std.specs.Ordering.{is_lt, int_cmp}
 use Rattle.std.specs.List.{AllByRecursion}
 use Rattle.sqlite.specs.Order.{Row}
-use Rattle.sqlite_value.specs.declared.value.Value.TheVariants.{Int, Text}
+use Rattle.sqlite_value.specs.declared.value.Value.TheVariants.{Int, Text, Blob}
 use Rattle.sqlite_value.specs.Order.{column, bytes}
 use Rattle.sqlite.specs.Query.{as_count, limited}
 use Rattle.sqlite_rules.specs.Edit.{id_in, next_rowid}
@@ -14,11 +14,19 @@ use Rattle.sqlite.specs.Store.{Ghosts}
 use Rattle.sqlite.specs.Effect.{Database, IsDatabase}
 use Rattle.sqlite.specs.Held.{Held, state}
 use Rattle.sqlite.specs.State.{HasCleanDisk}
+use Rattle.line_digests.specs.Digests.{digests_after, digests_of}
 use Rattle.command_log.specs.Table.{log_schema, no_schema}
 
--- a row is its number, a NULL in the column of the number, and the line
+-- a row is its number, a NULL in the column of the number, the line, and the digest of the lines up to it
 abbrev pub line_in : Row → List ℕ
 line_in r = bytes (column r 2)
+
+abbrev pub digest_in : Row → List ℕ
+digest_in r = bytes (column r 3)
+
+-- each row has the digest of the lines up to it
+abbrev pub AreSealed : List Row → Type 0
+AreSealed rows = map digest_in rows ≡ digests_of (map line_in rows)
 
 -- the lines of the table, in ascending number
 abbrev pub lines_in : Trees → List (List ℕ)
@@ -38,18 +46,22 @@ rows_after (Some n) rows = filter (is_past n) rows
 abbrev pub lines_after : Option ℤ → Trees → List (List ℕ)
 lines_after place db = map line_in (rows_after place (db 0))
 
--- what a query shows of a row: its number and its line
+-- what a query shows of a row: its number, its line and its digest
 abbrev pub row_of_query : Row → Row
-row_of_query r = rowid r ∷ column r 2 ∷ []
+row_of_query r = rowid r ∷ column r 2 ∷ column r 3 ∷ []
 
 abbrev pub text_in : Row → List ℕ
 text_in r = bytes (column r 1)
 
+abbrev pub sum_in : Row → List ℕ
+sum_in r = bytes (column r 2)
+
 -- a row that can be read as one, but for bytes that are not UTF-8
 pub record IsLineRow (r : Row) : Type 0 where
-  pub width : length r ≡ 2
+  pub width : length r ≡ 3
   pub number : (n : ℤ) × (column r 0 ≡ Int n)
   pub text : (t : List ℕ) × (column r 1 ≡ Text t)
+  pub sum : (t : List ℕ) × (column r 2 ≡ Blob t)
 
 -- the place after rows that were shown
 abbrev pub place_after : Option ℤ → List Row → Option ℤ
@@ -61,14 +73,20 @@ place_after = fold (λ _ r. Some (id_in (column r 0)))
 abbrev pub IsRising : List Row → Type 0
 IsRising rows = IsTable rows × AllByRecursion (λ r. IsTrue (is_int (rowid r))) rows
 
--- a database that holds a log
-pub record HoldsLog (d : Database) : Type 0 where
+-- a database that holds the table of a log
+pub record HoldsTable (d : Database) : Type 0 where
   pub schema_is : d.schema ≡ log_schema
   pub rising : IsRising (d.trees 0)
 
--- what a database holds as a log: the lines of its table, or none if it holds nothing
+-- and one that holds a log
+pub record HoldsLog (d : Database) : Type 0 where
+  pub table : HoldsTable d
+  pub sealed : AreSealed (d.trees 0)
+
+-- what a database holds as a log: the lines of its table, whose digests fit, or none if it holds nothing
 abbrev pub HoldsLines : Database → List (List ℕ) → Type 0
-HoldsLines d lines = ((d.schema ≡ log_schema) × (lines ≡ lines_in d.trees)) ⊎ ((d.schema ≡ no_schema) × (lines ≡ []))
+HoldsLines d lines =
+    ((d.schema ≡ log_schema) × (lines ≡ lines_in d.trees) × AreSealed (d.trees 0)) ⊎ ((d.schema ≡ no_schema) × (lines ≡ []))
 
 -- trees that are a database, which holds these lines
 abbrev pub HasLines : Trees → List (List ℕ) → Type 0
@@ -79,6 +97,7 @@ HasLines db lines =
 pub record KeepsLines (lines : List (List ℕ)) (db : Trees) : Type 0 where
   pub sound : IsDatabase (record { schema = log_schema; trees = db })
   pub are : lines_in db ≡ lines
+  pub sealed : AreSealed (db 0)
 
 module _ {S : Type 0} (g : Ghosts S) where
   -- no failure has shut it, and the disk has returned what was written
@@ -110,23 +129,29 @@ module _ {S : Type 0} (g : Ghosts S) where
     pub autocommit : h.in_transaction ≡ false
     pub settled : IsOpen h → (state g h).committed ≡ (state g h).now
 
+  -- a connection to the table of a log, whose digests may not fit
+  pub record IsTabled (h : Held S) : Type 0 where
+    pub idle : IsIdle h
+    pub holds : IsOpen h → HoldsTable (state g h).now
+
   pub record IsLog (h : Held S) : Type 0 where
     pub idle : IsIdle h
     pub holds : IsOpen h → HoldsLog (state g h).now
 
-  -- a transaction has appended these lines
-  pub record Puts (old new : Held S) (more : List (List ℕ)) : Type 0 where
+  -- a transaction has appended these lines, with the digests that follow from the one before
+  pub record Puts (old new : Held S) (digest : List ℕ) (more : List (List ℕ)) : Type 0 where
     pub was_open : IsOpen old
     pub is_open : IsOpen new
     pub inside : new.in_transaction ≡ true
-    pub holds : HoldsLog (state g new).now
+    pub holds : HoldsTable (state g new).now
     pub sound : IsDatabase (state g new).now
     pub lines : lines_in (state g new).now.trees ≡ lines_in (state g old).now.trees ++ more
+    pub digests : map digest_in (rows_of new) ≡ map digest_in (rows_of old) ++ digests_after digest more
     pub number : next_rowid (rows_of new) ≡ next_rowid (rows_of old) +ℤ pos (length more)
 
   -- or no line so far
-  abbrev pub PutsAny : Held S → Held S → List (List ℕ) → Type 0
-  PutsAny old new more = ((more ≡ []) × (new ≡ old)) ⊎ Puts old new more
+  abbrev pub PutsAny : Held S → Held S → List ℕ → List (List ℕ) → Type 0
+  PutsAny old new digest more = ((more ≡ []) × (new ≡ old)) ⊎ Puts old new digest more
 
   -- the rows that a query shows of the lines after a place
   abbrev pub GivesRows : Held S → Option ℤ → ℤ → List Row → Type 0
@@ -141,7 +166,7 @@ module _ {S : Type 0} (g : Ghosts S) where
     pub was_open : IsOpen old
     pub is_open : IsOpen new
     pub inside : new.in_transaction ≡ true
-    pub holds : HoldsLog (state g new).now
+    pub holds : HoldsTable (state g new).now
     pub sound : IsDatabase (state g new).now
     pub lines : lines_in (state g new).now.trees ≡ []
 

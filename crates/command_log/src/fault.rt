@@ -42,6 +42,10 @@ pub enum LogFault {
     /// A line, which another program must have written, is not UTF-8.
     #[error("a line of the log is not UTF-8")]
     NotText,
+    /// A line doesn't have the digest of the lines up to it, so it or one before it has changed.
+    /// Lines are counted from 1. Those before it have theirs.
+    #[error("line {0} of the log has changed since it was written")]
+    Altered(u64),
     /// The limit on the steps of a statement was met. Only a caller of
     /// [`over`](crate::CommandLog::over) can have set one.
     #[error("interrupted")]

@@ -1,4 +1,5 @@
-//! A log of text lines in an SQLite database. A line that was appended is in the log after a crash.
+//! A log of text lines in an SQLite database. A line that was appended is in the log after a crash, and a log of which a
+//! line has changed since is refused.
 #![tactic(auto)]
 
 mod batch;
@@ -6,6 +7,7 @@ mod fault;
 mod lines;
 mod log;
 mod table;
+mod testing;
 #[cfg(test)]
 mod tests;
 

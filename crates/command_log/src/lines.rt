@@ -1,6 +1,6 @@
 //! The statements on lines.
 ghost use Rattle.std.specs.Prelude.{ℕ, pos, drop, ◌≡◌, ◌<◌, ◌∷◌, ◌++◌, [], length, map, Some, None};
-ghost use Rattle.std.specs.Prelude.{All, IsUtf8, ◌⊎◌, IfErr, IfOk, OnOk, OnErr};
+ghost use Rattle.std.specs.Prelude.{All, IsUtf8, List, ◌⊎◌, IfErr, IfOk, OnOk, OnErr};
 ghost use Rattle.std.specs.String.{string_bytes};
 ghost use Rattle.sqlite_value.specs.declared.value.Value.TheVariants.{Int};
 ghost use Rattle.sqlite_value.specs.Order.{column};
@@ -10,21 +10,25 @@ ghost use Rattle.sqlite.specs.State.{HasCleanDisk, Survives};
 ghost use Rattle.command_log.specs.Faults.{fault_of, IsCaused, Nothing, Unreadable, Unstorable};
 ghost use Rattle.command_log.specs.Faults.{AreText};
 ghost use Rattle.command_log.specs.Inside.{IsInside, InLog, ReadsRows};
-ghost use Rattle.command_log.specs.Lines.{IsLineRow, IsOpen, IsLog, Puts, PutsAny, Makes};
+ghost use Rattle.sha2.specs.Sha256.{sha256};
+ghost use Rattle.line_digests.specs.Digests.{digest_after, digest_of};
+ghost use Rattle.command_log.specs.Lines.{IsLineRow, IsOpen, IsLog, IsTabled, Puts, PutsAny, Makes};
 ghost use Rattle.command_log.specs.Lines.{IsAppended, IsReplaced, GivesRows, text_in, place_after};
 ghost use Rattle.command_log.specs.Lines.{rows_of, lines_of, lines_left};
 
+use line_digests::LineDigest;
 use sqlite::{Connection, Error, ErrorCode, Row, Transaction, params};
 use sqlite_trees::store::Alter;
 use std::alloc::Global;
 
-const INSERT: &str = "INSERT INTO command (line) VALUES (?1)";
+const INSERT: &str = "INSERT INTO command (line, digest) VALUES (?1, ?2)";
 
 const CLEAR: &str = "DELETE FROM command";
 
-const FIRST: &str = "SELECT number, line FROM command ORDER BY number LIMIT ?1";
+const FIRST: &str = "SELECT number, line, digest FROM command ORDER BY number LIMIT ?1";
 
-const LATER: &str = "SELECT number, line FROM command WHERE number > ?1 ORDER BY number LIMIT ?2";
+const LATER: &str =
+    "SELECT number, line, digest FROM command WHERE number > ?1 ORDER BY number LIMIT ?2";
 
 /// The LIMIT that sets no limit.
 pub(crate) const NO_LIMIT: i64 = -1;
@@ -35,33 +39,67 @@ pub(crate) struct ReadLines {
     pub(crate) next: Option<i64>,
 }
 
-/// Appends one line.
-fn put_line<S: Alter>(tx: &mut Transaction<'_, S>, line: &str) -> Result<usize, Error>
-    requires { IsInside S.Store tx.old }
-    ensures { InLog S.Store tx.old tx.new result
-        (λ _. Puts S.Store tx.old.conn.now tx.new.conn.now (line.now ∷ []))
+/// Appends one line with its digest.
+fn put_sealed<S: Alter>(
+    tx: &mut Transaction<'_, S>,
+    line: &str,
+    digest: &[u8],
+) -> Result<usize, Error>
+    requires inside { IsInside S.Store tx.old }
+    requires digest { length digest.now ≡ 32 }
+    ensures { (before : List ℕ) → digest.now ≡ sha256 (before ++ line.now)
+        → InLog S.Store tx.old tx.new result
+        (λ _. Puts S.Store tx.old.conn.now tx.new.conn.now before (line.now ∷ []))
         (Unstorable (rows_of S.Store tx.old.conn.now) (line.now ∷ [])) }
 {
-    tx.execute(INSERT, params![line])
+    tx.execute(INSERT, params![line, digest])
 }
 
-/// Appends the lines, in order, up to the first that fails.
-fn put_lines<S: Alter>(tx: &mut Transaction<'_, S>, lines: &[String]) -> Result<(), Error>
+/// Appends one line, which the digest goes on after.
+fn put_line<S: Alter>(
+    tx: &mut Transaction<'_, S>,
+    line: &str,
+    digest: &mut LineDigest,
+) -> Result<usize, Error>
     requires { IsInside S.Store tx.old }
-    ensures { InLog S.Store tx.old tx.new result
-        (λ _. PutsAny S.Store tx.old.conn.now tx.new.conn.now (map string_bytes lines.now))
+    ensures puts { InLog S.Store tx.old tx.new result
+        (λ _. Puts S.Store tx.old.conn.now tx.new.conn.now digest.old (line.now ∷ []))
+        (Unstorable (rows_of S.Store tx.old.conn.now) (line.now ∷ [])) }
+    ensures digest { digest.new ≡ sha256 (digest.old ++ line.now) }
+{
+    digest.add(line.as_bytes());
+    put_sealed(tx, line, digest.as_bytes())
+}
+
+/// Appends the lines, in order, up to the first that fails. The digest goes on after them.
+fn put_lines<S: Alter>(
+    tx: &mut Transaction<'_, S>,
+    lines: &[String],
+    digest: &mut LineDigest,
+) -> Result<(), Error>
+    requires { IsInside S.Store tx.old }
+    ensures puts { InLog S.Store tx.old tx.new result
+        (λ _. PutsAny S.Store tx.old.conn.now tx.new.conn.now digest.old (map string_bytes lines.now))
         (Unstorable (rows_of S.Store tx.old.conn.now) (map string_bytes lines.now)) }
+    ensures digest { OnOk result
+        (digest.new ≡ digest_after digest.old (map string_bytes lines.now)) }
 {
     for line in lines {
-        put_line(tx, line.as_str())?;
+        put_line(tx, line.as_str(), digest)?;
     }
     Ok(())
 }
 
-/// Appends all of the lines, or none. There is at least one.
-pub(crate) fn put_all<S: Alter>(conn: &mut Connection<S>, more: &[String]) -> Result<(), Error>
+/// Appends all of the lines, or none. There is at least one. The digest, which is that of the lines
+/// so far, goes on after them.
+pub(crate) fn put_all<S: Alter>(
+    conn: &mut Connection<S>,
+    more: &[String],
+    digest: &mut LineDigest,
+) -> Result<(), Error>
     requires log { IsLog S.Store conn.old }
     requires some { 0 < length more.now }
+    requires digest { IsOpen S.Store conn.old → digest.old ≡ digest_of (lines_of S.Store conn.old) }
     ensures log { IsLog S.Store conn.new }
     ensures ok { IsOpen S.Store conn.new → OnOk result
         (lines_of S.Store conn.new ≡ lines_of S.Store conn.old ++ map string_bytes more.now) }
@@ -74,9 +112,11 @@ pub(crate) fn put_all<S: Alter>(conn: &mut Connection<S>, more: &[String]) -> Re
     ensures cause { HasCleanDisk (state S.Store conn.new) → IsOpen S.Store conn.old
         → IfErr result (λ e. IsCaused (state S.Store conn.old) (state S.Store conn.new)
         (Unstorable (rows_of S.Store conn.old) (map string_bytes more.now)) (fault_of e)) }
+    ensures digest { OnOk result
+        (digest.new ≡ digest_after digest.old (map string_bytes more.now)) }
 {
     let mut tx = conn.transaction();
-    put_lines(&mut tx, more)?;
+    put_lines(&mut tx, more, digest)?;
     tx.commit()
 }
 
@@ -89,24 +129,32 @@ fn clear<S: Alter>(tx: &mut Transaction<'_, S>) -> Result<usize, Error>
     tx.execute(CLEAR, &[])
 }
 
-/// Replaces all lines with these, or changes nothing.
-pub(crate) fn replace_all<S: Alter>(conn: &mut Connection<S>, lines: &[String]) -> Result<(), Error>
-    requires { IsLog S.Store conn.old }
+/// Replaces all lines with these, or changes nothing. The digest, which is that of no line, goes on
+/// after them.
+pub(crate) fn replace_all<S: Alter>(
+    conn: &mut Connection<S>,
+    lines: &[String],
+    digest: &mut LineDigest,
+) -> Result<(), Error>
+    requires log { IsLog S.Store conn.old }
+    requires digest { digest.old ≡ digest_of [] }
     ensures log { IsLog S.Store conn.new }
     ensures ok { IsOpen S.Store conn.new → OnOk result
         (lines_of S.Store conn.new ≡ map string_bytes lines.now) }
     ensures err { IsOpen S.Store conn.new → OnErr result
         (lines_of S.Store conn.new ≡ lines_of S.Store conn.old) }
     ensures stays { HasCleanDisk (state S.Store conn.new) → OnOk result (IsOpen S.Store conn.new) }
+    ensures shut { IsOpen S.Store conn.new → IsOpen S.Store conn.old }
     ensures survives { Survives (state S.Store conn.old) (state S.Store conn.new)
         (IsReplaced S.Store conn.old (map string_bytes lines.now)) }
     ensures cause { HasCleanDisk (state S.Store conn.new) → IsOpen S.Store conn.old
         → IfErr result (λ e. IsCaused (state S.Store conn.old) (state S.Store conn.new)
         (Unstorable [] (map string_bytes lines.now)) (fault_of e)) }
+    ensures digest { OnOk result (digest.new ≡ digest_of (map string_bytes lines.now)) }
 {
     let mut tx = conn.transaction();
     clear(&mut tx)?;
-    put_lines(&mut tx, lines)?;
+    put_lines(&mut tx, lines, digest)?;
     tx.commit()
 }
 
@@ -150,15 +198,17 @@ fn rows_after<S: Alter>(
 
 /// Reads the rows of the lines after a place. The transaction commits nothing: a commit returns an
 /// error if a fault has shut the connection, and a rollback does not.
-fn read_rows<S: Alter>(
+pub(crate) fn read_rows<S: Alter>(
     conn: &mut Connection<S>,
     place: Option<i64>,
     limit: i64,
 ) -> Result<Vec<Row>, Error>
-    requires { IsLog S.Store conn.old }
-    ensures log { IsLog S.Store conn.new }
+    requires { IsTabled S.Store conn.old }
+    ensures table { IsTabled S.Store conn.new }
+    ensures log { IsLog S.Store conn.old → IsLog S.Store conn.new }
     ensures committed { IsOpen S.Store conn.new
         → (state S.Store conn.new).committed ≡ (state S.Store conn.old).committed }
+    ensures shut { IsOpen S.Store conn.new → IsOpen S.Store conn.old }
     ensures stays { HasCleanDisk (state S.Store conn.new) → OnOk result (IsOpen S.Store conn.new) }
     ensures rows { HasCleanDisk (state S.Store conn.new)
         → IfOk result (λ rows. GivesRows S.Store conn.old place limit rows.items) }
@@ -173,7 +223,7 @@ fn read_rows<S: Alter>(
     Ok(rows)
 }
 
-fn number_of(row: &Row) -> Result<i64, Error>
+pub(crate) fn number_of(row: &Row) -> Result<i64, Error>
     ensures ok { IfOk result (λ number. column row.now 0 ≡ Int number) }
     ensures err { IsLineRow row.now
         → IfErr result (λ e. e ≡ Error.SqliteFailure ErrorCode.OutOfMemory) }
@@ -219,6 +269,7 @@ pub(crate) fn read_after<S: Alter>(
     ensures committed { IsOpen S.Store conn.new
         → (state S.Store conn.new).committed ≡ (state S.Store conn.old).committed }
     ensures stays { HasCleanDisk (state S.Store conn.new) → OnOk result (IsOpen S.Store conn.new) }
+    ensures shut { IsOpen S.Store conn.new → IsOpen S.Store conn.old }
     ensures lines { HasCleanDisk (state S.Store conn.new) → IfOk result (λ read.
         map string_bytes read.lines.items
         ≡ limited (as_count (Int limit)) (lines_left S.Store conn.old place)) }

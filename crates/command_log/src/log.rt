@@ -11,11 +11,10 @@ ghost use Rattle.std.specs.Prelude.{
   drop,
   IfOk,
   IfErr,
-  IsOk,
   OnOk,
   OnErr,
   IsTrue,
-  IsErrOf,
+  IsErrAnd,
 };
 ghost use Rattle.std.specs.String.{string_bytes};
 ghost use Rattle.sqlite.specs.Tree.{Trees};
@@ -40,8 +39,9 @@ ghost use Rattle.command_log.specs.Lines.{
   lines_left,
   rows_of,
 };
+ghost use Rattle.line_digests.specs.Digests.{digest_of};
 ghost use Rattle.command_log.specs.Table.{log_schema, IsOther};
-ghost use Rattle.command_log.specs.Faults.{IsCaused, IsCloseFault, Unreadable, Unstorable};
+ghost use Rattle.command_log.specs.Faults.{IsCaused, IsCloseFault, Unreadable, Unsealed, Unstorable};
 ghost use Rattle.sqlite.specs.WalReads.{AreClean};
 ghost use Rattle.sqlite.specs.View.{IsClean};
 ghost use Rattle.sqlite.specs.FileStore.{view};
@@ -58,6 +58,8 @@ use crate::batch::{Batch, LogPlace};
 use crate::fault::LogFault;
 use crate::lines::{NO_LIMIT, ReadLines, put_all, read_after, replace_all};
 use crate::table::{Holds, held_by, make};
+use crate::testing::test_all;
+use line_digests::LineDigest;
 use sqlite::{Connection, FileFrom, FileStore, MemStore, Start};
 use sqlite_disk::{Disk, Files};
 use sqlite_trees::store::Alter;
@@ -69,11 +71,15 @@ use std::marker::Model;
 pub struct CommandLog<S: Alter> {
     conn: Connection<S>,
     alloc: Global,
+    // Of the lines of an open log.
+    digest: LineDigest,
 }
 
 impl<S: Alter> Model for CommandLog<S> {
     ghost use Rattle.sqlite.specs.Held.{Held, held_code};
-    ghost use Rattle.command_log.specs.Lines.{IsLog};
+    ghost use Rattle.std.specs.Prelude.{◌≡◌};
+    ghost use Rattle.line_digests.specs.Digests.{digest_of};
+    ghost use Rattle.command_log.specs.Lines.{IsLog, IsOpen, lines_of};
 
     ghost Value = { Held S };
 
@@ -81,12 +87,17 @@ impl<S: Alter> Model for CommandLog<S> {
 
     ghost view = { λ l. l.conn };
 
-    ghost invariant = { λ l. IsLog S.Store l.conn };
+    ghost invariant = { λ l. IsLog S.Store l.conn
+        × (IsOpen S.Store l.conn → l.digest ≡ digest_of (lines_of S.Store l.conn)) };
 }
 
 impl<S: Alter + Drop> Drop for CommandLog<S> {
     fn drop(self) {
-        let CommandLog { conn: _, alloc: _ } = self;
+        let CommandLog {
+            conn: _,
+            alloc: _,
+            digest: _,
+        } = self;
     }
 }
 
@@ -97,7 +108,10 @@ impl CommandLog<MemStore> {
             ≡ []) }
     {
         let conn = Connection::open_in_memory(alloc)?;
-        CommandLog::over(alloc, conn)
+        match CommandLog::over(alloc, conn) {
+            Ok(log) => Ok(log),
+            Err((fault, _)) => Err(fault),
+        }
     }
 }
 
@@ -124,17 +138,25 @@ impl<S: Start> CommandLog<FileStore<FileFrom<S>>> {
             Ok(conn) => conn,
             Err((error, _)) => return Err(error.into()),
         };
-        CommandLog::over(rt.alloc(), conn)
+        match CommandLog::over(rt.alloc(), conn) {
+            Ok(log) => Ok(log),
+            Err((fault, _)) => Err(fault),
+        }
     }
 }
 
 impl<S: Alter + Drop> CommandLog<S> {
-    /// Takes the log that the database holds, or makes one in a database that holds nothing.
-    pub fn over(alloc: Global, mut conn: Connection<S>) -> Result<CommandLog<S>, LogFault>
+    /// Takes the log that the database holds, or makes one in a database that holds nothing. The
+    /// digest of each line is tested. A fault comes with the connection.
+    pub fn over(
+        alloc: Global,
+        mut conn: Connection<S>,
+    ) -> Result<CommandLog<S>, (LogFault, Connection<S>)>
         requires idle { IsIdle S.Store conn }
         requires orderly { IsOrderly S.Store conn }
 
-        // It has the lines of the table, or none if the database held nothing.
+        // It has the lines of the table, each of which has its digest, or none if the database held
+        // nothing.
         ensures lines { IfOk result (λ log. IsOpen S.Store log
             → HoldsLines (state S.Store conn).now (lines_of S.Store log)) }
 
@@ -142,22 +164,38 @@ impl<S: Alter + Drop> CommandLog<S> {
         ensures survives { IfOk result (λ log. Survives (state S.Store conn) (state S.Store log)
             (IsMade S.Store conn)) }
 
-        // A database with another schema is refused as that, and no other is. A log is never
-        // refused.
-        ensures other { IsErrOf result LogFault.NotALog ↔ IsOther (state S.Store conn).now.schema }
-        ensures taken { (state S.Store conn).now.schema ≡ log_schema → IsOk result }
+        // A database with another schema is refused as that, and no other is.
+        ensures other { IsErrAnd result (λ e. e.0 ≡ LogFault.NotALog)
+            ↔ IsOther (state S.Store conn).now.schema }
+
+        // A log is refused only if memory runs out, by a fault of the disk, or if a line doesn't
+        // have its digest.
+        ensures taken { IfErr result (λ e. (state S.Store conn).now.schema ≡ log_schema
+            → IsOpen S.Store conn → HasCleanDisk (state S.Store e.1)
+            → IsCaused (state S.Store conn) (state S.Store e.1) (Unsealed (rows_of S.Store conn)) e.0) }
 
         // The log of an open connection is open.
         ensures stays { IfOk result (λ log. HasCleanDisk (state S.Store log) → IsOpen S.Store conn
             → IsOpen S.Store log) }
     {
         match held_by(conn.schema()) {
-            Holds::Log => Ok(CommandLog { conn, alloc }),
-            Holds::Nothing => {
-                make(&mut conn)?;
-                Ok(CommandLog { conn, alloc })
-            }
-            Holds::Other => Err(LogFault::NotALog),
+            Holds::Log => match test_all(&mut conn) {
+                Ok(digest) => Ok(CommandLog {
+                    conn,
+                    alloc,
+                    digest,
+                }),
+                Err(fault) => Err((fault, conn)),
+            },
+            Holds::Nothing => match make(&mut conn) {
+                Ok(()) => Ok(CommandLog {
+                    conn,
+                    alloc,
+                    digest: LineDigest::new(),
+                }),
+                Err(error) => Err((error.into(), conn)),
+            },
+            Holds::Other => Err((LogFault::NotALog, conn)),
         }
     }
 }
@@ -173,7 +211,11 @@ impl<D: Disk + Drop> CommandLog<FileStore<D>> {
             × IsTrue (D.Disk.is_usable files.db)) }
         ensures cause { IfErr result (λ e. IsClean (view e.1) → IsCloseFault self e.1 e.0) }
     {
-        let CommandLog { conn, alloc: _ } = self;
+        let CommandLog {
+            conn,
+            alloc: _,
+            digest: _,
+        } = self;
         // Called for its clause alone: what an open connection knows of its tables.
         let _schema = conn.schema();
         match conn.close_files() {
@@ -192,7 +234,11 @@ impl<D: Disk + Drop> CommandLog<FileStore<D>> {
         // Of a log that is open these are its lines.
         ensures again { IsClean (view result) → IsFoundAgain self }
     {
-        let CommandLog { conn, alloc: _ } = self;
+        let CommandLog {
+            conn,
+            alloc: _,
+            digest: _,
+        } = self;
         // Called for its clause alone: what an open connection knows of its tables.
         let _schema = conn.schema();
         conn.into_store()
@@ -225,7 +271,9 @@ impl<S: Alter> CommandLog<S> {
         if lines.is_empty() {
             return Ok(());
         }
-        put_all(&mut self.conn, lines)?;
+        let mut digest = self.digest;
+        put_all(&mut self.conn, lines, &mut digest)?;
+        self.digest = digest;
         Ok(())
     }
 
@@ -246,7 +294,9 @@ impl<S: Alter> CommandLog<S> {
         ensures survives { Survives (state S.Store self.old) (state S.Store self.new)
             (IsReplaced S.Store self.old (map string_bytes lines.now)) }
     {
-        replace_all(&mut self.conn, lines)?;
+        let mut digest = LineDigest::new();
+        replace_all(&mut self.conn, lines, &mut digest)?;
+        self.digest = digest;
         Ok(())
     }
 
@@ -303,6 +353,14 @@ impl<S: Alter> CommandLog<S> {
             lines,
             next: LogPlace::after(next),
         })
+    }
+
+    /// The digest of the lines, by which two logs are compared. Of a log that is shut it says
+    /// nothing.
+    pub fn digest(&self) -> LineDigest
+        ensures { IsOpen S.Store self.now → result ≡ digest_of (lines_of S.Store self.now) }
+    {
+        self.digest
     }
 
     /// A law: while the log is open, a crash leaves its lines and nothing else. The call changes

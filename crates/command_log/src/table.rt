@@ -13,7 +13,8 @@ use sqlite_trees::store::Alter;
 use sqlite_value::keys::Collation;
 use sqlite_value::value::Value;
 
-const CREATE: &str = "CREATE TABLE command (number INTEGER PRIMARY KEY, line TEXT NOT NULL) STRICT";
+const CREATE: &str =
+    "CREATE TABLE command (number INTEGER PRIMARY KEY, line TEXT NOT NULL, digest BLOB NOT NULL) STRICT";
 
 /// What the objects of a database are to a log.
 #[derive(Clone, Copy, Debug, PartialEq, Eq)]
@@ -48,11 +49,14 @@ fn are_columns(columns: &[Column]) -> bool
     ensures { IsTrue result ↔ columns.now ≡ command_columns }
 {
     match columns {
-        [number, line] => {
+        [number, line, digest] => {
             if !is_plain(number, b"number", Kind::Integer, false) {
                 return false;
             }
-            is_plain(line, b"line", Kind::Text, true)
+            if !is_plain(line, b"line", Kind::Text, true) {
+                return false;
+            }
+            is_plain(digest, b"digest", Kind::Blob, true)
         }
         _ => false,
     }

@@ -1,9 +1,8 @@
-//! That calls succeed on a log in memory, which no clause can say, and what the database answers to
-//! a log of another.
+//! That calls succeed on a log in memory, which no clause can say.
 use crate::batch::LogPlace;
 use crate::fault::LogFault;
 use crate::log::CommandLog;
-use sqlite::{Connection, MemStore};
+use sqlite::MemStore;
 use std::alloc::Global;
 use std::test::Fail;
 

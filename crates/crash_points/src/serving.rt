@@ -100,7 +100,10 @@ fn open_log<D: Disk + Drop>(
     ensures { IfOk result (IsOpenedFrom (image_of D.Disk files)) }
 {
     match Connection::open_files(alloc, files, options) {
-        Ok(conn) => CommandLog::over(alloc, conn),
+        Ok(conn) => match CommandLog::over(alloc, conn) {
+            Ok(log) => Ok(log),
+            Err((fault, _conn)) => Err(fault),
+        },
         Err((error, _left)) => Err(error.into()),
     }
 }

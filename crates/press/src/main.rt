@@ -1,5 +1,5 @@
-//! The program `press`: the program `site`, with the plugins `snippets`, `blocks`, `captions` and
-//! `guard` beside the bundle.
+//! The program `press`: the program `site`, with the plugins `snippets`, `blocks`, `captions`,
+//! `guard` and `paragraphs` beside the bundle.
 #![tactic(auto)]
 
 use callback_store::Plugins;

@@ -2,13 +2,14 @@
 //! most often, for one program.
 #![tactic(auto)]
 
-ghost use Rattle.std.specs.Prelude.{◌≡◌, ◌++◌, ◌∷◌, [], IfOk, map};
+ghost use Rattle.std.specs.Prelude.{◌≡◌, ◌++◌, ◌∷◌, [], IfOk, OnOk, map};
 ghost use Rattle.callback_store.specs.Shape.{shape_of};
 ghost use Rattle.bundled_plugins.specs.Bundle.{bundle};
 ghost use Rattle.snippets.specs.Snippets.{numbers, snippets};
 ghost use Rattle.blocks.specs.Blocks.{blocks};
 ghost use Rattle.captions.specs.Captions.{captions};
 ghost use Rattle.guard.specs.Guard.{guard};
+ghost use Rattle.paragraphs.specs.Paragraphs.{paragraphs};
 
 use blocks::blocks_reply;
 use bundled_plugins::bundled_reply;
@@ -16,11 +17,12 @@ use callback_store::{Plugin, Stated};
 use captions::caption_reply;
 use guard::guard_reply;
 use hook_changes::{Call, CallbackId, Listed, Reply};
+use paragraphs::paragraphs_reply;
 use snippets::snippet_reply;
 use std::alloc::{AllocError, Global};
 
 /// A callback, by its number: of the bundle below 500, of `snippets` below 610, of `blocks` at 610,
-/// of `captions` below 620, and from there on of `guard`.
+/// of `captions` below 620, of `guard` below 630, and from there on of `paragraphs`.
 #[derive(Clone, Copy)]
 pub struct Callback {
     id: CallbackId,
@@ -48,8 +50,10 @@ impl Stated for Callback {
             blocks_reply(alloc, call)
         } else if number < 620 {
             caption_reply(alloc, self.id, call)
-        } else {
+        } else if number < 630 {
             guard_reply(alloc, self.id, call)
+        } else {
+            paragraphs_reply(alloc, call)
         }
     }
 }
@@ -68,20 +72,36 @@ fn callbacks(alloc: Global, numbers: &[u32]) -> Result<Listed<Callback>, AllocEr
     Ok(callbacks)
 }
 
-/// Makes the plugins: the bundle, and then `snippets`, `blocks`, `captions` and `guard`.
-pub fn listed(alloc: Global) -> Result<Listed<Plugin<Callback>>, AllocError>
-    ensures { IfOk result (λ plugins. map (shape_of ⟦<Callback as Stated>⟧.number) plugins
-        ≡ bundle ++ (snippets ∷ blocks ∷ captions ∷ guard ∷ [])) }
+/// Appends the plugins that a site brings from WordPress: `blocks`, `captions`, `guard` and
+/// `paragraphs`.
+fn push_of_wordpress(
+    alloc: Global,
+    plugins: &mut Listed<Plugin<Callback>>,
+) -> Result<(), AllocError>
+    ensures { OnOk result (map (shape_of ⟦<Callback as Stated>⟧.number) plugins.new
+        ≡ map (shape_of ⟦<Callback as Stated>⟧.number) plugins.old
+        ++ (blocks ∷ captions ∷ guard ∷ paragraphs ∷ [])) }
 {
-    let bundled = callbacks(alloc, &bundled_plugins::NUMBERS)?;
-    let mut plugins = bundled_plugins::bundle(alloc, bundled)?;
-    let of_snippets = callbacks(alloc, &snippets::numbers(alloc)?)?;
-    plugins.push(snippets::plugin(alloc, of_snippets)?)?;
     let of_blocks = callbacks(alloc, &[blocks::NUMBER])?;
     plugins.push(blocks::plugin(alloc, of_blocks)?)?;
     let of_captions = callbacks(alloc, &captions::NUMBERS)?;
     plugins.push(captions::plugin(alloc, of_captions)?)?;
     let of_guard = callbacks(alloc, &guard::NUMBERS)?;
     plugins.push(guard::plugin(alloc, of_guard)?)?;
+    let of_paragraphs = callbacks(alloc, &[paragraphs::NUMBER])?;
+    plugins.push(paragraphs::plugin(alloc, of_paragraphs)?)?;
+    Ok(())
+}
+
+/// Makes the plugins: the bundle, `snippets`, and those that a site brings from WordPress.
+pub fn listed(alloc: Global) -> Result<Listed<Plugin<Callback>>, AllocError>
+    ensures { IfOk result (λ plugins. map (shape_of ⟦<Callback as Stated>⟧.number) plugins
+        ≡ bundle ++ (snippets ∷ blocks ∷ captions ∷ guard ∷ paragraphs ∷ [])) }
+{
+    let bundled = callbacks(alloc, &bundled_plugins::NUMBERS)?;
+    let mut plugins = bundled_plugins::bundle(alloc, bundled)?;
+    let of_snippets = callbacks(alloc, &snippets::numbers(alloc)?)?;
+    plugins.push(snippets::plugin(alloc, of_snippets)?)?;
+    push_of_wordpress(alloc, &mut plugins)?;
     Ok(plugins)
 }

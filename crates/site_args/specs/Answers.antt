@@ -3,7 +3,7 @@ use Rattle.std.specs.Prelude.{◌≡◌, ◌≢◌, ◌≤◌, ◌⊎◌, List, 
 use Rattle.clap.specs.Words.{IsAmong, Kinds, Text}
 use Rattle.clap.specs.declared.error.kind.ErrorKind.{ErrorKind}
 use Rattle.clap.specs.declared.error.kind.ErrorKind.TheVariants.{DisplayHelp}
-use Rattle.site_args.specs.CommandLine.{calls_of, cache_of, trace_of, database_of, export_of, compact_of, reasons}
+use Rattle.site_args.specs.CommandLine.{calls_of, cache_of, trace_of, database_of, must_exist_of, export_of, compact_of, reasons}
 use Rattle.site_args.specs.declared.answer.Task.{Task}
 use Rattle.site_args.specs.declared.answer.Task.TheVariants.{Serve, ServeFile, Export, Compact}
 use Rattle.site_args.specs.declared.answer.Options.{Options}
@@ -12,28 +12,30 @@ use Rattle.site_args.specs.declared.answer.ArgsAnswer.TheVariants.{Run, Help, Ba
 
 -- 1 to 100,000 calls, and 1 to 4,096 texts
 abbrev pub HasRanges : ArgsAnswer → Type 0
-HasRanges (Run calls cache trace task) = ((1 ≤ calls) × (calls ≤ 100000)) × ((1 ≤ cache) × (cache ≤ 4096))
+HasRanges (Run calls cache trace must_exist task) = ((1 ≤ calls) × (calls ≤ 100000)) × ((1 ≤ cache) × (cache ≤ 4096))
 HasRanges _ = Unit {0}
 
 -- the numbers are those of the arguments, and so is whether invocations are told
 abbrev pub HasNumbers : List Text → ArgsAnswer → Type 0
-HasNumbers words (Run calls cache trace task) = (calls ≡ calls_of words) × (cache ≡ cache_of words) × (trace ≡ trace_of words)
+HasNumbers words (Run calls cache trace must_exist task) = (calls ≡ calls_of words) × (cache ≡ cache_of words) × (trace ≡ trace_of words)
+    × (must_exist ≡ must_exist_of words)
 HasNumbers words _ = Unit {0}
 
--- what a database, `--export` and `--compact` ask for together, which is nothing if they don't go together
-abbrev pub AsksFor : Option Text → (export compact : Bool) → Option Task → Type 0
-AsksFor None false false (Some Serve) = Unit {0}
-AsksFor (Some path) false false (Some (ServeFile file)) = string_bytes file ≡ path
-AsksFor (Some path) true false (Some (Export file)) = string_bytes file ≡ path
-AsksFor (Some path) false true (Some (Compact file)) = string_bytes file ≡ path
-AsksFor None true compact None = Unit {0}
-AsksFor None false true None = Unit {0}
-AsksFor (Some path) true true None = Unit {0}
-AsksFor _ _ _ _ = ⊥
+-- what a database, `--must-exist`, `--export` and `--compact` ask for together, which is nothing if they don't go together
+abbrev pub AsksFor : Option Text → (must_exist export compact : Bool) → Option Task → Type 0
+AsksFor None false false false (Some Serve) = Unit {0}
+AsksFor (Some path) must_exist false false (Some (ServeFile file)) = string_bytes file ≡ path
+AsksFor (Some path) must_exist true false (Some (Export file)) = string_bytes file ≡ path
+AsksFor (Some path) must_exist false true (Some (Compact file)) = string_bytes file ≡ path
+AsksFor None true export compact None = Unit {0}
+AsksFor None false true compact None = Unit {0}
+AsksFor None false false true None = Unit {0}
+AsksFor (Some path) must_exist true true None = Unit {0}
+AsksFor _ _ _ _ _ = ⊥
 
 -- what these arguments ask for
 abbrev pub IsTask : List Text → Option Task → Type 0
-IsTask words task = AsksFor (database_of words) (export_of words) (compact_of words) task
+IsTask words task = AsksFor (database_of words) (must_exist_of words) (export_of words) (compact_of words) task
 
 -- clap refuses the arguments, for another reason than that help is asked for
 abbrev pub IsRefusedFor : Kinds → Type 0
@@ -42,7 +44,7 @@ IsRefusedFor kinds = (kind : ErrorKind) × (kind ≢ DisplayHelp) × IsAmong kin
 -- clap accepts the arguments and the options go together, or it asks to show help, or one of the two refuses; on allocation failure
 -- nothing else is stated
 abbrev pub IsOutcome : List Text → ArgsAnswer → Type 0
-IsOutcome words (Run calls cache trace task) = (reasons words ≡ []) × IsTask words (Some task)
+IsOutcome words (Run calls cache trace must_exist task) = (reasons words ≡ []) × IsTask words (Some task)
 IsOutcome words (Help text) = IsAmong DisplayHelp (reasons words)
 IsOutcome words (Bad text) = IsRefusedFor (reasons words) ⊎ ((reasons words ≡ []) × IsTask words None)
 IsOutcome words OutOfMemory = Unit {0}
@@ -51,15 +53,15 @@ IsOutcome words OutOfMemory = Unit {0}
 
 -- what clap's error comes to
 abbrev pub IsRefusal : Kinds → ArgsAnswer → Type 0
-IsRefusal kinds (Run calls cache trace task) = ⊥
+IsRefusal kinds (Run calls cache trace must_exist task) = ⊥
 IsRefusal kinds (Help text) = IsAmong DisplayHelp kinds
 IsRefusal kinds (Bad text) = IsRefusedFor kinds
 IsRefusal kinds OutOfMemory = Unit {0}
 
 -- what options that were read come to
 abbrev pub IsReadFrom : Options → ArgsAnswer → Type 0
-IsReadFrom o (Run calls cache trace task) =
-    (calls ≡ o.calls) × (cache ≡ o.cache) × (trace ≡ o.trace) × AsksFor (option_map string_bytes o.database) o.export o.compact (Some task)
+IsReadFrom o (Run calls cache trace must_exist task) =
+    (calls ≡ o.calls) × (cache ≡ o.cache) × (trace ≡ o.trace) × (must_exist ≡ o.must_exist) × AsksFor (option_map string_bytes o.database) o.must_exist o.export o.compact (Some task)
 IsReadFrom o (Help text) = ⊥
-IsReadFrom o (Bad text) = AsksFor (option_map string_bytes o.database) o.export o.compact None
+IsReadFrom o (Bad text) = AsksFor (option_map string_bytes o.database) o.must_exist o.export o.compact None
 IsReadFrom o OutOfMemory = Unit {0}

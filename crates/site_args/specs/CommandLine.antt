@@ -28,13 +28,21 @@ abbrev pub serving_rules : App → App
 serving_rules app =
     with_rule (with_rule (with_rule app (number_rule (codes "calls") 100000)) (number_rule (codes "cache") 4096)) (flag_rule (codes "trace"))
 
--- and those of a site in a file
-abbrev pub database_rules : App → App
-database_rules app = with_rule (with_rule (with_rule app (path_rule (codes "database"))) (flag_rule (codes "export"))) (flag_rule (codes "compact"))
+-- those of a site in a file
+abbrev pub file_rules : App → App
+file_rules app = with_rule (with_rule app (path_rule (codes "database"))) (flag_rule (codes "must-exist"))
 
--- `site [--calls N] [--cache N] [--trace] [--database FILE] [--export] [--compact]`, of the command-line arguments; clap adds `--help`
+-- and those for its short history
+abbrev pub history_rules : App → App
+history_rules app = with_rule (with_rule app (flag_rule (codes "export"))) (flag_rule (codes "compact"))
+
+-- `site`, of the command-line arguments; clap adds `--help`
+abbrev pub bare_app : App
+bare_app = on_top (λ s. record s { no_binary_name = true }) (new_app (codes "site"))
+
+-- `site [--calls N] [--cache N] [--trace] [--database FILE] [--must-exist] [--export] [--compact]`
 unfoldable pub site_app : App
-site_app = database_rules (serving_rules (on_top (λ s. record s { no_binary_name = true }) (new_app (codes "site"))))
+site_app = history_rules (file_rules (serving_rules bare_app))
 
 -- why clap refuses the arguments, by the first of its steps that does, and nothing if it accepts them
 abbrev pub reasons : List Text → Kinds
@@ -65,6 +73,10 @@ trace_of words = is_given (first_of (codes "trace") (matches_of site_app words))
 -- the file that the site is kept in, if the arguments name one
 abbrev pub database_of : List Text → Option Text
 database_of words = first_of (codes "database") (matches_of site_app words)
+
+-- whether that file has to be there
+abbrev pub must_exist_of : List Text → Bool
+must_exist_of words = is_given (first_of (codes "must-exist") (matches_of site_app words))
 
 -- whether the short history is to be printed
 abbrev pub export_of : List Text → Bool

@@ -6,6 +6,7 @@ ghost use Rattle.site_args.specs.CommandLine.{
   cache_of,
   trace_of,
   database_of,
+  must_exist_of,
   export_of,
   compact_of,
   is_given,
@@ -44,6 +45,8 @@ pub enum ArgsAnswer {
         cache: u32,
         /// Whether each invocation is told on standard error: not if no argument says so.
         trace: bool,
+        /// Whether the file has to be there already: not if no argument says so.
+        must_exist: bool,
         /// What is done, and with which file.
         task: Task,
     },
@@ -57,7 +60,8 @@ pub enum ArgsAnswer {
 
 // What is said of options that don't go together.
 const APART: &str =
-    "error: '--export' and '--compact' each need '--database <FILE>', and exclude one another\n\n\
+    "error: '--must-exist', '--export' and '--compact' each need '--database <FILE>', and the last \
+    two exclude one another\n\n\
     For more information, try '--help'.\n";
 
 /// What is read of the options, before it is known whether they go together.
@@ -66,14 +70,16 @@ struct Options {
     cache: u32,
     trace: bool,
     database: Option<String>,
+    must_exist: bool,
     export: bool,
     compact: bool,
 }
 
 /// Parses the command-line arguments: `--calls N`, `--cache N` (also as `--calls=N`), `--trace`,
-/// `--database FILE`, `--export`, `--compact` and `--help`. An option given twice, a number out of
-/// its range, any other argument, and `--export` or `--compact` without a file or beside one
-/// another are [`ArgsAnswer::Bad`]. The last clause says in clap's terms which answer it is.
+/// `--database FILE`, `--must-exist`, `--export`, `--compact` and `--help`. An option given twice, a
+/// number out of its range, any other argument, `--must-exist`, `--export` or `--compact` without a
+/// file, and the last two beside one another are [`ArgsAnswer::Bad`]. The last clause says in clap's
+/// terms which answer it is.
 pub fn read_args(alloc: Global, words: &[String]) -> ArgsAnswer
     ensures ranges { HasRanges result }
     ensures numbers { HasNumbers (map string_bytes words.now) result }
@@ -97,14 +103,16 @@ fn answer(alloc: Global, options: Options) -> ArgsAnswer
         cache,
         trace,
         database,
+        must_exist,
         export,
         compact,
     } = options;
-    match task_for(database, export, compact) {
+    match task_for(database, must_exist, export, compact) {
         Some(task) => ArgsAnswer::Run {
             calls,
             cache,
             trace,
+            must_exist,
             task,
         },
         None => match String::from_str(alloc, APART) {
@@ -115,11 +123,11 @@ fn answer(alloc: Global, options: Options) -> ArgsAnswer
 }
 
 /// Returns what the options on a database ask for, or `None` if they don't go together.
-fn task_for(database: Option<String>, export: bool, compact: bool) -> Option<Task>
-    ensures { AsksFor (option_map string_bytes database) export compact result }
+fn task_for(database: Option<String>, must_exist: bool, export: bool, compact: bool) -> Option<Task>
+    ensures { AsksFor (option_map string_bytes database) must_exist export compact result }
 {
     match database {
-        None if export || compact => None,
+        None if must_exist || export || compact => None,
         None => Some(Task::Serve),
         Some(_) if export && compact => None,
         Some(path) if export => Some(Task::Export(path)),
@@ -137,6 +145,8 @@ fn read_options(alloc: Global, words: &[String]) -> Result<Options, Error>
     ensures trace { IfOk result (λ o. o.trace ≡ trace_of (map string_bytes words.now)) }
     ensures database { IfOk result (λ o. option_map string_bytes o.database
         ≡ database_of (map string_bytes words.now)) }
+    ensures must_exist { IfOk result
+        (λ o. o.must_exist ≡ must_exist_of (map string_bytes words.now)) }
     ensures export { IfOk result (λ o. o.export ≡ export_of (map string_bytes words.now)) }
     ensures compact { IfOk result (λ o. o.compact ≡ compact_of (map string_bytes words.now)) }
     ensures kinds { FailsBy (reasons (map string_bytes words.now)) result }
@@ -146,6 +156,7 @@ fn read_options(alloc: Global, words: &[String]) -> Result<Options, Error>
     let calls = matches.get_one::<u32>("calls").unwrap_or(10_000);
     let cache = matches.get_one::<u32>("cache").unwrap_or(64);
     let trace = is_given(matches.get_str("trace"));
+    let must_exist = is_given(matches.get_str("must-exist"));
     let export = is_given(matches.get_str("export"));
     let compact = is_given(matches.get_str("compact"));
     let database = copy_of(alloc, matches.get_str("database"))?;
@@ -154,6 +165,7 @@ fn read_options(alloc: Global, words: &[String]) -> Result<Options, Error>
         cache,
         trace,
         database,
+        must_exist,
         export,
         compact,
     })

@@ -1,7 +1,16 @@
 //! The options, as `clap` knows them.
 ghost use Rattle.std.specs.Prelude.{◌≡◌, IfOk, codes, false};
 ghost use Rattle.clap.specs.Words.{app_of, rule_of};
-ghost use Rattle.site_args.specs.CommandLine.{number_rule, flag_rule, path_rule, site_app};
+ghost use Rattle.site_args.specs.CommandLine.{
+  number_rule,
+  flag_rule,
+  path_rule,
+  bare_app,
+  serving_rules,
+  file_rules,
+  history_rules,
+  site_app,
+};
 
 use clap::{Arg, ArgAction, Command, value_parser};
 use std::alloc::{AllocError, Global};
@@ -55,6 +64,17 @@ fn database_option<'a>(alloc: Global) -> Arg<'a>
         .action(ArgAction::Set)
 }
 
+/// Makes the flag `--must-exist`.
+fn must_exist_flag<'a>(alloc: Global) -> Arg<'a>
+    ensures rule { rule_of result ≡ flag_rule (codes "must-exist") }
+    ensures local { result.global ≡ false }
+{
+    Arg::new(alloc, "must-exist")
+        .long("must-exist")
+        .help("Refuses a database that is not there or is empty, in place of making one")
+        .action(ArgAction::SetTrue)
+}
+
 /// Makes the flag `--export`.
 fn export_flag<'a>(alloc: Global) -> Arg<'a>
     ensures rule { rule_of result ≡ flag_rule (codes "export") }
@@ -77,19 +97,48 @@ fn compact_flag<'a>(alloc: Global) -> Arg<'a>
         .action(ArgAction::SetTrue)
 }
 
-/// Makes the whole command line, for arguments that begin after the program's name.
-pub(crate) fn site_command<'a>(alloc: Global) -> Result<Command<'a>, AllocError>
-    ensures { IfOk result (λ command. app_of command ≡ site_app) }
+/// Makes a command line with no options, for arguments that begin after the program's name.
+fn bare_command<'a>(alloc: Global) -> Command<'a>
+    ensures { app_of result ≡ bare_app }
 {
     Command::new(alloc, "site")
         .about(
             "Serves a site: one command a line on standard input, one reply each on standard output",
         )
         .no_binary_name(true)
+}
+
+/// Adds the options of a site in memory.
+fn with_serving_options<'a>(alloc: Global, command: Command<'a>) -> Result<Command<'a>, AllocError>
+    ensures { IfOk result (λ more. app_of more ≡ serving_rules (app_of command.entry)) }
+{
+    command
         .arg(calls_option(alloc))?
         .arg(cache_option(alloc))?
-        .arg(trace_flag(alloc))?
+        .arg(trace_flag(alloc))
+}
+
+/// Adds the options of a file.
+fn with_file_options<'a>(alloc: Global, command: Command<'a>) -> Result<Command<'a>, AllocError>
+    ensures { IfOk result (λ more. app_of more ≡ file_rules (app_of command.entry)) }
+{
+    command
         .arg(database_option(alloc))?
-        .arg(export_flag(alloc))?
-        .arg(compact_flag(alloc))
+        .arg(must_exist_flag(alloc))
+}
+
+/// Adds the options for the short history of a file.
+fn with_history_options<'a>(alloc: Global, command: Command<'a>) -> Result<Command<'a>, AllocError>
+    ensures { IfOk result (λ more. app_of more ≡ history_rules (app_of command.entry)) }
+{
+    command.arg(export_flag(alloc))?.arg(compact_flag(alloc))
+}
+
+/// Makes the whole command line, for arguments that begin after the program's name.
+pub(crate) fn site_command<'a>(alloc: Global) -> Result<Command<'a>, AllocError>
+    ensures { IfOk result (λ command. app_of command ≡ site_app) }
+{
+    let serving = with_serving_options(alloc, bare_command(alloc))?;
+    let filed = with_file_options(alloc, serving)?;
+    with_history_options(alloc, filed)
 }

@@ -1,6 +1,7 @@
 //! What the command-line arguments ask for.
 ghost use Rattle.std.specs.Prelude.{◌≤◌};
 
+use crate::files::refused_file;
 use crate::serving::{serve, serve_file};
 use callback_store::{Plugins, Stated};
 use site_args::{ArgsAnswer, Task, read_args};
@@ -27,8 +28,12 @@ pub fn run<S: Stated>(rt: &HostRuntime, plugins: &Plugins<S>) -> ExitCode {
             calls,
             cache,
             trace,
+            must_exist,
             task,
-        } => with_site(rt, plugins, calls, cache, trace, &task),
+        } => match refused_file(rt, &task, must_exist) {
+            Some(status) => status,
+            None => with_site(rt, plugins, calls, cache, trace, &task),
+        },
         ArgsAnswer::Help(text) => {
             let _ = print!(rt; "{text}");
             ExitCode::SUCCESS

@@ -5,6 +5,7 @@
 #![tactic(auto)]
 
 mod arguments;
+mod files;
 mod serving;
 
 pub use arguments::run;

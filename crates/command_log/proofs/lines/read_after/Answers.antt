@@ -4,7 +4,7 @@ use Rattle.std.proofs.lemmas.Result.{IfOk-weaker, IfErr-weaker}
 use Rattle.sqlite.specs.Held.{state}
 use Rattle.command_log.specs.Lines.{GivesRows, lines_left}
 use Rattle.command_log.specs.Faults.{Nothing, Unreadable, fault_of}
-use Rattle.command_log.proofs.States.{on_error}
+use Rattle.command_log.proofs.States.{on_error, tabled}
 use Rattle.command_log.proofs.QuerySteps.{lines_read, lines_unread, rows_are_lines, read_failed}
 use Rattle.command_log.proofs.Causes.{caused_longer}
 use Rattle.command_log.proofs.lines.read_after.Goals as goal
@@ -14,7 +14,7 @@ returns-clause-lines g c clean =
     let old = c.args.conn.now in
     let gives = subst (λ k. GivesRows g.S.Store old c.args.place k c.in_ok-rows.rows.items) (to_z-of_z w64 c.args.limit c.ranges.limit)
     (c.in_ok-rows.ensures.rows clean) in
-    IfOk-weaker c.lines_from.result _ _ (λ read are. are ∙ lines_read g.S.Store old c.requires c.args.place c.args.limit c.in_ok-rows.rows.items gives)
+    IfOk-weaker c.lines_from.result _ _ (λ read are. are ∙ lines_read g.S.Store old (tabled g.S.Store old c.requires) c.args.place c.args.limit c.in_ok-rows.rows.items gives)
     (rw c.deref.ensures.value at c.lines_from.ensures.lines)
 
 pub returns-clause-left : goal.returns-clause-left
@@ -23,7 +23,7 @@ returns-clause-left g c clean =
     let gives = subst (λ k. GivesRows g.S.Store old c.args.place k c.in_ok-rows.rows.items) (to_z-of_z w64 c.args.limit c.ranges.limit)
     (c.in_ok-rows.ensures.rows clean) in
     IfOk-weaker c.lines_from.result _ _
-    (λ read next n is. ap (lines_left g.S.Store old) next ∙ lines_unread g.S.Store old c.requires c.args.place c.args.limit c.in_ok-rows.rows.items gives n is)
+    (λ read next n is. ap (lines_left g.S.Store old) next ∙ lines_unread g.S.Store old (tabled g.S.Store old c.requires) c.args.place c.args.limit c.in_ok-rows.rows.items gives n is)
     (rw c.deref.ensures.value at c.lines_from.ensures.next)
 
 pub returns-in_err-rows-clause-cause : goal.returns-in_err-rows-clause-cause
@@ -41,6 +41,6 @@ returns-clause-cause g c clean up =
     let end = c.read_rows.new.conn in
     let gives = subst (λ k. GivesRows g.S.Store old c.args.place k c.in_ok-rows.rows.items) (to_z-of_z w64 c.args.limit c.ranges.limit)
     (c.in_ok-rows.ensures.rows clean) in
-    let each = rows_are_lines g.S.Store old c.requires c.args.place c.args.limit c.in_ok-rows.rows.items gives c.schema-schema.ensures.live in
-    IfErr-weaker c.lines_from.result _ _ (λ e bad. read_failed g.S.Store old c.requires c.args.place c.args.limit c.in_ok-rows.rows.items gives end e bad)
+    let each = rows_are_lines g.S.Store old (tabled g.S.Store old c.requires) c.args.place c.args.limit c.in_ok-rows.rows.items gives c.schema-schema.ensures.live in
+    IfErr-weaker c.lines_from.result _ _ (λ e bad. read_failed g.S.Store old (tabled g.S.Store old c.requires) c.args.place c.args.limit c.in_ok-rows.rows.items gives end e bad)
     ((rw c.deref.ensures.value at c.lines_from.ensures.err) each)

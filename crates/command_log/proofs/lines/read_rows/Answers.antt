@@ -4,7 +4,7 @@ use Rattle.sqlite.specs.declared.error.Error.{Error}
 use Rattle.sqlite.specs.Held.{state}
 use Rattle.sqlite.specs.State.{HasCleanDisk}
 use Rattle.command_log.specs.Faults.{Nothing}
-use Rattle.command_log.proofs.States.{kept_log, on_error}
+use Rattle.command_log.proofs.States.{kept_log, kept_table, on_error}
 use Rattle.command_log.proofs.Ending.{IsDropped, IsCommit, KeepsLog, begins, undone, read, shown_rows}
 use Rattle.command_log.proofs.lines.read_rows.Goals as goal
 
@@ -21,11 +21,13 @@ returns-in_err-rows g c =
     record { ended = c.drop-tx.ensures.ended; undone = c.drop-tx.ensures.undone; survives = c.drop-tx.ensures.survives } in
     let same : end ≡ c.conn-1.given.0 = search rules in
     let it = subst (λ h. KeepsLog g.S.Store old h Nothing r) same
-    (undone g.S.Store g.met.S.Store.shut_if_dirty old end c.requires c.transaction-tx.result last c.transaction-tx.ensures.begun c.in_err-rows.field-0.0
+    (undone g.S.Store g.met.S.Store.shut_if_dirty old end c.requires.idle c.transaction-tx.result last c.transaction-tx.ensures.begun c.in_err-rows.field-0.0
     c.in_err-rows.ensures drop r c.from_residual.ensures.1 (λ f h. h)) in
     record {
-      log = kept_log g.S.Store old _ c.requires it.kept;
+      table = kept_table g.S.Store old _ c.requires it.kept;
+      log = λ log. kept_log g.S.Store old _ log it.kept;
       committed = it.kept.committed;
+      shut = it.kept.was_open;
       stays = it.stays;
       rows = search rules;
       survives = it.survives;
@@ -43,11 +45,13 @@ returns-in_err-commit g c =
     let commit : IsCommit g.S.Store last.conn.now end r = record { ended = done.ended; ok = done.ok; err = done.err; survives = done.survives } in
     let same : end ≡ c.conn-2-1.given.0 = search rules in
     let it = subst (λ h. KeepsLog g.S.Store old h Nothing r) same
-    (read g.S.Store g.met.S.Store.shut_if_dirty old end c.requires c.transaction-tx.result last c.transaction-tx.ensures.begun c.in_ok-rows.rows
+    (read g.S.Store g.met.S.Store.shut_if_dirty old end c.requires.idle c.transaction-tx.result last c.transaction-tx.ensures.begun c.in_ok-rows.rows
     c.in_ok-rows.ensures (λ reads. reads.same) g.met.S.Store.stays r commit) in
     record {
-      log = kept_log g.S.Store old _ c.requires it.kept;
+      table = kept_table g.S.Store old _ c.requires it.kept;
+      log = λ log. kept_log g.S.Store old _ log it.kept;
       committed = it.kept.committed;
+      shut = it.kept.was_open;
       stays = search rules;
       rows = search rules;
       survives = it.survives;
@@ -64,11 +68,13 @@ returns g c =
     let commit : IsCommit g.S.Store last.conn.now end r = record { ended = done.ended; ok = done.ok; err = done.err; survives = done.survives } in
     let same : end ≡ c.conn-2-1.given.0 = search rules in
     let it = subst (λ h. KeepsLog g.S.Store old h Nothing r) same
-    (read g.S.Store g.met.S.Store.shut_if_dirty old end c.requires c.transaction-tx.result last c.transaction-tx.ensures.begun c.in_ok-rows.rows
+    (read g.S.Store g.met.S.Store.shut_if_dirty old end c.requires.idle c.transaction-tx.result last c.transaction-tx.ensures.begun c.in_ok-rows.rows
     c.in_ok-rows.ensures (λ reads. reads.same) g.met.S.Store.stays r commit) in
     record {
-      log = kept_log g.S.Store old _ c.requires it.kept;
+      table = kept_table g.S.Store old _ c.requires it.kept;
+      log = λ log. kept_log g.S.Store old _ log it.kept;
       committed = it.kept.committed;
+      shut = it.kept.was_open;
       stays = it.stays;
       rows = λ clean.
           let back : HasCleanDisk (state g.S.Store end) = subst (λ h. HasCleanDisk (state g.S.Store h)) (sym same) clean in

@@ -1,14 +1,14 @@
-use Rattle.std.proofs.Common.{◌≡◌, [], Ok, map, rules, subst}
+use Rattle.std.proofs.Common.{◌≡◌, [], ℕ, List, Ok, map, rules, subst}
 use Rattle.std.specs.String.{string_bytes}
-use Rattle.command_log.specs.Lines.{rows_of}
+use Rattle.command_log.specs.Lines.{PutsAny, rows_of}
 use Rattle.command_log.specs.Faults.{Nothing, Unstorable}
 use Rattle.command_log.specs.Inside.{InLog}
-use Rattle.command_log.proofs.States.{clean_of, no_rows}
+use Rattle.command_log.proofs.States.{clean_of, no_rows, tabled}
 use Rattle.command_log.proofs.Ending.{Fills, IsDropped, IsCommit, MakesLines, begins, then_ok, then_err, fills, makes_none, committed}
 use Rattle.command_log.proofs.lines.replace_all.Goals as goal
 
 pub clear-requires : goal.clear-requires
-clear-requires g c = begins g.S.Store c.args.conn.now c.transaction-tx.result c.requires c.transaction-tx.ensures.begun
+clear-requires g c = begins g.S.Store c.args.conn.now c.transaction-tx.result (tabled g.S.Store c.args.conn.now c.requires.log) c.transaction-tx.ensures.begun
 
 pub put_lines-requires : goal.put_lines-requires
 put_lines-requires g c = record {
@@ -27,9 +27,9 @@ returns-in_err-clear g c =
     record { ended = c.drop-tx.ensures.ended; undone = c.drop-tx.ensures.undone; survives = c.drop-tx.ensures.survives } in
     let same : end ≡ c.conn-1.given.0 = search rules in
     let it = subst (λ h. MakesLines g.S.Store old h lines (Unstorable [] lines) r) same
-    (makes_none g.S.Store g.met.S.Store.shut_if_dirty old end c.requires c.transaction-tx.result mid c.transaction-tx.ensures.begun lines
+    (makes_none g.S.Store g.met.S.Store.shut_if_dirty old end c.requires.log.idle c.transaction-tx.result mid c.transaction-tx.ensures.begun c.requires.log lines
     c.in_err-clear.field-0.0 c.in_err-clear.ensures drop r c.from_residual.ensures.1 (λ f h. absurd h)) in
-    record { log = it.log; ok = it.ok; err = it.err; stays = it.stays; survives = it.survives; cause = it.cause }
+    record { log = it.log; ok = it.ok; err = it.err; stays = it.stays; shut = it.shut; survives = it.survives; cause = it.cause; digest = search rules }
 
 pub returns-in_err-put_lines : goal.returns-in_err-put_lines
 returns-in_err-put_lines g c =
@@ -43,13 +43,13 @@ returns-in_err-put_lines g c =
     let r = c.from_residual-in_err-put_lines.result in
     let dropped = c.drop-tx-in_err-put_lines.ensures in
     let drop : IsDropped g.S.Store last.conn.now end = record { ended = dropped.ended; undone = dropped.undone; survives = dropped.survives } in
-    let both = then_err g.S.Store tx mid last c.in_ok-clear.field-0 e c.in_ok-clear.ensures c.in_err-put_lines.ensures (λ up made. made.is_open)
+    let both = then_err g.S.Store tx mid last c.in_ok-clear.field-0 e c.in_ok-clear.ensures c.in_err-put_lines.ensures.puts (λ up made. made.is_open)
     (λ made f. subst (λ rows. Unstorable rows lines f) (no_rows (rows_of g.S.Store mid.conn.now) made.lines)) in
     let same : end ≡ c.conn-in_err-put_lines-1.given.0 = search rules in
     let it = subst (λ h. MakesLines g.S.Store old h lines (Unstorable [] lines) r) same
-    (makes_none g.S.Store g.met.S.Store.shut_if_dirty old end c.requires tx last c.transaction-tx.ensures.begun lines e both drop r
+    (makes_none g.S.Store g.met.S.Store.shut_if_dirty old end c.requires.log.idle tx last c.transaction-tx.ensures.begun c.requires.log lines e both drop r
     c.from_residual-in_err-put_lines.ensures.1 (λ f h. h)) in
-    record { log = it.log; ok = it.ok; err = it.err; stays = it.stays; survives = it.survives; cause = it.cause }
+    record { log = it.log; ok = it.ok; err = it.err; stays = it.stays; shut = it.shut; survives = it.survives; cause = it.cause; digest = search rules }
 
 pub returns : goal.returns
 returns g c =
@@ -63,10 +63,11 @@ returns g c =
     let commit : IsCommit g.S.Store last.conn.now end r =
     record { ended = c.commit.ensures.ended; ok = c.commit.ensures.ok; err = c.commit.ensures.err; survives = c.commit.ensures.survives } in
     let both : InLog g.S.Store tx last (Ok (tt {0})) (λ _. Fills g.S.Store tx.conn.now last.conn.now lines) Nothing =
-    then_ok g.S.Store tx mid last c.in_ok-clear.field-0 c.in_ok-put_lines.field-0 (tt {0}) c.in_ok-clear.ensures c.in_ok-put_lines.ensures
-    (fills g.S.Store tx.conn.now mid.conn.now last.conn.now lines) in
+    then_ok g.S.Store tx mid last c.in_ok-clear.field-0 c.in_ok-put_lines.field-0 (tt {0}) c.in_ok-clear.ensures c.in_ok-put_lines.ensures.puts
+    (λ made puts. fills g.S.Store tx.conn.now mid.conn.now last.conn.now lines made
+    (subst (λ (d : List ℕ). PutsAny g.S.Store mid.conn.now last.conn.now d lines) c.requires.digest puts)) in
     let same : end ≡ c.conn-2-1.given.0 = search rules in
     let it = subst (λ h. MakesLines g.S.Store old h lines (Unstorable [] lines) r) same
-    (committed g.S.Store g.met.S.Store.shut_if_dirty old end c.requires tx last c.transaction-tx.ensures.begun lines (tt {0}) both
+    (committed g.S.Store g.met.S.Store.shut_if_dirty old end c.requires.log.idle tx last c.transaction-tx.ensures.begun c.requires.log lines (tt {0}) both
     (subst (λ h. Fills g.S.Store h last.conn.now lines) c.transaction-tx.ensures.begun) r commit) in
-    record { log = it.log; ok = it.ok; err = it.err; stays = it.stays; survives = it.survives; cause = it.cause }
+    record { log = it.log; ok = it.ok; err = it.err; stays = it.stays; shut = it.shut; survives = it.survives; cause = it.cause; digest = search rules }

@@ -47,14 +47,19 @@ pub returns-clause-trace : goal.returns-clause-trace
 returns-clause-trace c = c.is_given-trace.ensures
     ∙ ap is_given (c.get_str.ensures ∙ first_value-rows (found_of c.in_ok-matches.matches) (codes "trace") ∙ ap (first_of (codes "trace")) (rows_are c))
 
+pub returns-clause-must_exist : goal.returns-clause-must_exist
+returns-clause-must_exist c = c.is_given-must_exist.ensures
+    ∙ ap is_given (c.get_str-2.ensures ∙ first_value-rows (found_of c.in_ok-matches.matches) (codes "must-exist")
+    ∙ ap (first_of (codes "must-exist")) (rows_are c))
+
 pub returns-clause-export : goal.returns-clause-export
 returns-clause-export c = c.is_given-export.ensures
-    ∙ ap is_given (c.get_str-2.ensures ∙ first_value-rows (found_of c.in_ok-matches.matches) (codes "export") ∙ ap (first_of (codes "export")) (rows_are c))
+    ∙ ap is_given (c.get_str-3.ensures ∙ first_value-rows (found_of c.in_ok-matches.matches) (codes "export") ∙ ap (first_of (codes "export")) (rows_are c))
 
 pub returns-clause-compact : goal.returns-clause-compact
 returns-clause-compact c = c.is_given-compact.ensures
-    ∙ ap is_given (c.get_str-3.ensures ∙ first_value-rows (found_of c.in_ok-matches.matches) (codes "compact") ∙ ap (first_of (codes "compact")) (rows_are c))
+    ∙ ap is_given (c.get_str-4.ensures ∙ first_value-rows (found_of c.in_ok-matches.matches) (codes "compact") ∙ ap (first_of (codes "compact")) (rows_are c))
 
 pub returns-clause-database : goal.returns-clause-database
 returns-clause-database c = c.in_ok-database.ensures
-    ∙ (c.get_str-4.ensures ∙ first_value-rows (found_of c.in_ok-matches.matches) (codes "database") ∙ ap (first_of (codes "database")) (rows_are c))
+    ∙ (c.get_str-5.ensures ∙ first_value-rows (found_of c.in_ok-matches.matches) (codes "database") ∙ ap (first_of (codes "database")) (rows_are c))

@@ -7,7 +7,7 @@ use Rattle.command_log.proofs.log.CommandLog+FileStore+D.close.Goals as goal
 pub returns-in-Ok-clause-alone : goal.returns-in-Ok-clause-alone
 returns-in-Ok-clause-alone g c clean =
     subst (λ h. IsKeptAlone h c.in-Ok.files) c.self.view_is
-    (kept_alone c.self.inside.conn c.self.invariant (λ up. (c.schema-schema.ensures.live up).1) c.in-Ok.files (c.in-Ok.ensures.copied clean))
+    (kept_alone c.self.inside.conn c.self.invariant.0 (λ up. (c.schema-schema.ensures.live up).1) c.in-Ok.files (c.in-Ok.ensures.copied clean))
 
 pub returns-in-Err-clause-cause : goal.returns-in-Err-clause-cause
 returns-in-Err-clause-cause g c clean =

@@ -22,4 +22,4 @@ returns-clause-again g c clean =
     let h = c.self.inside.conn in
     let numbered = subst IsTrue c.into_store.ensures.undone.numbered (c.into_store.ensures.numbered clean) in
     subst IsFoundAgain c.self.view_is
-    (found_again h c.self.invariant (λ up. (c.schema-schema.ensures.live up).1) numbered (λ db up may. settled_at h.store g.met.D.Disk.seen_may_stay db up may))
+    (found_again h c.self.invariant.0 (λ up. (c.schema-schema.ensures.live up).1) numbered (λ db up may. settled_at h.store g.met.D.Disk.seen_may_stay db up may))

@@ -9,7 +9,7 @@ use Rattle.command_log.proofs.log.CommandLog.law_left_by_a_crash.Goals as goal
 pub returns-clause-keeps : goal.returns-clause-keeps
 returns-clause-keeps g c =
     let h = c.self.inside.conn in
-    let log = c.self.invariant in
+    let log = c.self.invariant.0 in
     subst (λ h. IsOpen g.S.Store h → (db : Trees) → MayLeave g.S.Store h db → KeepsLines (lines_of g.S.Store h) db) c.self.view_is
     (λ up db may.
     kept_by g.S.Store (state g.S.Store h).committed (lines_of g.S.Store h) (subst HoldsLog (sym (log.idle.settled up)) (log.holds up))
@@ -19,7 +19,7 @@ returns-clause-keeps g c =
 pub returns-clause-holds : goal.returns-clause-holds
 returns-clause-holds g c =
     let h = c.self.inside.conn in
-    let log = c.self.invariant in
+    let log = c.self.invariant.0 in
     subst (λ h. IsOpen g.S.Store h → (lines : List (List ℕ)) → MayHold g.S.Store h lines → lines_of g.S.Store h ≡ lines) c.self.view_is
     (λ up lines may.
     keeps_only may.1.0 (lines_of g.S.Store h) lines

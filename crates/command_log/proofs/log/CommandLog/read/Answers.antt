@@ -1,7 +1,9 @@
-use Rattle.std.proofs.Common.{subst}
+use Rattle.std.proofs.Common.{ap, sym, subst, ◌∙◌}
+use Rattle.sqlite.specs.Effect.{Database}
+use Rattle.line_digests.specs.Digests.{digest_of}
 use Rattle.sqlite.specs.Held.{state}
 use Rattle.sqlite.specs.State.{HasCleanDisk}
-use Rattle.command_log.specs.Lines.{IsOpen, lines_of}
+use Rattle.command_log.specs.Lines.{IsOpen, lines_in, lines_of}
 use Rattle.command_log.specs.Faults.{IsCaused, Unreadable, fault_of}
 use Rattle.command_log.proofs.States.{on_error}
 use Rattle.command_log.proofs.log.CommandLog.read.Goals as goal
@@ -13,3 +15,13 @@ returns-in_err-lines-clause-cause g c clean up =
     (Unreadable (lines_of g.S.Store h)) (fault_of c.in_err-lines.field-0.0))
     c.self.view_is c.in_err-lines.ensures.cause in
     on_error _ (fault_of c.in_err-lines.field-0.0) (why clean up) c.from_residual.result c.from_residual.ensures.1
+
+pub invariant_of-self : goal.invariant_of-self
+invariant_of-self g c =
+    let it = c.in_err-lines.ensures in
+    (it.log, λ up. c.self.invariant.1 (it.shut up) ∙ ap (λ (d : Database). digest_of (lines_in d.trees)) (sym (it.committed up)))
+
+pub invariant_of-self-2 : goal.invariant_of-self-2
+invariant_of-self-2 g c =
+    let it = c.in_ok-lines.ensures in
+    (it.log, λ up. c.self.invariant.1 (it.shut up) ∙ ap (λ (d : Database). digest_of (lines_in d.trees)) (sym (it.committed up)))

@@ -1,0 +1,14 @@
+use Rattle.std.proofs.Common.{rules}
+use Rattle.command_log.proofs.Passing.{over_lines}
+use Rattle.command_log.proofs.log.CommandLog.over.Goals as goal
+
+pub returns-in-Ok-clause-lines : goal.returns-in-Ok-clause-lines
+returns-in-Ok-clause-lines g c =
+    let it = c.in-Ok.ensures in
+    over_lines g.S.Store c.args.conn c.test_all.new.conn c.requires.idle it.log it.shut it.committed (search rules)
+
+pub returns-in-Err-clause-other : goal.returns-in-Err-clause-other
+returns-in-Err-clause-other g c = (
+  λ none. absurd (c.in-Err.ensures.fault none),
+  λ other. absurd (other.0 (search rules)),
+)

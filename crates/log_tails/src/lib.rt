@@ -1,0 +1,12 @@
+//! Where the commits of a database file's log end, and whether what follows them is what a crash
+//! leaves. A log that was damaged is told from one that was only cut short by a crash.
+#![tactic(auto)]
+
+mod bytes;
+mod file;
+mod laws;
+mod tail;
+
+pub use file::{DamagedLog, damage_at};
+pub use laws::{law_of_crashes, law_of_damage};
+pub use tail::{Tail, tail_of};

@@ -1,0 +1,22 @@
+use Rattle.std.proofs.Common.{◌≡◌, ◌+◌, ◌++◌, ◌∷◌, ℕ, List, ap, sym, ◌∙◌, add-one, drop, get_or, length}
+use Rattle.std.proofs.Math.Seq.{drop-cons}
+use Rattle.paragraphs.specs.Marks.{after_dashes, end_after}
+use Rattle.paragraphs.proofs.Steps.{element_later, element_here}
+use Rattle.paragraphs.proofs.marks.past_element.Goals as goal
+
+pub loop-at-preserved : goal.loop-at-preserved
+loop-at-preserved c =
+    let text = c.args.text.now in
+    let at = c.loop-at.at in
+    let split : drop at text ≡ get_or text at 0 ∷ drop (at + 1) text = rw add-one (drop-cons text at 0 c.loop-at-test.true) in
+    let none = c.in_default.ensures ∙ ap (end_after c.args.name.now) c.tail.ensures in
+    sym (element_later c.args.name.now (drop at text) (drop (at + 1) text) (get_or text at 0) split none) ∙ c.loop-at.invariant
+
+pub returns-in-Some : goal.returns-in-Some
+returns-in-Some c =
+    let text = c.args.text.now in
+    let at = c.loop-at.at in
+    let after = c.in-Some.after.now in
+    let split : drop at text ≡ get_or text at 0 ∷ drop (at + 1) text = rw add-one (drop-cons text at 0 c.loop-at-test.true) in
+    let some = c.in-Some.ensures ∙ ap (end_after c.args.name.now) c.tail.ensures in
+    sym (element_here c.args.name.now (drop at text) (drop (at + 1) text) after (get_or text at 0) split some) ∙ c.loop-at.invariant
