@@ -56,6 +56,7 @@ COMMANDS = {
     "tests/rows/run": "checks.rows",
     "tests/scripts/run": "checks.scripts",
     "tests/trace/run": "checks.trace",
+    "tests/units/run": "checks.units.run",
     "tests/unproved": "checks.unproved",
     "tests/wordpress/run": "checks.wordpress",
     "tools/build": "repository.build",

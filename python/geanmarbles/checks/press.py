@@ -9,8 +9,8 @@ WordPress's wp-includes, /usr/share/wordpress. It shows that
 - a site moves from SITE to PRESS by its export, with the same pages, and neither starts from the other's file;
 - PRESS prints random templates, with random values and contents, as a model of docs/SNIPPETS.md does that shares no
   code with it (N of them, 2,000 if it isn't said);
-- with `blocks`, `captions` or `guard` PRESS shows random contents as WordPress's own functions do (tests/press has
-  wordpress.php; N of each); skipped, and said so, without PHP or WordPress;
+- with `blocks`, `captions`, `guard` or `paragraphs` PRESS shows random contents as WordPress's own functions do
+  (tests/press has wordpress.php; N of each); skipped, and said so, without PHP or WordPress;
 - three nodes over three etcd (examples/cluster/three) show the same snippets; skipped, and said so, without etcd;
 - examples/snippets finds what is wrong with some templates, and nothing in those of docs/SNIPPETS.md.
 
@@ -112,6 +112,38 @@ GUARDED_FORMS = (
     "<br />",
     "<p title=\"a[0]\" lang='&#39;'>[b]&#91;[/b]</p>",
 )
+# What random contents of the classic editor are made of: texts and blocks, what is within a block, and what is between
+# these.
+CLASSIC_TEXTS = (
+    "Rye",
+    "é — <em>Oats</em>, R&amp;D",
+    "Two\nlines",
+    '<a href="/x"\n title="y"><img src="/b.jpg" /></a>',
+    "one<br />two<br>\nthree",
+    "[link] x",
+    "[none] <!-- a\n\nb -->",
+    "1 &lt; 2",
+    "<code>a\nb</code>",
+    "<script>a\nb</script>",
+)
+CLASSIC_BLOCKS = (
+    "<h2>{}</h2>",
+    '<div class="x">{}</div>',
+    "<div>\n\n{}\n\n</div>",
+    "<p>{}</p>",
+    '<p style="x">{}\n\nmore</p>',
+    "<blockquote>{}</blockquote>",
+    "<blockquote>\n<p>{}</p>\n</blockquote>",
+    "<ul>\n\t<li>{}</li>\n\t<li>b</li>\n</ul>",
+    "<table>\n<tbody>\n<tr>\n<td>{}</td>\n<td>b\nc</td>\n</tr>\n</tbody>\n</table>",
+    "<section>\n<p>{}</p>\n</section>",
+    "<pre>{}\n\n<b>more</b></pre>",
+    "<hr />",
+    "\n\n[link]\n\n",
+    "\n\n[b x='1']{}[/b]\n\n",
+    "{}",
+)
+CLASSIC_GAPS = ("\n", "\n\n", "\r\n", "\r\n\r\n", "\n \n", "<br /><br />", "", " \n\t\n\n")
 # What a callback can't know, and so doesn't print: which player of the page it is, and how old the browser is.
 OF_WORDPRESS = re.compile(
     r"<!--\[if lt IE 9\]><script>document.createElement\('(?:audio|video)'\);</script><!\[endif\]-->\n"
@@ -308,6 +340,15 @@ def random_guarded(random: Random) -> str:
     return "[b]z[/b]" + "".join(forms)
 
 
+def random_classic(random: Random) -> str:
+    """Blocks and texts as an author writes them into the classic editor."""
+    made = random.choice(CLASSIC_TEXTS)
+    for _ in range(random.randint(0, 5)):
+        block = random.choice(CLASSIC_BLOCKS).replace("{}", random.choice(CLASSIC_TEXTS))
+        made += random.choice(CLASSIC_GAPS) + block
+    return made + random.choice(CLASSIC_GAPS) + random.choice(CLASSIC_TEXTS)
+
+
 def of_wordpress(folder: str, function: str, contents: Iterable[str]) -> list[str]:
     """What a function of WordPress makes of contents."""
     if not shutil.which("php") or not Path(folder, "wp-includes", "plugin.php").is_file():
@@ -328,7 +369,7 @@ def shown_by(press: str, lines: Sequence[Line], contents: Iterable[str]) -> list
 
 
 def agrees_with_wordpress(press: str, _site: str, options: argparse.Namespace) -> None:
-    """with `blocks`, `captions` or `guard` random contents are shown as WordPress's own functions do"""
+    """with each of PRESS's other plugins random contents are shown as WordPress's own functions do"""
     random = Random(options.seed)
     listed = [{"cmd": "activate", "plugin": name} for name in ("guard", "bold", "snippets")]
     listed += [{"cmd": "option", "name": "snippets", "value": "[link]"}]
@@ -337,6 +378,7 @@ def agrees_with_wordpress(press: str, _site: str, options: argparse.Namespace) -
         ("do_blocks", random_blocks, [{"cmd": "activate", "plugin": "blocks"}]),
         ("do_shortcode", random_caption, [{"cmd": "activate", "plugin": "captions"}]),
         ("do_shortcode", random_guarded, listed),
+        ("shortcode_unautop", random_classic, [{"cmd": "activate", "plugin": "paragraphs"}]),
     )
     for function, made, lines in tried:
         contents = [made(random) for _ in range(options.pages)]

@@ -4,9 +4,10 @@
     tests/quick --sums
 
 Crates whose sources, definitions, proofs or edits changed are checked over the proofs that earlier checks kept in out/,
-then the programs `site` and `press` are built by the toolchain's own, faster compiler and the rows are run against
-them, and then the wrong bodies of the changed crates and the other crates above them are tried. What passed is kept in
-out/quick.json. `./test` alone is the verdict: it proves everything from nothing, and tries the edits in must-fail/ too.
+then the programs `site` and `press` are built by the toolchain's own, faster compiler and the parts that
+tests/parts.txt lists for this run are run against them, and then the wrong bodies of the changed crates and the other
+crates above them are tried. What passed is kept in out/quick.json. `./test` alone is the verdict: it proves everything
+from nothing, and tries the edits in must-fail/ too.
 
 The last line is 'N passed, M failed'. With --sums, it prints what out/quick.json would have if all passed.
 """
@@ -21,6 +22,7 @@ from pathlib import Path
 from typing import Any
 
 from geanmarbles.arguments import Parser
+from geanmarbles.checks.parts import parts_of
 from geanmarbles.paths import BUILT_PRESS, ROOT
 from geanmarbles.repository.crates import (
     EDITS,
@@ -140,15 +142,8 @@ def main() -> int:
     if well and ("press" in affected or not BUILT_PRESS.is_file()):
         well = build_press(counts)
     if well:
-        script(counts, ["tests/links/run"])
-        script(counts, ["tests/scripts/run"])
-        script(counts, ["tests/rows/run", str(PROGRAM)])
-        script(counts, ["tests/browse/run", str(PROGRAM)])
-        script(counts, ["tests/refusals/run", "--lists", "40", str(PROGRAM)])
-        script(counts, ["tests/press/run", str(BUILT_PRESS), str(PROGRAM)])
-        script(counts, ["tests/from_wordpress/run", str(PROGRAM)])
-        script(counts, ["tests/memory/run", str(PROGRAM)])
-        script(counts, ["tests/ends/run", str(PROGRAM)])
+        for words in parts_of("quick", site=PROGRAM, press=BUILT_PRESS):
+            script(counts, words)
         check_above(counts, crates, affected)
         turned = [it for it in lowest_first(crates, changed | changed_since(kept, sums, "edits"))]
         turned = [it for it in turned if (ROOT / "crates" / it / "wrong-bodies").is_dir()]

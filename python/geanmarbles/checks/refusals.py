@@ -33,6 +33,7 @@ from random import Random
 from typing import Any
 
 from geanmarbles.checks.fuzz.lines import Lines
+from geanmarbles.checks.fuzz.shorter import Shorter
 from geanmarbles.checks.fuzz.values import command_of
 from geanmarbles.checks.programs import missing, parser_of
 from geanmarbles.client.replies import REFUSALS, Wrong, refusal_of, shown, whole_replies
@@ -40,6 +41,7 @@ from geanmarbles.paths import EXAMPLES, TESTS
 
 HERE = TESTS / "refusals"
 SECONDS = 120
+SHORTER = Shorter()
 LISTS = 200
 CALLS = "1000"
 # The refusals that only the program knows of.
@@ -89,6 +91,11 @@ def numbers_in(said: Iterable[str]) -> dict[int, int]:
 def check_list(program: str, lines: Sequence[bytes]) -> None:
     """The script against the program's replies, with them and without."""
     check_said(lines, *replies_of(program, lines))
+
+
+def check_random(program: str, number: int) -> None:
+    """The script over a list of random lines, which is made shorter if it fails."""
+    SHORTER.judge(f"refusals {number}", partial(check_list, program), Lines(Random(f"1/{number}")).list())
 
 
 def check_after(program: str, before: list[bytes], lines: list[bytes]) -> None:
@@ -196,7 +203,7 @@ def checks_of(program: str, lists: int) -> Iterator[tuple[str, Callable[[], None
         yield f"example: {path.name}", partial(check_list, program, lines)
         yield f"notes: {path.name}", partial(check_notes, program, lines)
     for number in range(lists):
-        yield f"random lines {number}", partial(check_list, program, Lines(Random(f"1/{number}")).list())
+        yield f"random lines {number}", partial(check_random, program, number)
     for number in range(lists // 4):
         lines = Lines(Random(f"2/{number}")).list()
         half = len(lines) // 2

@@ -13,12 +13,16 @@ import subprocess
 import tarfile
 import tempfile
 import urllib.request
+from collections.abc import Callable, Iterator, Sequence
+from contextlib import contextmanager
 from functools import cache
 from pathlib import Path
-from typing import Any
+from typing import Any, NamedTuple
 
+from geanmarbles.checks import bare
 from geanmarbles.checks.links.planted import copy_to
 from geanmarbles.checks.programs import executable, missing, without_toolchain
+from geanmarbles.checks.runner import Skipped
 from geanmarbles.paths import BUILT_PROGRAM, EXAMPLES
 
 SECONDS = 600
@@ -132,6 +136,93 @@ def one_commit_gives_one_archive() -> None:
     must(f"{folder}/untracked" not in names, "it packs what is no file of the commit")
 
 
+def unpacked(archive: Path, room: Path) -> Path:
+    """Unpacks an archive by Python, and returns its folder, all of whose sums are as it says."""
+    with tarfile.open(archive) as files:
+        files.extractall(room)
+    (root,) = (it for it in room.iterdir() if it.is_dir() and it.name.startswith("geanmarbles-"))
+    lines = (line.partition("  ") for line in (root / "SUMS").read_text("utf-8").splitlines())
+    sums = {name: wanted for wanted, _, name in lines}
+    there = {str(it.relative_to(root)) for it in root.rglob("*") if it.is_file() and not it.is_symlink()}
+    must(there == {*sums, "SUMS"}, f"SUMS has other files: {sorted(there ^ {*sums, 'SUMS'})[:5]}")
+    for name, wanted in sums.items():
+        must(hashlib.sha256((root / name).read_bytes()).hexdigest() == wanted, f"{name} has another sum")
+    return root
+
+
+class Place(NamedTuple):
+    """Where a release is run: its folder and a room for files, as commands see them there; that room as it is seen
+    here; and how a command's words and environment are."""
+
+    root: Path
+    room: Path
+    outside: Path
+    words: Callable[[Sequence[str | Path]], Sequence[str | Path]]
+    env: dict[str, str]
+
+    def run(self, *words: str | Path, given: bytes = b"") -> bytes:
+        how: dict[str, Any] = {"capture_output": True, "env": self.env, "cwd": self.outside, "timeout": SECONDS}
+        ran = subprocess.run(self.words([self.root / words[0], *words[1:]]), input=given, **how)
+        must(ran.returncode == 0, f"{words[0]} ends with {ran.returncode}: {ran.stderr[-500:]!r}")
+        return bytes(ran.stdout)
+
+    def serves_pages(self) -> None:
+        """examples/browse shows the bakery."""
+        words = self.words([self.root / "examples/browse", "--port", "0"])
+        how: dict[str, Any] = {"env": self.env, "stdout": subprocess.PIPE, "stderr": subprocess.DEVNULL, "text": True}
+        with subprocess.Popen(words, **how) as child:
+            try:
+                line = child.stdout.readline() if child.stdout else ""
+                found = re.search(r"http://127\.0\.0\.1:\d+/", line)
+                must(found, f"examples/browse says {line!r}")
+                with urllib.request.urlopen(found[0] if found else "", timeout=SECONDS) as page:
+                    must(page.status == 200 and b"<html" in page.read(), "examples/browse serves no page")
+                child.send_signal(signal.SIGINT)
+                must(child.wait(SECONDS) == 0, f"examples/browse ends with {child.returncode}")
+            finally:
+                child.kill()
+
+
+@contextmanager
+def place_of(archive: Path) -> Iterator[Place]:
+    """A machine with Python alone on which an archive is unpacked: its root is a folder of this one. Where no such
+    machine can be made, it is this one, on whose PATH is what scripts here use."""
+    why = bare.lacking()
+    with tempfile.TemporaryDirectory(dir=MEMORY) as name, tempfile.TemporaryDirectory() as commands:
+        room = Path(name)
+        if why:
+            print(f"skipped: {why}, so a release is run on this machine, without the toolchain on its PATH")
+            yield Place(unpacked(archive, room), room, room, lambda words: words, without_toolchain(commands))
+            return
+        machine = bare.Bare(room)
+        (room / "release").mkdir()
+        root = unpacked(archive, room / "release")
+        machine.add(root / "crates/site/out/site")
+        yield Place(Path("/", root.relative_to(room)), Path("/tmp"), room / "tmp", machine.words, {"PATH": bare.PATH})
+
+
+def releases_run() -> None:
+    """an unpacked release runs where there is Python alone, and no git: ./site, examples/browse, from_wordpress and
+    publish, and the tests of single functions"""
+    with place_of(repository().archive("made")) as place:
+        commit = subprocess.run(["git", "rev-parse", "HEAD"], cwd=repository().root, check=True, capture_output=True)
+        must(commit.stdout[:7] in place.run("site", "--version"), "./site --version says no commit")
+        must(place.run("tests/units/run", "--plain").endswith(b" passed, 0 failed\n"), "tests of functions fail")
+        export, site, made = place.root / EXPORT, place.room / "site.db", place.room / "made"
+        commands = place.run("examples/from_wordpress", "--as-shown", export)
+        if why := missing(BUILT_PROGRAM):
+            raise Skipped(f"{why}, so no release's program is run")
+        rye = (EXAMPLES / "rye.jsonl").read_bytes()
+        for words in (["site", "--built"], ["site"]):
+            written = place.run(*words, given=rye)
+            must(written == (EXAMPLES / "rye.out").read_bytes(), f"./{' '.join(words)} writes another")
+        place.serves_pages()
+        replies = place.run("site", "--database", site, given=commands)
+        must(replies and set(replies.split()) == {b"ok"}, f"the imports are refused: {replies[:200]!r}")
+        place.run("examples/publish", export, site, made)
+        must((place.outside / "made/public/index.html").is_file(), "examples/publish writes no front")
+
+
 def unsound_releases_are_refused() -> None:
     """tools/release packs nothing if the gate failed or was of other sources, a file was changed, or the program is old
     or missing"""
@@ -155,64 +246,6 @@ def unsound_releases_are_refused() -> None:
     with (here.root / "README.md").open("a", encoding="utf-8") as file:
         file.write("More.\n")
     here.refuses("files differ from the commit, README.md")
-
-
-def unpacked(archive: Path, room: Path) -> Path:
-    """Unpacks an archive by Python, and returns its folder, all of whose sums are as it says."""
-    with tarfile.open(archive) as files:
-        files.extractall(room)
-    (root,) = (it for it in room.iterdir() if it.is_dir() and it.name.startswith("geanmarbles-"))
-    lines = (line.partition("  ") for line in (root / "SUMS").read_text("utf-8").splitlines())
-    sums = {name: wanted for wanted, _, name in lines}
-    there = {str(it.relative_to(root)) for it in root.rglob("*") if it.is_file() and not it.is_symlink()}
-    must(there == {*sums, "SUMS"}, f"SUMS has other files: {sorted(there ^ {*sums, 'SUMS'})[:5]}")
-    for name, wanted in sums.items():
-        must(hashlib.sha256((root / name).read_bytes()).hexdigest() == wanted, f"{name} has another sum")
-    return root
-
-
-def serves_pages(root: Path, env: dict[str, str]) -> None:
-    """examples/browse of a release shows the bakery."""
-    words: list[str | Path] = [root / "examples/browse", "--port", "0"]
-    with subprocess.Popen(words, env=env, stdout=subprocess.PIPE, stderr=subprocess.DEVNULL, text=True) as child:
-        try:
-            line = child.stdout.readline() if child.stdout else ""
-            found = re.search(r"http://127\.0\.0\.1:\d+/", line)
-            must(found, f"examples/browse says {line!r}")
-            with urllib.request.urlopen(found[0] if found else "", timeout=SECONDS) as page:
-                must(page.status == 200 and b"<html" in page.read(), "examples/browse serves no page")
-            child.send_signal(signal.SIGINT)
-            must(child.wait(SECONDS) == 0, f"examples/browse ends with {child.returncode}")
-        finally:
-            child.kill()
-
-
-def releases_run() -> None:
-    """an unpacked release runs where there is Python alone: ./site, examples/browse and examples/publish"""
-    if why := missing(BUILT_PROGRAM):
-        print(f"skipped: {why}, so no release is unpacked and run")
-        return
-    here = repository()
-    with tempfile.TemporaryDirectory(dir=MEMORY) as room, tempfile.TemporaryDirectory() as commands:
-        root = unpacked(here.archive("made"), Path(room))
-        env = without_toolchain(commands)
-
-        def run(*words: str | Path, given: bytes = b"") -> bytes:
-            how: dict[str, Any] = {"capture_output": True, "env": env, "cwd": room, "timeout": SECONDS}
-            ran = subprocess.run([root / words[0], *words[1:]], input=given, **how)
-            must(ran.returncode == 0, f"{words[0]} ends with {ran.returncode}: {ran.stderr[-500:]!r}")
-            return bytes(ran.stdout)
-
-        rye = (EXAMPLES / "rye.jsonl").read_bytes()
-        for words in (["site", "--built"], ["site"]):
-            must(run(*words, given=rye) == (EXAMPLES / "rye.out").read_bytes(), f"./{' '.join(words)} writes another")
-        must((root / "RELEASE").read_text("utf-8").split()[1][:7].encode() in run("site", "--version"), "no commit")
-        serves_pages(root, env)
-        export, site, made = root / EXPORT, Path(room, "site.db"), Path(room, "made")
-        replies = run("site", "--database", site, given=run("examples/from_wordpress", "--as-shown", export))
-        must(replies and set(replies.split()) == {b"ok"}, f"the imports are refused: {replies[:200]!r}")
-        run("examples/publish", export, site, made)
-        must((made / "public/index.html").is_file(), "examples/publish writes no front")
 
 
 # The last leaves the copy changed.

@@ -3,17 +3,18 @@ tutorial shows the examples as they are, that tools/titles finds long titles of 
 refuses, that scripts end quietly once nobody reads their output, and that each script of the repository knows --help
 and refuses an argument that it doesn't know, before it does anything.
 
-    tests/scripts/run
+    tests/scripts/run [--plain] [NAME ..]
 
-Nothing is built or proved, and a program is needed for one check alone, which is skipped without it: that a release
-runs once it is unpacked where there is Python alone. ./site is tried in a small checkout made for it, where the
-toolchain's command is a script, and ./new-plugin in a copy of the crates that it reads. The last line is 'N passed, M
-failed', over the checks, each of which is a function below. The exit status is 0 if nothing failed.
+With names, it makes the checks whose names have one of these. Nothing is built or proved, and a program is needed for
+one check alone, which is skipped without it: that a release runs once it is unpacked where there is Python alone.
+./site is tried in a small checkout made for it, where the toolchain's command is a script, and ./new-plugin in a copy
+of the crates that it reads. The checks are run by pytest if it is installed, and by a loop if it isn't, or with
+--plain. The last line is 'N passed, M failed', with ', K skipped' after it if a check was skipped, over the checks,
+each of which is a function below or in release.py. The exit status is 0 if nothing failed.
 """
 
 from __future__ import annotations
 
-import argparse
 import json
 import os
 import re
@@ -25,8 +26,7 @@ import time
 from pathlib import Path
 from typing import Any, Self
 
-from geanmarbles.arguments import Parser
-from geanmarbles.checks import release
+from geanmarbles.checks.runner import Skipped, main_of
 from geanmarbles.checks.programs import with_toolchain, without_toolchain
 from geanmarbles.paths import ROOT
 from geanmarbles.repository.unproved import run_telling
@@ -492,14 +492,17 @@ def scripts_know_help() -> None:
 
 def package_is_sound() -> None:
     """the package is laid out by black, and flake8 and mypy find nothing, as far as they are installed"""
+    missing: list[str] = []
     for words in (["black", "--quiet", "--check", "python"], ["flake8", "python"], ["mypy"]):
         if shutil.which(words[0]) is None:
-            print(f"skipped: there is no {words[0]} to look at python/ by")
+            missing.append(words[0])
             continue
         with tempfile.TemporaryDirectory() as folder:
             env = {**os.environ, "MYPY_CACHE_DIR": folder, "BLACK_CACHE_DIR": folder}
             ran = subprocess.run(words, cwd=ROOT, capture_output=True, text=True, env=env)
         must(ran.returncode == 0, f"{words[0]}: {ran.stdout[-2_000:]}{ran.stderr[-2_000:]}")
+    if missing:
+        raise Skipped(f"there is no {', '.join(missing)} to look at python/ by")
 
 
 def packages_stand_on_lower_ones() -> None:
@@ -537,18 +540,8 @@ CHECKS = [
     scripts_know_help,
     packages_stand_on_lower_ones,
     package_is_sound,
-    *release.CHECKS,
 ]
 
 
 def main() -> int:
-    Parser(description=__doc__, formatter_class=argparse.RawDescriptionHelpFormatter).parse_args()
-    failed = 0
-    for check in CHECKS:
-        try:
-            check()
-        except (Wrong, release.Wrong, OSError, ValueError, subprocess.SubprocessError) as fault:
-            failed += 1
-            print(f"FAILED: {check.__doc__}: {type(fault).__name__}: {fault}")
-    print(f"{len(CHECKS) - failed} passed, {failed} failed")
-    return 1 if failed else 0
+    return main_of(__doc__, ["geanmarbles.checks.scripts", "geanmarbles.checks.release"])

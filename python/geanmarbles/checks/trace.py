@@ -37,6 +37,7 @@ from typing import Any
 from geanmarbles.arguments import Parser
 from geanmarbles.checks import memory
 from geanmarbles.checks.fuzz.lines import BY_TURNS, Lines
+from geanmarbles.checks.fuzz.shorter import Shorter
 from geanmarbles.checks.fuzz.values import command_of
 from geanmarbles.checks.programs import compiled, missing
 from geanmarbles.client.log import Told
@@ -49,6 +50,7 @@ HERE = TESTS / "trace"
 SECONDS = 120
 LISTS = 200
 CALLS = 1_000
+SHORTER = Shorter()
 OK = b"ok\n"
 # A log that isn't written: what a shell makes of standard error.
 UNWRITTEN = {"closed": "2>&-", "full": "2>/dev/full", "only for reading": "2</dev/null"}
@@ -163,8 +165,12 @@ def check_turns(program: Program, lines: Sequence[bytes], replies: list[bytes], 
 
 
 def check_list(program: Program, number: int) -> None:
-    """A list of random lines, and the same without its pages by turns, whose turns are then counted."""
-    lines = Lines(Random(f"trace {number}")).list()
+    """A list of random lines, and the same without its pages by turns, whose turns are then counted. One that fails is
+    made shorter."""
+    SHORTER.judge(f"trace {number}", partial(check_lines, program), Lines(Random(f"trace {number}")).list())
+
+
+def check_lines(program: Program, lines: list[bytes]) -> None:
     traced(program, lines)
     once = [line for line in lines if command_of(line).get("cmd") not in BY_TURNS]
     replies, ends = traced(program, once)

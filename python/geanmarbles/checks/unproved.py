@@ -2,9 +2,10 @@
 
     ./test --unproved
 
-In this order:
+In this order, which is that of tests/parts.txt:
 
 - tests/links/run: what the documents name is there;
+- tests/units/run: single functions of the scripts;
 - tests/scripts/run: ./site, ./new-plugin, the examples of the tutorial and the arguments of every script;
 - tests/from_wordpress/run --without-program: reports and commands for exports of WordPress;
 - tests/rows/run --unproved: every worked row, example and table of docs/BEHAVIOUR.md, over the program as it is
@@ -27,14 +28,9 @@ import sys
 from collections.abc import Sequence
 
 from geanmarbles.arguments import Parser
+from geanmarbles.checks.parts import parts_of
 from geanmarbles.paths import ROOT
 
-PARTS = [
-    ["tests/links/run"],
-    ["tests/scripts/run"],
-    ["tests/from_wordpress/run", "--without-program"],
-    ["tests/rows/run", "--unproved"],
-]
 CLOSING = re.compile(r"(\d+) passed, (\d+) failed(?:, (\d+) skipped)?")
 
 
@@ -59,7 +55,7 @@ def main() -> int:
         print(f"test: {why}", file=sys.stderr)
         print("0 passed, 1 failed")
         return 1
-    passed, failed, skipped = map(sum, zip(*map(counted, PARTS)))
+    passed, failed, skipped = map(sum, zip(*map(counted, parts_of("unproved"))))
     print("test: nothing was proved; ./test is the verdict")
     print(f"{passed} passed, {failed} failed" + (f", {skipped} skipped" if skipped else ""))
     return 1 if failed else 0

@@ -6,7 +6,7 @@ from typing import TYPE_CHECKING, NamedTuple
 
 from geanmarbles.cluster.etcd import Refused, Unreachable, WentBack, reason_of
 from geanmarbles.cluster.history import OtherBody, sum_of
-from geanmarbles.cluster.tokens import Tokens
+from geanmarbles.cluster.tokens import NAMELESS, Tokens
 from geanmarbles.web.edit_bodies import Bad, lines_of_body
 
 if TYPE_CHECKING:
@@ -17,11 +17,12 @@ LINE_SECONDS, OWES_SECONDS = 12, 5
 
 
 class Request(NamedTuple):
-    """A request: its key, its lines, and a sum of them if it has several."""
+    """A request: its key, its lines, a sum of them if it has several, and the name of its token if that has one."""
 
     key: str
     lines: list[bytes]
     sum: str
+    by: str = ""
 
     def id_of(self, number: int) -> str:
         return f"{self.key}/{number}"
@@ -42,10 +43,10 @@ def name_of(tokens: Tokens | None, given: str | None) -> str:
     return tokens.name_of(given)
 
 
-def request_of(key: str, body: bytes) -> Request:
+def request_of(key: str, body: bytes, by: str = "") -> Request:
     """The request that a body makes. Each line is looked at before any is carried out."""
     lines = lines_of_body(body)
-    return Request(key, lines, sum_of(b"\n".join(lines)) if len(lines) > 1 else "")
+    return Request(key, lines, sum_of(b"\n".join(lines)) if len(lines) > 1 else "", "" if by == NAMELESS else by)
 
 
 def check_ready(node: Node) -> None:

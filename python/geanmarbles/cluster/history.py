@@ -5,6 +5,7 @@ The keys of a site that is called NAME:
     NAME/edit/ID        an edit's line. ID is the request's key, a slash, and the line's number in the request
     NAME/done/ID        the same edit once a snapshot has it: its place, its reply, and a sum of its line
     NAME/request/KEY    a sum of the body of a request that has several lines
+    NAME/by/KEY         the name of the token that a request had, if the node's tokens have names
     NAME/last           the ID of the last edit; its version says how many there are
     NAME/identity       the identity of the program that gives the lines their meaning
     NAME/snapshot/..    a snapshot's parts, and `head`
@@ -88,7 +89,7 @@ class Keys:
     def __init__(self, name: str) -> None:
         self.root = f"{name}/".encode()
         self.edits, self.parts = self.root + b"edit/", self.root + b"snapshot/"
-        self.requests = self.root + b"request/"
+        self.requests, self.names = self.root + b"request/", self.root + b"by/"
         self.last, self.identity = self.root + b"last", self.root + b"identity"
         self.head, self.maker = self.parts + b"head", self.root + b"maker"
 
@@ -104,6 +105,9 @@ class Keys:
 
     def request(self, key: str) -> bytes:
         return self.requests + key.encode()
+
+    def by(self, key: str) -> bytes:
+        return self.names + key.encode()
 
     def id_of(self, key: bytes) -> str:
         """The ID of an edit by its key."""
@@ -233,6 +237,8 @@ class History:
         writes = [put(names[0], line), put(keys.last, name.encode())]
         if number == 1 and request.sum:
             writes.append(put(keys.request(request.key), request.sum.encode()))
+        if number == 1 and request.by:
+            writes.append(put(keys.by(request.key), request.by.encode()))
         reads = [*map(get, names), get(keys.request(request.key))]
         conditions = [*map(is_absent, names), is_late(keys.last, last.place)]
         refusal: Refused | None = None

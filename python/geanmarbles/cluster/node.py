@@ -56,6 +56,9 @@ from geanmarbles.cluster.tokens import BadTokens, Tokens, named_tokens, one_toke
 
 
 SNAPSHOT_EVERY, REMEMBER = 10_000, 86_400
+# For how long a request is known at least: whoever has no answer may ask again some minutes later, and an edit whose
+# request is forgotten by then would be made twice.
+REMEMBER_LEAST = 300
 # How long requests under way may take once a signal has ended the node, and how long a connection stays meanwhile on
 # which nothing is asked for.
 DRAIN_SECONDS, IDLE_SECONDS = 10, 2
@@ -133,7 +136,9 @@ OPTIONS: dict[str, dict[str, Any]] = {
     "--etcd-password-file": file("the user's password", Path),
     "--lines": count(100, LINES, LINES, "replace each program before its line N"),
     "--snapshot-every": count(1, LINES, SNAPSHOT_EVERY, "edits from one snapshot to the next"),
-    "--remember": count(2, 10**9, REMEMBER, "seconds for which a request is known once a snapshot has its edits"),
+    "--remember": count(
+        REMEMBER_LEAST, 10**9, REMEMBER, "seconds for which a request is known once a snapshot has its edits"
+    ),
     "--max-age": count(
         0, MAX_AGE, 0, "seconds for which a cache in front may keep a page that no promise was asked of"
     ),

@@ -187,7 +187,7 @@ class Handler(EditHandler):
             self.by = name_of(self.server.tokens, self.headers.get("Authorization"))
             check_ready(node)
             key = key_of(self.headers.get("Idempotency-Key"))
-            result = carry_out(node, request_of(key, self.body()))
+            result = carry_out(node, request_of(key, self.body(), self.by))
         except Bad as fault:
             self.refuse(fault.status, fault.text, **fault.headers)
             return

@@ -44,8 +44,8 @@ from geanmarbles.cluster.history import (
 PART_BYTES = 1_000_000
 # How many parts are read at once.
 PARTS_TOGETHER = 8
-# How many keys are written by one transaction, of the 128 that etcd allows.
-KEYS_TOGETHER = 50
+# Of how many edits the keys are written by one transaction: three each at most, of the 128 that etcd allows.
+KEYS_TOGETHER = 40
 # How long the right to make a snapshot lasts without a sign of life, and how often there is one.
 LEASE_SECONDS, BEAT_SECONDS = 15, 3
 # How many lines a program is given at once, and how many before the next one goes on with its file.
@@ -230,20 +230,23 @@ def make(history: History, path: str, remember: int) -> tuple[Last, int]:
 
 
 def note_done(turn: Turn, edits: Sequence[Noted], remember: int) -> None:
-    """Gives each edit a key with its place and reply, which etcd drops after `remember` seconds."""
+    """Gives each edit a key with its place and reply, which etcd drops after `remember` seconds, and with it what is
+    noted of its request."""
     history = turn.history
     lease = history.etcd.call("/v3/lease/grant", {"TTL": str(remember)})["ID"]
-    requests: set[bytes] = set()
-    for found, _ in history.all_of(history.keys.requests, limit=KEYS_LISTED, keys_only=True):
-        requests |= {decoded(it["key"]) for it in found}
+    there: set[bytes] = set()
+    for prefix in (history.keys.requests, history.keys.names):
+        for found, _ in history.all_of(prefix, limit=KEYS_LISTED, keys_only=True):
+            there |= {decoded(it["key"]) for it in found}
     for first in range(0, len(edits), KEYS_TOGETHER):
         writes = []
         for name, noted in edits[first : first + KEYS_TOGETHER]:
             writes.append(put(history.keys.done(name), json.dumps(noted).encode(), lease=lease))
             key, _, number = name.rpartition("/")
-            if number == "1" and history.keys.request(key) in requests:
-                request = {"key": encoded(history.keys.request(key)), "ignore_value": True, "lease": lease}
-                writes.append({"request_put": request})
+            # What is noted of the request goes with its first edit.
+            noted_of = {history.keys.request(key), history.keys.by(key)} & there if number == "1" else set()
+            for about in sorted(noted_of):
+                writes.append({"request_put": {"key": encoded(about), "ignore_value": True, "lease": lease}})
         turn.write(writes)
 
 

@@ -64,13 +64,17 @@ for line in sys.stdin.buffer:
 """
 # The program, and a file that it makes is said to be another program's.
 ANOTHER = """#!/usr/bin/env python3
-import os, sqlite3, subprocess, sys
+import hashlib, os, sqlite3, subprocess, sys
 words = [{program!r}, *sys.argv[1:]]
 if "--database" not in words:
     os.execv(words[0], words)
 ended = subprocess.run(words).returncode
 file = sqlite3.connect(words[words.index("--database") + 1])
-file.execute("UPDATE command SET line = replace(line, 'bold', 'bald') WHERE number = 1")
+digest = hashlib.sha256(b"").digest()
+for number, line in file.execute("SELECT number, line FROM command ORDER BY number").fetchall():
+    line = line.replace("bold", "bald") if number == 1 else line
+    digest = hashlib.sha256(digest + line.encode()).digest()
+    file.execute("UPDATE command SET line = ?, digest = ? WHERE number = ?", (line, digest, number))
 file.commit()
 file.close()
 sys.exit(ended)

@@ -17,6 +17,7 @@ from pathlib import Path
 from typing import Any
 
 from geanmarbles.checks.cluster.clients import DATE, Answer, NoAnswer, joined, line_of
+from geanmarbles.checks.cluster.etcd import un64
 from geanmarbles.checks.cluster.judged import Cases, Skipped, must
 from geanmarbles.checks.cluster.nodes import Cluster, Node
 from geanmarbles.checks.cluster.processes import free_port, wait_for
@@ -108,6 +109,9 @@ class Seen:
         self.lines()
         post(node, "a+b/c=1", "renamed")
         must(self.lines()[0]["by"] == "fay", "an edit isn't told by the new name")
+        store = self.cluster.members.store
+        names = {un64(it["value"]) for it in store.range("site/by/")["kvs"]}
+        must(names == {b"ada", b"bob", b"eve", b"fay"}, f"etcd has edits by {names}")
 
     def log(self) -> str:
         return Path(self.node.process.log).read_text(encoding="utf-8", errors="replace")

@@ -14,13 +14,14 @@ from typing import Any
 
 from geanmarbles.checks.cluster import nodes
 from geanmarbles.checks.cluster.clients import Answer, Load, Record, joined, line_of
-from geanmarbles.checks.cluster.etcd import Witness
+from geanmarbles.checks.cluster.etcd import Witness, un64
 from geanmarbles.checks.cluster.faults import children_of
 from geanmarbles.checks.cluster.judged import ALIKE, Cases, get, judge_at_rest, must, page_in, pages_of, replies_of
 from geanmarbles.checks.cluster.nodes import Cluster, Node
 from geanmarbles.checks.cluster.processes import wait_for
 from geanmarbles.checks.programs import executable
 from geanmarbles.client.replies import Wrong
+from geanmarbles.cluster.node import REMEMBER_LEAST
 
 # After how many edits a snapshot is made, for how long a client edits, and how long a snapshot may take to be there.
 EVERY, LOAD_SECONDS, SECONDS = 40, 2.0, 120
@@ -161,16 +162,21 @@ class Snapshots:
             other.process.end()
 
     def forgets_keys(self) -> None:
-        """what is known of keys is gone some time after a snapshot, and then a key is like a new one"""
+        """what is known of keys is kept for the time asked for, and once it is gone a key is like a new one"""
         node, lines = self.nodes[0], [put("forgotten-1"), put("forgotten-2")]
         first = self.posted(node, lines, "forgotten")
         self.wait_for_head(first.revision())
-        store = self.cluster.members.store
-
-        def is_forgotten() -> bool:
-            return not [it for it in store.keys("site/") if it.endswith(("/forgotten", "/forgotten/1", "/forgotten/2"))]
-
-        wait_for(is_forgotten, SECONDS, "the key is forgotten")
+        store, names = self.cluster.members.store, ("/forgotten", "/forgotten/1", "/forgotten/2")
+        wait_for(lambda: not self.kept_before(first.place()), SECONDS, "its edits are deleted")
+        known = [it for it in store.range("site/", keys_only=True)["kvs"] if un64(it["key"]).decode().endswith(names)]
+        leases = [it.get("lease") for it in known]
+        must(len(known) == len(names) and all(leases), f"{len(known)} keys are known, with leases {leases}")
+        for lease in set(leases):
+            granted = store.call("/v3/lease/timetolive", ID=lease)["grantedTTL"]
+            must(granted == str(REMEMBER_LEAST), f"they are kept for {granted} seconds")
+            # The test doesn't wait for so long: etcd drops the keys of a lease that is revoked as of one that is over.
+            store.call("/v3/lease/revoke", ID=lease)
+        must(not [it for it in store.keys("site/") if it.endswith(names)], "a key is still known")
         again = node.post(joined(lines), Idempotency_Key="forgotten")
         is_new = again.status == 200 and again.place() > first.place() and again.body != first.body
         must(is_new, f"it answered {again.shown()}, and first {first.shown()}")
@@ -295,7 +301,7 @@ def cases(arguments: argparse.Namespace) -> Cases:
             snapshots.exports,
         ):
             yield judged.__doc__, judged
-    options_of_one = (*options, "--remember", "2")
+    options_of_one = (*options, "--remember", str(REMEMBER_LEAST))
     with Cluster(arguments.program, count=1, options=options_of_one) as cluster, cluster.witnessed() as witness:
         forgetful = Snapshots(cluster, witness, arguments.seed)
         yield forgetful.forgets_keys.__doc__, forgetful.forgets_keys

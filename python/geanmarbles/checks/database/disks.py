@@ -1,13 +1,10 @@
-"""Disks that fill up, and logs that are torn."""
+"""Disks that fill up."""
 
-import os
 import shutil
 import subprocess
 import sys
 import tempfile
-from functools import partial
 from pathlib import Path
-from random import Random
 
 from geanmarbles.checks.database.clients import (
     Cases,
@@ -16,14 +13,13 @@ from geanmarbles.checks.database.clients import (
     check_end,
     get,
     joined,
-    line_of,
     over,
     put,
     replies,
     run,
     same_pages,
 )
-from geanmarbles.checks.database.files import check_equal, copied, found_by_sqlite, history, log_of
+from geanmarbles.checks.database.files import check_equal, history
 from geanmarbles.client.replies import Wrong
 from geanmarbles.paths import command
 
@@ -31,8 +27,6 @@ FULL = b"site: the database failed: the disk is full\n"
 # How large the small disk is, and what is taken of it to be given back later: the log may grow by 256 KB at a time.
 DISK, FILLER = "1m", 400_000
 SECONDS = 120
-# How many torn logs are tried.
-TORN = 60
 PATHS = ("/", "/?p=1", "/?p=7", "/?p=30")
 # Runs this module in a mount namespace of its own, in which a folder is a small disk; a user namespace lets whoever
 # isn't root do the same, if the system allows it.
@@ -123,86 +117,10 @@ def judged_on_a_small_disk(folder: str, program: str, name: str) -> None:
     same_pages(program, file, [*wanted, line], PATHS)
 
 
-def grown(program: str, file: Path) -> list[bytes]:
-    """A file whose log has each of its edits as a commit of its own; returns its history."""
-    with Client(program, *over(file)) as client:
-        for number in range(1, 41):
-            client.ask(put(title=f"post {number}", content="x" * (100 * number)))
-            client.ask(line_of(cmd="option", name="blogname", value=str(number)))
-    return history(file)
-
-
-def torn(log: Path, random: Random) -> str:
-    """Damages a log somewhere in what was written of it, and says how."""
-    whole = log.read_bytes()
-    used = len(whole.rstrip(b"\0"))
-    at = random.randrange(used)
-    match random.randrange(5):
-        case 0:
-            os.truncate(log, at)
-            return f"cut at {at} of {used}"
-        case 1:
-            log.write_bytes(whole[:at] + random.randbytes(used - at) + whole[used:])
-            return f"overwritten from {at} of {used} on"
-        case 2:
-            log.write_bytes(whole[:at] + bytes(used - at) + whole[used:])
-            return f"zero from {at} of {used} on"
-        case 3:
-            log.write_bytes(whole[:at] + bytes([whole[at] ^ 1 << random.randrange(8)]) + whole[at + 1 :])
-            return f"one bit at {at} of {used}"
-        case _:
-            end = min(at + 4_096, used)
-            log.write_bytes(whole[:at] + random.randbytes(end - at) + whole[end:])
-            return f"4,096 bytes overwritten at {at} of {used}"
-
-
-class Torn:
-    """A site whose log is torn in many ways."""
-
-    def __init__(self, program: str) -> None:
-        self.program = program
-        self.folder = tempfile.TemporaryDirectory()
-        self.file = Path(self.folder.name, "site.db")
-        self.lines = grown(program, self.file)
-        self.more = self.found = self.refused = 0
-
-    def judge(self, number: int) -> None:
-        """What a start finds is a front of the history, with all that SQLite finds; or the start is refused by name."""
-        with tempfile.TemporaryDirectory() as folder:
-            copy = copied(self.file, folder)
-            how = torn(log_of(copy), Random(f"torn/{number}"))
-            wanted, before = found_by_sqlite(copy), copy.read_bytes()
-            ran = run(self.program, b"", *over(copy))
-            if ran.returncode == 1 and ran.stderr.startswith(f"site: {copy}: ".encode()) and not ran.stdout:
-                if copy.read_bytes() != before:
-                    raise Wrong(f"{how}: the database file is another after a refused start")
-                self.refused += 1
-                return
-            check_end((ran.returncode, ran.stderr), 0, b"")
-            found = history(copy)
-            check_equal(found, self.lines[: max(len(found), 1)])
-            if len(found) < len(wanted):
-                raise Wrong(f"{how}: it finds {len(found)} lines, and SQLite {len(wanted)}")
-            self.found, self.more = self.found + len(found), self.more + len(found) - max(len(wanted), 1)
-            same_pages(self.program, copy, found, PATHS)
-
-    def cases(self) -> Cases:
-        if len(self.lines) != 81 or not log_of(self.file).exists():
-            raise Wrong(f"{len(self.lines)} lines are in the file to be torn")
-        for number in range(1, TORN + 1):
-            yield f"torn log {number}", partial(self.judge, number)
-        print(
-            f"torn logs: {self.refused} of {TORN} starts were refused; the others found {self.found} lines,"
-            f" {self.more} more than SQLite"
-        )
-        self.folder.cleanup()
-
-
 def cases(program: str) -> Cases:
     """Each check by its name, with what judges it."""
     yield "a disk that fills up, one edit after the other", lambda: on_a_small_disk(program, "waiting")
     yield "a disk that fills up by chunks of edits", lambda: on_a_small_disk(program, "chunks")
-    yield from Torn(program).cases()
 
 
 def main() -> None:

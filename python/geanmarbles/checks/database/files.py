@@ -1,6 +1,7 @@
 """The two files of a site that lasts, read and doctored by SQLite itself, always from a copy of both."""
 
 import contextlib
+import hashlib
 import shutil
 import sqlite3
 import tempfile
@@ -11,8 +12,9 @@ from geanmarbles.client.replies import Wrong, shown
 
 # A statement of SQL, with its values.
 Statement = tuple[str, tuple[object, ...]]
-TABLE = "CREATE TABLE command (number INTEGER PRIMARY KEY, line TEXT NOT NULL) STRICT"
+TABLE = "CREATE TABLE command (number INTEGER PRIMARY KEY, line TEXT NOT NULL, digest BLOB NOT NULL) STRICT"
 LINES = "SELECT line FROM command ORDER BY number"
+ROWS = "SELECT number, line, digest FROM command ORDER BY number"
 
 
 def log_of(file: Path) -> Path:
@@ -51,28 +53,49 @@ def lines_in(connection: sqlite3.Connection) -> list[bytes]:
     return [line for (line,) in connection.execute(LINES)]
 
 
+def digests_of(lines: Iterable[bytes]) -> Iterator[bytes]:
+    """For each line the digest of the lines up to it: SHA-256 of the digest before it and then the line."""
+    digest = hashlib.sha256(b"").digest()
+    for line in lines:
+        digest = hashlib.sha256(digest + line).digest()
+        yield digest
+
+
+def seal(connection: sqlite3.Connection) -> None:
+    """Gives each line its digest, as somebody does who means to change a history."""
+    rows = connection.execute(ROWS).fetchall()
+    as_bytes = (line.encode() if isinstance(line, str) else line for _, line, _ in rows)
+    for (number, _, _), digest in zip(rows, digests_of(as_bytes)):
+        connection.execute("UPDATE command SET digest = ? WHERE number = ?", (digest, number))
+
+
 def plain(text: str) -> str:
     """A statement's text without what SQLite keeps of its spacing."""
     return "".join(text.split()).upper()
 
 
 def history(file: Path) -> list[bytes]:
-    """All lines of the history, as SQLite reads them; the file has to be sound, and to hold that table alone."""
+    """All lines of the history, as SQLite reads them; the file has to be sound, to hold that table alone, and each line
+    its digest."""
     try:
         with looked_at(file) as connection:
             sound = connection.execute("PRAGMA integrity_check").fetchall()
             mode = connection.execute("PRAGMA journal_mode").fetchall()
             schema = [text.decode() for (text,) in connection.execute("SELECT sql FROM sqlite_master")]
-            numbers = [number for (number,) in connection.execute("SELECT number FROM command ORDER BY number")]
-            lines = lines_in(connection)
+            rows = connection.execute(ROWS).fetchall()
     except sqlite3.Error as fault:
         raise Wrong(f"SQLite says of {file}: {fault}") from None
     if sound != [(b"ok",)] or mode != [(b"wal",)]:
         raise Wrong(f"SQLite's check says {sound}, and the journal mode is {mode}")
     if [plain(text) for text in schema] != [plain(TABLE)]:
         raise Wrong(f"the schema is {schema}")
+    numbers = [number for number, _, _ in rows]
+    lines = [line for _, line, _ in rows]
     if numbers != list(range(1, len(numbers) + 1)):
         raise Wrong(f"the numbers of {len(numbers)} lines aren't 1 and on: {numbers[:10]} ..")
+    for (number, _, digest), wanted in zip(rows, digests_of(lines)):
+        if digest != wanted:
+            raise Wrong(f"line {number} has the digest {digest.hex()}, wanted {wanted.hex()}")
     return lines
 
 
@@ -85,12 +108,15 @@ def found_by_sqlite(file: Path) -> list[bytes]:
         return []
 
 
-def doctored(file: Path, statements: Iterable[Statement], folder: str | Path) -> Path:
-    """A copy of both files after some statements of SQL, all in the database file."""
+def doctored(file: Path, statements: Iterable[Statement], folder: str | Path, *, sealed: bool = True) -> Path:
+    """A copy of both files after some statements of SQL, all in the database file. Each line gets its digest, unless it
+    is to show that something has changed."""
     copy = copied(file, folder, "doctored.db")
     with opened(copy) as connection:
         for statement, values in statements:
             connection.execute(statement, values)
+        if sealed:
+            seal(connection)
         connection.execute("PRAGMA wal_checkpoint(TRUNCATE)")
     return copy
 

@@ -9,22 +9,25 @@ from functools import partial
 from pathlib import Path
 
 from geanmarbles.checks.database.clients import Cases, Client, check_end, over, put, replies, run
-from geanmarbles.checks.database.files import doctored, history, opened
+from geanmarbles.checks.database.files import Statement, doctored, history, opened
 from geanmarbles.client.replies import Wrong, shown
 
 # Somebody who isn't root, for whom the system looks at a file's permissions.
 NOBODY = 65_534
 FIRST = "UPDATE command SET line = ? WHERE number = 1"
-LAST = "INSERT INTO command (line) VALUES (?)"
+LAST = "INSERT INTO command (line, digest) VALUES (?, x'')"
 STRANGE = ("CREATE TABLE post (id INTEGER PRIMARY KEY)", "INSERT INTO post VALUES (1)")
-COMMAND = "CREATE TABLE command (number INTEGER PRIMARY KEY, line {}) STRICT"
-ROW = "INSERT INTO command (line) VALUES ('x')"
+COMMAND = "CREATE TABLE command (number INTEGER PRIMARY KEY, line {}, digest BLOB NOT NULL) STRICT"
+ROW = "INSERT INTO command (line, digest) VALUES ('x', x'00')"
 # Databases of another form, by the statements that make them.
 OTHER_FORMS = {
     "a database of something else": STRANGE,
     "a table with a column of another type": (COMMAND.format("BLOB NOT NULL"), ROW.replace("'x'", "x'20'")),
     "a table with a column that may be empty": (COMMAND.format("TEXT"), ROW),
     "a table with another column": (COMMAND.format("TEXT NOT NULL, more TEXT"), ROW),
+    "a table with a digest of another type": (COMMAND.format("TEXT NOT NULL").replace("BLOB", "TEXT"),),
+    "a table with a digest that may be empty": (COMMAND.format("TEXT NOT NULL").replace("BLOB NOT NULL", "BLOB"),),
+    "the table of an older program": (COMMAND.format("TEXT NOT NULL").replace(", digest BLOB NOT NULL", ""),),
     "a table that isn't strict": (COMMAND.format("TEXT NOT NULL").replace(" STRICT", ""), ROW),
     "a second table": (COMMAND.format("TEXT NOT NULL"), *STRANGE),
     "an index": (COMMAND.format("TEXT NOT NULL"), "CREATE INDEX i ON command (line)"),
@@ -34,6 +37,20 @@ OTHER_FORMS = {
     ),
     "a view": (COMMAND.format("TEXT NOT NULL"), "CREATE VIEW v AS SELECT line FROM command"),
 }
+MOVE = "UPDATE command SET number = ? WHERE number = ?"
+# What is done to a history of 2,501 lines, and which of them is the first that doesn't fit.
+CHANGED: tuple[tuple[list[Statement], int], ...] = (
+    ([("UPDATE command SET line = line || ' ' WHERE number = 7", ())], 7),
+    ([("UPDATE command SET line = replace(line, 'post', 'Post') WHERE number = 2501", ())], 2_501),
+    ([("UPDATE command SET line = replace(line, 'bold', 'bald') WHERE number = 1", ())], 1),
+    ([("UPDATE command SET digest = zeroblob(32) WHERE number = 1001", ())], 1_001),
+    ([("UPDATE command SET digest = x'' WHERE number = 1000", ())], 1_000),
+    ([("DELETE FROM command WHERE number = 1500", ())], 1_500),
+    ([("DELETE FROM command WHERE number = 1", ())], 1),
+    ([(MOVE, (9_999, 9)), (MOVE, (9, 8)), (MOVE, (8, 9_999))], 8),
+    ([("INSERT INTO command (line, digest) SELECT line, digest FROM command WHERE number = 2501", ())], 2_502),
+    ([("UPDATE command SET digest = (SELECT digest FROM command WHERE number = 3) WHERE number = 2", ())], 2),
+)
 # A start alone, and with each option that is only for a file.
 WAYS: tuple[tuple[str, ...], ...] = ((), ("--export",), ("--compact",))
 NOT_A_LOG = "the database is not a log of commands"
@@ -134,6 +151,22 @@ def refuses_without_permission(program: str, folder: str) -> None:
     os.chmod(folder, 0o755)
 
 
+def refuses_what_must_exist(program: str, folder: str) -> None:
+    """With --must-exist a file that isn't there, or is empty, is refused, and none is made; others are taken."""
+    none, empty, file = Path(folder, "none.db"), Path(folder, "empty.db"), made(program, folder)
+    empty.touch()
+    before = sorted(os.listdir(folder))
+    for words in WAYS:
+        refuses(program, none, "there is no such file", *words, "--must-exist")
+        refuses(program, Path(folder, "none", "site.db"), "there is no such file", *words, "--must-exist")
+        refuses(program, empty, "the file is empty", *words, "--must-exist")
+    if sorted(os.listdir(folder)) != before:
+        raise Wrong(f"{before} became {sorted(os.listdir(folder))}")
+    replies(program, [put(title="V")], *over(file, "--must-exist"))
+    if len(history(file)) != 4:
+        raise Wrong(f"the history has {len(history(file))} lines")
+
+
 def refuses_what_is_no_database(program: str, folder: str) -> None:
     """Files of other kinds, and a database of which pages were overwritten."""
     for name, text in (("text", b"no database\n" * 400), ("image", b"\x89PNG\r\n\x1a\n" + bytes(range(256)) * 64)):
@@ -193,16 +226,33 @@ def refuses_wrong_lines(program: str, folder: str) -> None:
         copy.unlink()
 
 
+def refuses_changed_lines(program: str, folder: str) -> None:
+    """A history of which a line was changed, lost, moved or put in, or a digest: the first line that doesn't fit is
+    named. One that was lost from the end isn't seen."""
+    file = Path(folder, "site.db")
+    replies(program, [put(title=f"post {number}") for number in range(1, 2_501)], *over(file))
+    for statements, number in CHANGED:
+        copy = doctored(file, statements, folder, sealed=False)
+        refuses_in_every_way(program, copy, f"line {number} of the log has changed since it was written")
+        copy.unlink()
+    copy = doctored(file, [("DELETE FROM command WHERE number > 2000", ())], folder, sealed=False)
+    replies(program, [], *over(copy))
+    if len(history(copy)) != 2_000:
+        raise Wrong(f"the history has {len(history(copy))} lines")
+
+
 def cases(program: str) -> Cases:
     """Each check by its name, with what judges it."""
     checks = (
         refuses_a_second_program,
         refuses_what_it_cannot_open,
         refuses_without_permission,
+        refuses_what_must_exist,
         refuses_what_is_no_database,
         refuses_other_forms,
         refuses_other_programs,
         refuses_wrong_lines,
+        refuses_changed_lines,
     )
     for check in checks:
         yield check.__doc__, partial(in_a_folder, check, program)

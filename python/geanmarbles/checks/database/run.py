@@ -18,8 +18,9 @@ reads a copy of FILE and FILE-wal. The parts, in this order, or one of them with
 - commits: each write and each sync of the files refused once, in a run of its own: the next start finds the edits that
   were acknowledged, and of the commit that failed all edits or none;
 - disks: a disk that fills up, in a mount namespace of its own, which needs root or user namespaces and is otherwise
-  skipped; and logs that are cut, overwritten or changed by a bit, of which a start finds a front of the history with
-  all that SQLite finds;
+  skipped;
+- damage: one byte of FILE-wal turned, 500 times, and of FILE; FILE-wal cut, 100 times, or overwritten: a start is
+  refused by name and writes nothing, or has all of the history;
 - readme: the README's own example, with its `kill -9`;
 - kills: N rounds, 500 if N is left out, made within two minutes: SIGKILL at a random moment of serving a client that
   waits for its replies, or one that sends chunks, of a start, or of a --compact. Each time all edits that were
@@ -37,7 +38,18 @@ import subprocess
 from collections.abc import Callable
 from types import ModuleType
 
-from geanmarbles.checks.database import commits, disks, exports, keeping, kills, readers, readme, refused, self_test
+from geanmarbles.checks.database import (
+    commits,
+    damage,
+    disks,
+    exports,
+    keeping,
+    kills,
+    readers,
+    readme,
+    refused,
+    self_test,
+)
 from geanmarbles.checks.database.clients import Cases, Skipped
 from geanmarbles.checks.programs import missing, parser_of
 from geanmarbles.client.replies import Wrong
@@ -50,6 +62,7 @@ PARTS: dict[str, ModuleType] = {
     "readers": readers,
     "commits": commits,
     "disks": disks,
+    "damage": damage,
     "readme": readme,
     "kills": kills,
 }

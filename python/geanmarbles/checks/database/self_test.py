@@ -21,8 +21,8 @@ PATHS = tuple(f"/?p={number}" for number in range(1, 14))
 RENUMBER = "UPDATE command SET number = number - 1 WHERE number > ?"
 MOVE = "UPDATE command SET number = ? WHERE number = ?"
 LINE = "UPDATE command SET line = ? WHERE number = ?"
-APPEND = "INSERT INTO command (line) SELECT line FROM command WHERE number = ?"
-ADD = "INSERT INTO command (line) VALUES (?)"
+APPEND = "INSERT INTO command (line, digest) SELECT line, digest FROM command WHERE number = ?"
+ADD = "INSERT INTO command (line, digest) VALUES (?, x'')"
 # What is done to the file; the edits are its lines 2 to 13.
 DOCTORED: dict[str, list[Statement]] = {
     "an acknowledged edit is lost from the end": [("DELETE FROM command WHERE number > ?", (10,))],

@@ -44,27 +44,23 @@ from collections.abc import Callable, Iterable, Iterator, Sequence
 from concurrent.futures import ThreadPoolExecutor
 from pathlib import Path
 from random import Random
-from typing import Any, TypeVar
+from typing import Any
 
 from geanmarbles.arguments import Parser
 from geanmarbles.checks.fuzz import checks, kept, turns
 from geanmarbles.checks.fuzz.checks import Check, Program
 from geanmarbles.checks.fuzz.lines import Lines
 from geanmarbles.checks.fuzz.selftest import is_noticed
+from geanmarbles.checks.fuzz.shorter import SHRINKS, saved, smallest
 from geanmarbles.checks.programs import missing
 from geanmarbles.client.replies import Wrong
 from geanmarbles.paths import BUILT_PROGRAM, ROOT
 
 CHECKS = (*checks.CHECKS, *turns.CHECKS, *kept.CHECKS)
-SAVED = ROOT / "out" / "fuzz"
-# Each check with what it says, or None; and a list of lines or a line, which is made shorter.
+# Each check with what it says, or None.
 Faults = list[tuple[Check, str | None]]
-S = TypeVar("S", list[bytes], bytes)
 LISTS = 200
 SECONDS = 50
-# For how long a list is made shorter, and how many of them.
-SHRINK_SECONDS = 30
-SHRINKS = 3
 # Lists over which each check is tried against broken replies.
 SELF_TESTS = 5
 # The longest list, in bytes, that is printed too.
@@ -97,40 +93,15 @@ def faults_of(program: Program, lines: Sequence[bytes]) -> Faults:
     return found
 
 
-def shortened(items: S, fails: Callable[[S], bool], until: float) -> S:
-    """The items without what can be left out while they still fail: stretches of half the length, and so on."""
-    size = max(1, len(items) // 2)
-    while size:
-        at = 0
-        while at < len(items) and time.monotonic() < until:
-            fewer = items[:at] + items[at + size :]
-            if fails(fewer):
-                items = fewer
-            else:
-                at += size
-        size //= 2
-    return items
-
-
-def smallest(program: Program, check: Check, lines: list[bytes]) -> list[bytes]:
+def shorter(program: Program, check: Check, lines: Iterable[bytes]) -> list[bytes]:
     """A shorter list of shorter lines, against which the check has something to say too."""
-    until = time.monotonic() + SHRINK_SECONDS
-
-    def fails(others: list[bytes]) -> bool:
-        return fault_of(check, program, others) is not None
-
-    lines = shortened(lines, fails, until)
-    for at in range(len(lines)):
-        lines[at] = shortened(lines[at], lambda other: fails([*lines[:at], other, *lines[at + 1 :]]), until)
-    return lines
+    return smallest(lines, lambda others: fault_of(check, program, others) is not None)
 
 
 def save(program: Program, check: Check, lines: Iterable[bytes], name: object) -> None:
     """Saves a list that fails, made as short as can be, and says how to run it again."""
-    lines = smallest(program, check, list(lines))
-    SAVED.mkdir(parents=True, exist_ok=True)
-    path = SAVED / f"{name}-{check.__name__}.jsonl"
-    path.write_bytes(b"".join(line + b"\n" for line in lines))
+    lines = shorter(program, check, lines)
+    path = saved(f"{name}-{check.__name__}", lines)
     print(f"    {fault_of(check, program, lines)}")
     print(f"    the shortest list that was found: tests/fuzz/run --list {path.relative_to(ROOT)}")
     if path.stat().st_size <= PRINTED:

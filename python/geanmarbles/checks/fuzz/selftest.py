@@ -7,6 +7,7 @@ from contextlib import closing
 from pathlib import Path
 from typing import NamedTuple
 
+from geanmarbles.checks.database.files import seal
 from geanmarbles.checks.fuzz.checks import CALLS, Check, Program
 from geanmarbles.checks.fuzz.values import command_of
 from geanmarbles.client.replies import Wrong, refusal_of
@@ -143,6 +144,7 @@ def publishes_drafts(connection: sqlite3.Connection) -> None:
         for post in command["site"].get("posts", []) if command["cmd"] == "import" else ():
             post["status"] = "publish"
         connection.execute("UPDATE command SET line = ? WHERE number = ?", (json.dumps(command), number))
+    seal(connection)
 
 
 # By the name of each check, the programs that it must notice.

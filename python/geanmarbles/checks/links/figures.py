@@ -104,7 +104,7 @@ REPEATED = [
         [Place("README.md", r"processor for all proofs \((\d+ \w+ \d+)\)")],
     ),
     (Place(WORDPRESS, r"Figures of (\d+ \w+ \d+)"), [Place("README.md", r"in the same run, (\d+ \w+ \d+)")]),
-    (Place(WORDPRESS, r"WordPress\s+(\d+\.\d+\.\d+)"), [Place("README.md", r"beside WordPress (\d+\.\d+\.\d+)")]),
+    (Place(WORDPRESS, r"WordPress\s+(\d+\.\d+\.\d+)"), [Place("README.md", r"engine and WordPress (\d+\.\d+\.\d+)")]),
     (Place(WORDPRESS, r"PHP (\d+\.\d+) "), [Place("README.md", r"own functions \(PHP (\d+\.\d+)\)")]),
     (
         Place(WORDPRESS, r"^\| `\[b\]`, 99,999 times \| [^|]+ \| ([^|]+?) \|"),

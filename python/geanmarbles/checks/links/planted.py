@@ -60,6 +60,10 @@ CHANGED = [
     ("crates/call_plans/README.md", "**Limits**", "**Use**", "the heads are "),
     ("crates/call_plans/README.md", "# call_plans", "# call_plan", "the title isn't call_plans"),
     ("crates/byte_io/README.md", "# byte_io", "# bytes_io", "the title isn't byte_io"),
+    ("tests/parts.txt", "tests/hostile/run", "tests/hostile/walk", "no script tests/hostile/walk"),
+    ("tests/parts.txt", "test      tests/ends/run", "quick     tests/ends/run", "tests/ends/run is no part of ./test"),
+    ("tests/README.md", "| [cost/run](cost/run)", "| [cost](cost/run)", "it has no row of cost/run"),
+    ("test", "(tests/reach/run)", "(reach)", "it doesn't say what tests/reach/run is for"),
     ("docs/ARCHITECTURE.md", "| [`byte_io`]", "| [`bytes_io`]", "isn't what tools/index makes of the sources"),
 ]
 

@@ -31,12 +31,17 @@ The times of CONTRIBUTING.md's table are those that other documents and scripts 
 README.md repeats, and README's numbers of lines, functions and wrong bodies about those of the sources; figures.py has
 the places.
 
+Each script of tests/ is a part of ./test by tests/parts.txt, and the head of ./test and the table of tests/README.md
+say what it is for; so does the help of tests/unproved of its parts.
+
 A line is printed for each thing that is missing. The last line is 'N passed, M failed', over the documents. The exit
 status is 0 if nothing is missing. With --self-test wrong sentences, names and figures are planted in a copy of the
 repository, where the check must find each; the last line is then over these.
 """
 
 import argparse
+import itertools
+import os
 import re
 import subprocess
 import sys
@@ -61,7 +66,9 @@ from geanmarbles.checks.links.reading import (
     rows_of,
     text_of,
 )
-from geanmarbles.paths import CRATES, ROOT
+from geanmarbles.checks import unproved
+from geanmarbles.checks.parts import PARTS, lines_of
+from geanmarbles.paths import CRATES, ROOT, TESTS
 from geanmarbles.repository import index, theorem
 from geanmarbles.repository.crates import own_crates, read_crates
 
@@ -86,6 +93,8 @@ MARKED = re.compile(r"`([\w:]+)`(°?)")
 ONE_CLAUSE = re.compile(r"\bensures\*? \{")
 FUNCTION_NAME = re.compile(r"^function: (?:\w+::)*(\w+)$", re.M)
 FUNCTION_PATH = re.compile(r"^function: *(\S+)$", re.M)
+# The runs that tests/parts.txt lists parts of, and what `./test` runs beside its parts.
+RUNS, BESIDE = ("test", "quick", "unproved"), {"tests/wrong_bodies/run"}
 # What README.md has at most.
 MOST_LINES = 190
 # What a crate's README.md has, in this order, in at most so many lines.
@@ -277,6 +286,34 @@ def check_trusted(checks: Checks, text: str) -> None:
         checks.check(named, PROOFS, f"the library {name} isn't named as trusted")
 
 
+def check_parts(checks: Checks) -> None:
+    """The parts of the runs of the whole: each is a script, and each script is one, and the documents name it."""
+    text = PARTS.read_text(encoding="utf-8")
+    parts = lines_of(text)
+    scripts = {words[0] for _, words in parts}
+    for name in sorted(scripts):
+        checks.check(os.access(ROOT / name, os.X_OK), PARTS, f"no script {name}")
+    for name in sorted({run for run, _ in parts} - set(RUNS)):
+        checks.check(False, PARTS, f"there is no run {name}")
+    there = {str(it.relative_to(ROOT)) for it in TESTS.glob("*/run")}
+    whole = {words[0] for run, words in parts if run == "test"} | BESIDE
+    for name in sorted(there - whole):
+        checks.check(False, PARTS, f"{name} is no part of ./test")
+    shown, table, head = ROOT / "test", TESTS / "README.md", unproved.__doc__ or ""
+    for name in sorted(whole):
+        checks.check(name in said_by(shown), shown, f"it doesn't say what {name} is for")
+        link = name.removeprefix("tests/")
+        checks.check(f"\n| [{link}](" in table.read_text(encoding="utf-8"), table, f"it has no row of {link}")
+    for name in sorted({words[0] for run, words in parts if run == "unproved"}):
+        checks.check(f"- {name}" in head, Path(unproved.__file__), f"it doesn't say what {name} is for")
+
+
+def said_by(script: Path) -> str:
+    """What the comment at the head of a script says."""
+    lines = script.read_text(encoding="utf-8").splitlines()[1:]
+    return " ".join(it[1:].strip() for it in itertools.takewhile(lambda it: it.startswith("#"), lines))
+
+
 def check_made(checks: Checks) -> None:
     """The pages that are made of the sources are up to date, and a sentence says what each definition there is."""
     other = index.stale()
@@ -334,6 +371,7 @@ def check_all() -> tuple[int, int]:
     check_trusted(checks, text)
     check_crates(checks)
     check_made(checks)
+    check_parts(checks)
     return len(checks.seen) - len(checks.bad), len(checks.bad)
 
 

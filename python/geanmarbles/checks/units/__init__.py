@@ -1,0 +1,1 @@
+"""Tests of single functions: what a whole run reaches seldom, or only by chance."""
