@@ -163,7 +163,7 @@ class Place(NamedTuple):
     def run(self, *words: str | Path, given: bytes = b"") -> bytes:
         how: dict[str, Any] = {"capture_output": True, "env": self.env, "cwd": self.outside, "timeout": SECONDS}
         ran = subprocess.run(self.words([self.root / words[0], *words[1:]]), input=given, **how)
-        must(ran.returncode == 0, f"{words[0]} ends with {ran.returncode}: {ran.stderr[-500:]!r}")
+        must(ran.returncode == 0, f"{words[0]} ends with {ran.returncode}: {ran.stdout[-300:]!r} {ran.stderr[-500:]!r}")
         return bytes(ran.stdout)
 
     def serves_pages(self) -> None:

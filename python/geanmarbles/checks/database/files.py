@@ -15,6 +15,8 @@ Statement = tuple[str, tuple[object, ...]]
 TABLE = "CREATE TABLE command (number INTEGER PRIMARY KEY, line TEXT NOT NULL, digest BLOB NOT NULL) STRICT"
 LINES = "SELECT line FROM command ORDER BY number"
 ROWS = "SELECT number, line, digest FROM command ORDER BY number"
+# What SQLite's faults come as: one that quotes a damaged schema may be no text.
+FAULTS = (sqlite3.Error, UnicodeDecodeError)
 
 
 def log_of(file: Path) -> Path:
@@ -83,7 +85,7 @@ def history(file: Path) -> list[bytes]:
             mode = connection.execute("PRAGMA journal_mode").fetchall()
             schema = [text.decode() for (text,) in connection.execute("SELECT sql FROM sqlite_master")]
             rows = connection.execute(ROWS).fetchall()
-    except sqlite3.Error as fault:
+    except FAULTS as fault:
         raise Wrong(f"SQLite says of {file}: {fault}") from None
     if sound != [(b"ok",)] or mode != [(b"wal",)]:
         raise Wrong(f"SQLite's check says {sound}, and the journal mode is {mode}")
@@ -104,7 +106,7 @@ def found_by_sqlite(file: Path) -> list[bytes]:
     try:
         with looked_at(file) as connection:
             return lines_in(connection)
-    except sqlite3.Error:
+    except FAULTS:
         return []
 
 

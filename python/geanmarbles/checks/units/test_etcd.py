@@ -102,7 +102,7 @@ def test_a_refusal_after_a_lost_call_may_be_of_a_second_try() -> None:
 
 def test_a_call_goes_round_all_endpoints_until_its_time_is_over() -> None:
     client = Listed()
-    raised(Unreachable, lambda: client.call("/v3/kv/txn", {}, 0.25))
+    raised(Unreachable, lambda: client.call("/v3/kv/txn", {}, 2))
     assert client.asked[:6] == [0, 1, 2, 0, 1, 2] and len(client.asked) % 3 == 0
 
 
