@@ -105,11 +105,12 @@ def is_shown_there(reply: Any) -> bool:
 
 
 def rows() -> Iterator[tuple[str, str]]:
-    """The worked rows that WordPress can say, as their names and lines."""
+    """The worked rows of `site` that WordPress can say, as their names and lines."""
     for path in sorted((HERE.parent / "rows").glob("*.json")):
         for row in json.loads(path.read_text(encoding="utf-8")):
             given, written = row.get("input"), row.get("output")
-            if row.get("args") or not isinstance(given, dict) or not isinstance(written, dict):
+            is_of_another = row.get("args") or row.get("program", "site") != "site"
+            if is_of_another or not isinstance(given, dict) or not isinstance(written, dict):
                 continue
             lines, replies = given.get("lines", []), written.get("replies", [])
             asks = any(isinstance(it, dict) and it.get("cmd") == "get" for it in lines)
