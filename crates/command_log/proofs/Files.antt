@@ -1,7 +1,7 @@
 -- What an open of files finds: the rows ascend, and the lines are those of the database that the files held.
-use Rattle.std.proofs.Common.{◌≡◌, inl, inr, true, ℕ, List, sym, ap, subst, ◌∙◌, lit≤}
+use Rattle.std.proofs.Common.{◌≡◌, ◌⊎◌, inl, inr, true, ℕ, List, sym, ap, ap₂, subst, ◌∙◌, lit≤}
 use Rattle.std.proofs.Math.Logic.{∥∥₁_elim}
-use Rattle.std.specs.Prelude.{IsTrue}
+use Rattle.std.specs.Prelude.{IsTrue, Bool, not, ◌&&◌, refl}
 use Rattle.sqlite_disk.specs.declared.Disk.{Ghosts}
 use Rattle.sqlite.specs.Recovery.{Image}
 use Rattle.sqlite.specs.Tree.{Trees}
@@ -20,7 +20,11 @@ use Rattle.sqlite_store.proofs.ListingLemmas.{all_ordered}
 use Rattle.sqlite_catalog.specs.Listing.{IsSound}
 use Rattle.sqlite_catalog.proofs.LayoutLemmas.{laid_out}
 use Rattle.sqlite.specs.Held.{Held, state}
-use Rattle.sqlite.specs.Files.{over_files, file_state, IsOpened, AreFoundIn}
+use Rattle.sqlite.specs.Files.{over_files, file_state, image_of, Finds, IsOpened, AreFoundIn}
+use Rattle.sqlite.specs.WalReads.{AreClean, IsClean, OnlyReads}
+use Rattle.log_tails.specs.declared.tail.Tail.{Tail}
+use Rattle.log_tails.specs.Tails.{IsTailOf}
+use Rattle.sqlite_disk.specs.declared.Files.{Files}
 use Rattle.sqlite.specs.Start.{FindsIn}
 use Rattle.command_log.specs.Table.{IsOther, log_schema}
 use Rattle.std.proofs.Common.{◌≢◌, true≢false, false, Ok, Err, Result, IfOk, arith}
@@ -28,7 +32,7 @@ use Rattle.sqlite.specs.State.{HasCleanDisk, Survives}
 use Rattle.sqlite_store.specs.Laws.{shut_if_dirty_at}
 use Rattle.command_log.specs.Lines.{IsRising, IsOrderly, HoldsLines, IsOpen, IsIdle, lines_of}
 use Rattle.command_log.proofs.States.{ShutsIfDirty, clean_of}
-use Rattle.command_log.specs.Found.{FindsLines, ReadsLines, RefusesOther}
+use Rattle.command_log.specs.Found.{FindsLines, ReadsLines, RefusesOther, IsCutShort, EndsWhole}
 use Rattle.sqlite.specs.declared.error.Error.{Error}
 use Rattle.sqlite.specs.declared.error.Error.TheVariants.{SqliteFailure, SqlInputError, InvalidParameterCount, ExecuteReturnedResults, InvalidQuery}
 use Rattle.sqlite.specs.declared.error.Error.TheVariants.{MultipleStatement, QueryReturnedNoRows, InvalidColumnIndex, InvalidColumnType}
@@ -36,8 +40,9 @@ use Rattle.sqlite.specs.declared.error.Error.TheVariants.{IntegralValueOutOfRang
 use Rattle.sqlite.specs.declared.error.ErrorCode.TheVariants as code
 use Rattle.sqlite.specs.Opening.{is_open_error}
 use Rattle.command_log.specs.declared.fault.LogFault.{LogFault}
-use Rattle.command_log.specs.declared.fault.LogFault.TheVariants.{NotALog}
-use Rattle.command_log.specs.Faults.{fault_of}
+use Rattle.command_log.specs.declared.fault.LogFault.TheVariants.{NotALog, OutOfMemory, Busy, CannotOpen, Damaged, DiskFull, Disk, TooBig, NumbersUsedUp}
+use Rattle.command_log.specs.declared.fault.LogFault.TheVariants.{Shut, NotText, Altered, DamagedTail, Interrupted, Store}
+use Rattle.command_log.specs.Faults.{fault_of, IsPlain}
 
 module _ (size : ℕ) (wanted : List Wanted) (pages : PageMap) (ours : IsOurs size true wanted pages) (sound : IsSound log_schema (file_trees size wanted pages))
   where
@@ -120,46 +125,54 @@ module _ {D : Type 0} {g : Ghosts D} (c : Held (FileStore D g)) (image : Image) 
   opened_over P opened (Ok log) stays survives = λ after. let clean : HasCleanDisk (file_state c) = omega (arith, survives.clean, after) in
       stays after (opened clean).0.is_open
 
--- no error of the database says that it holds something else than a log
-pub never_other : (e : Error) → fault_of e ≢ NotALog
-never_other (SqliteFailure (code.ConstraintViolation rule)) h = cc
-never_other (SqliteFailure code.TypeMismatch) h = cc
-never_other (SqliteFailure code.IntegerOverflow) h = cc
-never_other (SqliteFailure code.NoRowid) h = cc
-never_other (SqliteFailure code.ForeignKeyMismatch) h = cc
-never_other (SqliteFailure code.TooDeep) h = cc
-never_other (SqliteFailure code.NoClock) h = cc
-never_other (SqliteFailure code.NameTaken) h = cc
-never_other (SqliteFailure code.BadName) h = cc
-never_other (SqliteFailure code.BadKey) h = cc
-never_other (SqliteFailure code.BadText) h = cc
-never_other (SqliteFailure code.SchemaTooBig) h = cc
-never_other (SqliteFailure code.TransactionState) h = cc
-never_other (SqliteFailure code.NoSuchSavepoint) h = cc
-never_other (SqliteFailure code.OperationInterrupted) h = cc
-never_other (SqliteFailure code.NotADatabase) h = cc
-never_other (SqliteFailure code.DatabaseCorrupt) h = cc
-never_other (SqliteFailure code.CannotOpen) h = cc
-never_other (SqliteFailure code.DatabaseBusy) h = cc
-never_other (SqliteFailure code.TooBig) h = cc
-never_other (SqliteFailure code.OutOfMemory) h = cc
-never_other (SqliteFailure code.SystemIoFailure) h = cc
-never_other (SqliteFailure code.DiskFull) h = cc
-never_other (SqliteFailure code.Closed) h = cc
-never_other (SqlInputError fault) h = cc
-never_other (InvalidParameterCount given wanted) h = cc
-never_other ExecuteReturnedResults h = cc
-never_other InvalidQuery h = cc
-never_other MultipleStatement h = cc
-never_other QueryReturnedNoRows h = cc
-never_other (InvalidColumnIndex at) h = cc
-never_other (InvalidColumnType at type) h = cc
-never_other (IntegralValueOutOfRange at) h = cc
-never_other (Utf8Error at) h = cc
+  -- what is known of an honest disk, of a log that is open over it
+  pub known_over : {E : Type 0} (P : Trees → Type 0) (Known : Type 0) → (HasCleanDisk (file_state c) → Known) → (r : Result (Held (FileStore D g)) E)
+      → IfOk r (λ log. Survives (file_state c) (state over_files log) P) → IfOk r (λ log. IsOpen over_files log → Known)
+  known_over P Known known (Err e) survives = tt
+  known_over P Known known (Ok log) survives = λ up. let after = clean_of over_files shuts log up in
+      let clean : HasCleanDisk (file_state c) = omega (arith, survives.clean, after) in
+      known clean
+
+-- no error of the database is of what the files hold
+pub plain : (e : Error) → IsPlain (fault_of e)
+plain (SqliteFailure (code.ConstraintViolation rule)) = tt
+plain (SqliteFailure code.TypeMismatch) = tt
+plain (SqliteFailure code.IntegerOverflow) = tt
+plain (SqliteFailure code.NoRowid) = tt
+plain (SqliteFailure code.ForeignKeyMismatch) = tt
+plain (SqliteFailure code.TooDeep) = tt
+plain (SqliteFailure code.NoClock) = tt
+plain (SqliteFailure code.NameTaken) = tt
+plain (SqliteFailure code.BadName) = tt
+plain (SqliteFailure code.BadKey) = tt
+plain (SqliteFailure code.BadText) = tt
+plain (SqliteFailure code.SchemaTooBig) = tt
+plain (SqliteFailure code.TransactionState) = tt
+plain (SqliteFailure code.NoSuchSavepoint) = tt
+plain (SqliteFailure code.OperationInterrupted) = tt
+plain (SqliteFailure code.NotADatabase) = tt
+plain (SqliteFailure code.DatabaseCorrupt) = tt
+plain (SqliteFailure code.CannotOpen) = tt
+plain (SqliteFailure code.DatabaseBusy) = tt
+plain (SqliteFailure code.TooBig) = tt
+plain (SqliteFailure code.OutOfMemory) = tt
+plain (SqliteFailure code.SystemIoFailure) = tt
+plain (SqliteFailure code.DiskFull) = tt
+plain (SqliteFailure code.Closed) = tt
+plain (SqlInputError fault) = tt
+plain (InvalidParameterCount given wanted) = tt
+plain ExecuteReturnedResults = tt
+plain InvalidQuery = tt
+plain MultipleStatement = tt
+plain QueryReturnedNoRows = tt
+plain (InvalidColumnIndex at) = tt
+plain (InvalidColumnType at type) = tt
+plain (IntegralValueOutOfRange at) = tt
+plain (Utf8Error at) = tt
 
 pub fails_to_open : {D : Type 0} {g : Ghosts D} (image : Image) (e : Error) (f : LogFault) → IsTrue (is_open_error e) → f ≡ fault_of e
     → RefusesOther {D = D} {g = g} image (Err f)
-fails_to_open {D} {g} image e f named is none = absurd (never_other e (sym is ∙ fault_in none))
+fails_to_open {D} {g} image e f named is none = absurd (subst IsPlain (sym is ∙ fault_in none) (plain e))
   where
     fault_in : ◌≡◌ {A = Result (Held (FileStore D g)) LogFault} (Err f) (Err NotALog) → f ≡ NotALog
     fault_in h = cc
@@ -170,3 +183,48 @@ refuses_over {D} {g} c image found f other none = (c, other (fault_in none), fou
   where
     fault_in : ◌≡◌ {A = Result (Held (FileStore D g)) LogFault} (Err f) (Err NotALog) → f ≡ NotALog
     fault_in h = cc
+
+-- a fault that is not of the log's end
+pub not_cut : {D : Type 0} (g : Ghosts D) (image : Image) (f : LogFault) → (f ≡ NotALog) ⊎ IsPlain f → IsCutShort {D = D} {g = g} image (Err f)
+not_cut g image (DamagedTail commits following) (inl other) = absurd (let e = other in cc)
+not_cut g image (DamagedTail commits following) (inr plain) = absurd plain
+not_cut g image NotALog h = tt
+not_cut g image OutOfMemory h = tt
+not_cut g image Busy h = tt
+not_cut g image CannotOpen h = tt
+not_cut g image Damaged h = tt
+not_cut g image DiskFull h = tt
+not_cut g image Disk h = tt
+not_cut g image TooBig h = tt
+not_cut g image NumbersUsedUp h = tt
+not_cut g image Shut h = tt
+not_cut g image NotText h = tt
+not_cut g image (Altered n) h = tt
+not_cut g image Interrupted h = tt
+not_cut g image Store h = tt
+
+-- what was found of the end of a log, if the disk was honest
+pub ends_whole : {D : Type 0} (g : Ghosts D) (image : Image) (files : Files D) (tail : Tail) → (IsClean g files.log → IsTailOf image.log tail) → not tail.is_whole ≡ false
+    → AreClean g files.log files.db → EndsWhole image
+ends_whole g image files tail is no_damage clean = record {
+  tail = tail;
+  is = is (first (g.is_clean files.log) (g.is_clean files.db) clean);
+  whole = then_true tail.is_whole no_damage;
+}
+  where
+    first : (a b : Bool) → IsTrue (a && b) → IsTrue a
+    first true b h = refl
+    first false b h = h
+
+    then_true : (b : Bool) → not b ≡ false → IsTrue b
+    then_true true h = refl
+    then_true false h = absurd (true≢false h)
+
+-- what an open of files finds, said of what they held before a look at the log
+pub finds_in : {D : Type 0} {g : Ghosts D} (c : Held (FileStore D g)) (before after : Files D) → OnlyReads g before.log after.log → after.db ≡ before.db
+    → Finds after c → FindsIn (image_of g before) (file_state c)
+finds_in {D} {g} c before after log db finds =
+    subst (λ i. FindsIn i (file_state c)) (ap₂ images log.seen (ap g.seen db)) (record { holds = finds.holds; reads = finds.reads })
+  where
+    images : List ℕ → List ℕ → Image
+    images l d = record { log = l; db = d }

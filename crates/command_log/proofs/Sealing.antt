@@ -2,8 +2,8 @@
 use Rattle.std.proofs.Common.{◌≡◌, ◌≢◌, ℕ, ℤ, Option, Some, zero, suc, ◌<◌, ◌+◌, List, [], ◌∷◌, ◌++◌, length, map, take, drop, get_or, refl, sym, ap, subst, ◌∙◌, arith, append-nil}
 use Rattle.std.proofs.Common.{length-append}
 use Rattle.std.proofs.lemmas.List.{append_assoc, map-append, take-append-drop, take-map, length-map, length-take-le, take_more, get_or-map, get_or-append-add}
-use Rattle.std.proofs.lemmas.List.{get_or_append_left, get_or_default}
-use Rattle.std.proofs.Math.Seq.{take-append-add}
+use Rattle.std.proofs.lemmas.List.{get_or_append_left, get_or_default, take-append-le}
+use Rattle.std.proofs.Math.Seq.{take-append-add, take-length}
 use Rattle.sha2.specs.Sha256.{sha256}
 use Rattle.line_digests.specs.Digests.{digest_after, digest_of, digests_after, digests_of}
 use Rattle.line_digests.proofs.Digests.{after_both, after_more, digests_more}
@@ -57,9 +57,9 @@ module _ (rows : List Row) (up : IsRising rows) (old : Tested) (n : ℕ) (shown 
 
   pub go_on : (new : Tested) → Tests old shown new → IsTested rows new
   go_on new tests =
-      let all : take (length shown) shown ≡ shown = take_whole shown in
+      let all : take (length shown) shown ≡ shown = take-length shown in
       let long : length shown ≡ length kept = ap length shown_are ∙ length-map kept row_of_query in
-      let whole : take (length shown) kept ≡ kept = ap (λ k. take k kept) long ∙ take_whole kept in
+      let whole : take (length shown) kept ≡ kept = ap (λ k. take k kept) long ∙ take-length kept in
       record {
         front = tested.front ++ kept;
         are = split ∙ sym (append_assoc tested.front kept (drop n rest)) ∙ ap (λ l. (tested.front ++ kept) ++ l)
@@ -70,10 +70,6 @@ module _ (rows : List Row) (up : IsRising rows) (old : Tested) (n : ℕ) (shown 
             ∙ ap (λ l. digest_of (map line_in (tested.front ++ l))) whole;
         count = tests.count ∙ ap (λ k. k + length shown) tested.count ∙ ap (λ k. length tested.front + k) long ∙ sym (length-append tested.front kept);
       }
-    where
-      take_whole : (xs : List Row) → take (length xs) xs ≡ xs
-      take_whole [] = refl
-      take_whole (x ∷ xs) = ap (λ l. x ∷ l) (take_whole xs)
 
   -- a row that misses its digest
   pub misses : (m : ℕ) → Misses old shown m → (at : ℕ) × (m ≡ at + 1) × IsAltered rows at
@@ -87,7 +83,7 @@ module _ (rows : List Row) (up : IsRising rows) (old : Tested) (n : ℕ) (shown 
       let here : (d : Row) → get_or rows (length tested.front + at) d ≡ row = λ d. ap (λ l. get_or l (length tested.front + at) d) split
       ∙ get_or-append-add tested.front (kept ++ drop n rest) at d ∙ get_or_append_left kept (drop n rest) d at low ∙ get_or_default kept at d [] low in
       let first : take (length tested.front + at) rows ≡ tested.front ++ take at kept = ap (take (length tested.front + at)) split
-      ∙ take-append-add tested.front (kept ++ drop n rest) at ∙ ap (λ l. tested.front ++ l) (take_front kept (drop n rest) at low) in
+      ∙ take-append-add tested.front (kept ++ drop n rest) at ∙ ap (λ l. tested.front ++ l) (take-append-le at kept (drop n rest) (omega (arith, low))) in
       let long : length rows ≡ length tested.front + (length kept + length (drop n rest)) = ap length split ∙ length-append tested.front (kept ++ drop n rest)
       ∙ ap (λ k. length tested.front + k) (length-append kept (drop n rest)) in (
         length tested.front + at,
@@ -102,11 +98,6 @@ module _ (rows : List Row) (up : IsRising rows) (old : Tested) (n : ℕ) (shown 
               (ap text_in shows));
         },
       )
-    where
-      take_front : (xs ys : List Row) (k : ℕ) → k < length xs → take k (xs ++ ys) ≡ take k xs
-      take_front [] ys k low = absurd (omega (arith, low))
-      take_front (x ∷ xs) ys zero low = refl
-      take_front (x ∷ xs) ys (suc k) low = ap (λ l. x ∷ l) (take_front xs ys k (omega (arith, low)))
 
 -- all rows were tested
 pub tested_all : (rows : List Row) (t : Tested) → rows_after t.place rows ≡ [] → IsTested rows t → AreSealed rows
@@ -118,39 +109,26 @@ last_digest rows t none tested = let same : rows ≡ tested.front = tested.are �
     tested.digest ∙ ap (λ l. digest_of (map line_in l)) (sym same)
 
 -- one more row of a query
-pub tests_more : (old mid new : Tested) (shown : List Row) (row : Row) → Tests old shown mid → sum_in row ≡ sha256 (mid.digest ++ text_in row)
-    → new.digest ≡ sha256 (mid.digest ++ text_in row) → new.place ≡ Some (id_in (column row 0)) → new.lines ≡ mid.lines + 1
-    → Tests old (shown ++ row ∷ []) new
-tests_more old mid new shown row tests fit digest place count = record {
-  fit = map-append sum_in shown (row ∷ []) ∙ ap (λ ds. ds ++ sum_in row ∷ []) tests.fit
-      ∙ ap (λ d. digests_after old.digest (map text_in shown) ++ d ∷ []) (fit ∙ ap (λ (d : List ℕ). sha256 (d ++ text_in row)) tests.digest)
-      ∙ sym (digests_more old.digest (map text_in shown) (text_in row ∷ [])) ∙ ap (digests_after old.digest) (sym (map-append text_in shown (row ∷ [])));
-  digest = digest ∙ ap (λ (d : List ℕ). sha256 (d ++ text_in row)) tests.digest ∙ sym (after_more old.digest (map text_in shown) (text_in row))
-      ∙ ap (digest_after old.digest) (sym (map-append text_in shown (row ∷ [])));
+pub tests_more : (old mid new : Tested) (shown : List Row) (r : Row) → Tests old shown mid → sum_in r ≡ sha256 (mid.digest ++ text_in r)
+    → new.digest ≡ sha256 (mid.digest ++ text_in r) → new.place ≡ Some (id_in (column r 0)) → new.lines ≡ mid.lines + 1
+    → Tests old (shown ++ r ∷ []) new
+tests_more old mid new shown r tests fit digest place count = record {
+  fit = map-append sum_in shown (r ∷ []) ∙ ap (λ ds. ds ++ sum_in r ∷ []) tests.fit
+      ∙ ap (λ d. digests_after old.digest (map text_in shown) ++ d ∷ []) (fit ∙ ap (λ (d : List ℕ). sha256 (d ++ text_in r)) tests.digest)
+      ∙ sym (digests_more old.digest (map text_in shown) (text_in r ∷ [])) ∙ ap (digests_after old.digest) (sym (map-append text_in shown (r ∷ [])));
+  digest = digest ∙ ap (λ (d : List ℕ). sha256 (d ++ text_in r)) tests.digest ∙ sym (after_more old.digest (map text_in shown) (text_in r))
+      ∙ ap (digest_after old.digest) (sym (map-append text_in shown (r ∷ [])));
   place = place ∙ sym (last_place old.place shown);
-  count = count ∙ ap (λ k. k + 1) tests.count ∙ omega (arith, length-append shown (row ∷ []));
+  count = count ∙ ap (λ k. k + 1) tests.count ∙ omega (arith, length-append shown (r ∷ []));
 }
   where
-    last_place : (before : Option ℤ) (xs : List Row) → place_after before (xs ++ row ∷ []) ≡ Some (id_in (column row 0))
+    last_place : (before : Option ℤ) (xs : List Row) → place_after before (xs ++ r ∷ []) ≡ Some (id_in (column r 0))
     last_place before [] = refl
     last_place before (x ∷ xs) = last_place (Some (id_in (column x 0))) xs
 
--- and one that misses its digest
-pub missed : (old mid : Tested) (rows : List Row) (i : ℕ) (row : Row) → i < length rows → row ≡ get_or rows i row → Tests old (take i rows) mid
-    → sum_in row ≢ sha256 (mid.digest ++ text_in row) → (n : ℕ) → n ≡ mid.lines + 1 → Misses old rows n
-missed old mid rows i row low is tests other n next = record {
-  at = i;
-  row = row;
-  within = low;
-  is = is;
-  number = next ∙ ap (λ k. k + 1) (tests.count ∙ ap (λ k. old.lines + k) (length-take-le i rows (omega (arith, low))));
-  before = tests.fit;
-  differs = λ same. other (same ∙ ap (λ (d : List ℕ). sha256 (d ++ text_in row)) (sym tests.digest));
-}
-
-pub tests_next : (old mid new : Tested) (rows : List Row) (i : ℕ) (row : Row) → i < length rows → row ≡ get_or rows i row → Tests old (take i rows) mid
-    → sum_in row ≡ sha256 (mid.digest ++ text_in row) → new.digest ≡ sha256 (mid.digest ++ text_in row) → new.place ≡ Some (id_in (column row 0))
+pub tests_next : (old mid new : Tested) (rows : List Row) (i : ℕ) (r : Row) → i < length rows → r ≡ get_or rows i r → Tests old (take i rows) mid
+    → sum_in r ≡ sha256 (mid.digest ++ text_in r) → new.digest ≡ sha256 (mid.digest ++ text_in r) → new.place ≡ Some (id_in (column r 0))
     → new.lines ≡ mid.lines + 1 → Tests old (take (i + 1) rows) new
-tests_next old mid new rows i row low is tests fit digest place count =
-    subst (λ l. Tests old l new) (sym (take_more rows i row low ∙ ap (λ x. take i rows ++ x ∷ []) (sym is)))
-    (tests_more old mid new (take i rows) row tests fit digest place count)
+tests_next old mid new rows i r low is tests fit digest place count =
+    subst (λ l. Tests old l new) (sym (take_more rows i r low ∙ ap (λ x. take i rows ++ x ∷ []) (sym is)))
+    (tests_more old mid new (take i rows) r tests fit digest place count)

@@ -33,6 +33,12 @@ fault_of (SqliteFailure code.OperationInterrupted) = fault.Interrupted
 fault_of (Utf8Error at) = fault.NotText
 fault_of _ = fault.Store
 
+-- a fault that is not of what the files hold as they are opened
+abbrev pub IsPlain : LogFault → Type 0
+IsPlain fault.NotALog = ⊥
+IsPlain (fault.DamagedTail commits following) = ⊥
+IsPlain _ = ⊤
+
 -- Why a call failed on a log that was open, by what it met between two states. `Own` says when the faults of the call
 -- itself come. It never fails as shut.
 abbrev pub IsCaused : State → State → (LogFault → Type 0) → LogFault → Type 0
@@ -64,7 +70,7 @@ IsTooLong line = 10 ^ 9 < 104 + length line
 abbrev pub IsUsedUp : List Row → ℕ → Type 0
 IsUsedUp rows more = fits_i64 (next_rowid rows +ℤ pos more) ≡ false
 
--- the first so many rows have the digests of the lines up to them, and the one after them doesn't
+-- the row at n, counted from 0, doesn't have the digest of the lines up to it, and each row before it does
 pub record IsAltered (rows : List Row) (n : ℕ) : Type 0 where
   pub row : Row
   pub within : n < length rows

@@ -1,5 +1,7 @@
 -- What an open of files finds.
-use Rattle.std.specs.Prelude.{◌≡◌, ℕ, List, [], Result, IsErrOf}
+use Rattle.std.specs.Prelude.{◌≡◌, ℕ, List, [], Result, Err, IsErrOf, IsTrue}
+use Rattle.log_tails.specs.declared.tail.Tail.{Tail}
+use Rattle.log_tails.specs.Tails.{IsTailOf}
 use Rattle.sqlite.specs.Recovery.{Image}
 use Rattle.sqlite.specs.Tree.{Trees}
 use Rattle.sqlite.specs.Effect.{Database, IsDatabase}
@@ -7,16 +9,31 @@ use Rattle.sqlite.specs.Files.{HoldsDatabase, AreFoundIn, file_state, image_of}
 use Rattle.sqlite.specs.WalFiles.{outcomes}
 use Rattle.sqlite_disk.specs.declared.Disk.{Ghosts}
 use Rattle.sqlite_disk.specs.declared.Files.{Files}
+use Rattle.sqlite.specs.WalReads.{IsClean}
 use Rattle.sqlite_store.specs.declared.store.FileStore.{FileStore}
 use Rattle.sqlite_store.specs.FileStore as store
 use Rattle.sqlite.specs.Held.{Held}
 use Rattle.sqlite.specs.State.{HasCleanDisk}
 use Rattle.sqlite.specs.Start.{FindsIn}
 use Rattle.command_log.specs.declared.fault.LogFault.{LogFault}
-use Rattle.command_log.specs.declared.fault.LogFault.TheVariants.{NotALog}
+use Rattle.command_log.specs.declared.fault.LogFault.TheVariants.{NotALog, DamagedTail}
 use Rattle.command_log.specs.Table.{IsOther}
 use Rattle.sqlite.specs.Files.{over_files}
 use Rattle.command_log.specs.Lines.{HasLines, HoldsLines, IsOpen, lines_of}
+
+-- what follows the last commit in the log is what a crash leaves there
+pub record EndsWhole (image : Image) : Type 0 where
+  pub tail : Tail
+  pub is : IsTailOf image.log tail
+  pub whole : IsTrue tail.is_whole
+
+-- and what follows these commits is something else
+pub record EndsDamaged (image : Image) (commits following : ℕ) : Type 0 where
+  pub tail : Tail
+  pub is : IsTailOf image.log tail
+  pub damaged : ¬ IsTrue tail.is_whole
+  pub count : commits ≡ tail.commits
+  pub left : following ≡ tail.following
 
 -- the lines are those of the database that the files held, or none if it held nothing
 abbrev pub FindsLines : Image → List (List ℕ) → Type 0
@@ -44,6 +61,11 @@ module _ {D : Type 0} {g : Ghosts D} where
   abbrev pub RefusesOther : Image → Result (Held (FileStore D g)) LogFault → Type 0
   RefusesOther image result =
       IsErrOf result NotALog → (c : Held (FileStore D g)) × IsOther (file_state c).now.schema × (HasCleanDisk (file_state c) → FindsIn image (file_state c))
+
+  -- files are refused for the end of the log only if it was read, with an honest disk, to be what no crash leaves
+  abbrev pub IsCutShort : Image → Result (Held (FileStore D g)) LogFault → Type 0
+  IsCutShort image (Err (DamagedTail commits following)) = (log : D) × (IsClean g log → EndsDamaged image commits following)
+  IsCutShort image _ = Unit {0}
 
   -- Whatever a crash at this moment leaves of the files, the lines of a log that an open of them finds are these.
   abbrev pub IsFoundAgain : Held (FileStore D g) → Type 0

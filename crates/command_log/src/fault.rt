@@ -3,7 +3,10 @@ ghost use Rattle.std.specs.Prelude.{◌≡◌};
 ghost use Rattle.command_log.specs.Faults.{fault_of};
 
 use sqlite::{Error, ErrorCode};
+use sqlite_std_file::OpenError;
+use sqlite_wal::Error as WalError;
 use std::alloc::AllocError;
+use std::io::ErrorKind;
 use thiserror::Error as DeriveError;
 
 /// Why a call was refused.
@@ -16,7 +19,7 @@ pub enum LogFault {
     #[error("out of memory")]
     OutOfMemory,
     /// Another program has the file.
-    #[error("the file is in use")]
+    #[error("the file is in use: end the program that has it, or edit the site through that one")]
     Busy,
     /// The path cannot be opened as a file.
     #[error("the file cannot be opened")]
@@ -46,6 +49,10 @@ pub enum LogFault {
     /// Lines are counted from 1. Those before it have theirs.
     #[error("line {0} of the log has changed since it was written")]
     Altered(u64),
+    /// SQLite's log beside the file ends otherwise than a crash leaves it: an open would take these
+    /// commits for all there is, and the next one would be written over the bytes that follow.
+    #[error("its log is damaged after commit {commits}; {following} bytes follow")]
+    DamagedTail { commits: usize, following: usize },
     /// The limit on the steps of a statement was met. Only a caller of
     /// [`over`](crate::CommandLog::over) can have set one.
     #[error("interrupted")]
@@ -85,5 +92,36 @@ impl From<AllocError> for LogFault {
 
     fn from(_error: AllocError) -> LogFault {
         LogFault::OutOfMemory
+    }
+}
+
+impl From<OpenError> for LogFault {
+    ghost use Rattle.command_log.specs.Faults.{IsPlain};
+
+    ghost from_gives = { λ _ fault. IsPlain fault };
+
+    fn from(error: OpenError) -> LogFault {
+        match error {
+            OpenError::OutOfMemory => LogFault::OutOfMemory,
+            OpenError::Busy => LogFault::Busy,
+            OpenError::Io(cause) if cause.kind() == ErrorKind::OutOfMemory => LogFault::OutOfMemory,
+            _ => LogFault::CannotOpen,
+        }
+    }
+}
+
+impl From<WalError> for LogFault {
+    ghost use Rattle.command_log.specs.Faults.{IsPlain};
+
+    ghost from_gives = { λ _ fault. IsPlain fault };
+
+    fn from(error: WalError) -> LogFault {
+        match error {
+            WalError::OutOfMemory => LogFault::OutOfMemory,
+            WalError::Io(_) => LogFault::Disk,
+            WalError::Full => LogFault::DiskFull,
+            WalError::Corrupt => LogFault::Damaged,
+            _ => LogFault::Store,
+        }
     }
 }

@@ -1,11 +1,12 @@
-//! A log of text lines in an SQLite database. A line that was appended is in the log after a crash, and a log of which a
-//! line has changed since is refused.
+//! A log of text lines in an SQLite database. A line that was appended is in the log after a crash,
+//! and a log of which a line has changed since is refused.
 #![tactic(auto)]
 
 mod batch;
 mod fault;
 mod lines;
 mod log;
+mod opening;
 mod table;
 mod testing;
 #[cfg(test)]

@@ -2,6 +2,7 @@
 ghost use Rattle.std.specs.Prelude.{
   ◌≡◌,
   ◌↔◌,
+  ◌⊎◌,
   ◌++◌,
   [],
   List,
@@ -22,7 +23,6 @@ ghost use Rattle.sqlite.specs.Held.{state};
 ghost use Rattle.sqlite.specs.State.{HasCleanDisk, Survives};
 ghost use Rattle.sqlite.specs.Files.{over_files};
 ghost use Rattle.sqlite.specs.Steps.{over_memory};
-ghost use Rattle.sqlite.specs.WalFiles.{image_at};
 ghost use Rattle.command_log.specs.Lines.{
   IsOpen,
   IsIdle,
@@ -41,18 +41,11 @@ ghost use Rattle.command_log.specs.Lines.{
 };
 ghost use Rattle.line_digests.specs.Digests.{digest_of};
 ghost use Rattle.command_log.specs.Table.{log_schema, IsOther};
-ghost use Rattle.command_log.specs.Faults.{IsCaused, IsCloseFault, Unreadable, Unsealed, Unstorable};
+ghost use Rattle.command_log.specs.Faults.{IsCaused, IsCloseFault, IsPlain, Unreadable, Unsealed, Unstorable};
 ghost use Rattle.sqlite.specs.WalReads.{AreClean};
 ghost use Rattle.sqlite.specs.View.{IsClean};
 ghost use Rattle.sqlite.specs.FileStore.{view};
-ghost use Rattle.command_log.specs.Found.{
-  FindsLines,
-  FindsOnlySuch,
-  ReadsLines,
-  RefusesOther,
-  IsFoundAgain,
-  IsKeptAlone,
-};
+ghost use Rattle.command_log.specs.Found.{FindsOnlySuch, IsFoundAgain, IsKeptAlone};
 
 use crate::batch::{Batch, LogPlace};
 use crate::fault::LogFault;
@@ -60,7 +53,7 @@ use crate::lines::{NO_LIMIT, ReadLines, put_all, read_after, replace_all};
 use crate::table::{Holds, held_by, make};
 use crate::testing::test_all;
 use line_digests::LineDigest;
-use sqlite::{Connection, FileFrom, FileStore, MemStore, Start};
+use sqlite::{Connection, FileStore, MemStore};
 use sqlite_disk::{Disk, Files};
 use sqlite_trees::store::Alter;
 use std::alloc::Global;
@@ -115,36 +108,6 @@ impl CommandLog<MemStore> {
     }
 }
 
-impl<S: Start> CommandLog<FileStore<FileFrom<S>>> {
-    /// Opens the log in a file, or makes it. What the files held as they were opened is `S`, and so
-    /// is what a torn write may leave of them: [`Unknown`](sqlite_disk::Unknown) or
-    /// [`Wary`](sqlite_disk::Wary).
-    pub fn open(
-        rt: &HostRuntime,
-        path: &str,
-        start: S,
-    ) -> Result<CommandLog<FileStore<FileFrom<S>>>, LogFault>
-        ensures found { IfOk result (λ log. IsOpen over_files log
-            → FindsLines (image_at S.Start) (lines_of over_files log)) }
-        ensures read { IfOk result (λ log. IsOpen over_files log
-            → ReadsLines (image_at S.Start) (lines_of over_files log)) }
-        ensures other { RefusesOther (image_at S.Start) result }
-
-        // It is open, as long as the disk returns what was written.
-        ensures opened { IfOk result (λ log. HasCleanDisk (state over_files log)
-            → IsOpen over_files log) }
-    {
-        let conn = match Connection::open_from(rt, path, false, start) {
-            Ok(conn) => conn,
-            Err((error, _)) => return Err(error.into()),
-        };
-        match CommandLog::over(rt.alloc(), conn) {
-            Ok(log) => Ok(log),
-            Err((fault, _)) => Err(fault),
-        }
-    }
-}
-
 impl<S: Alter + Drop> CommandLog<S> {
     /// Takes the log that the database holds, or makes one in a database that holds nothing. The
     /// digest of each line is tested. A fault comes with the connection.
@@ -167,12 +130,20 @@ impl<S: Alter + Drop> CommandLog<S> {
         // A database with another schema is refused as that, and no other is.
         ensures other { IsErrAnd result (λ e. e.0 ≡ LogFault.NotALog)
             ↔ IsOther (state S.Store conn).now.schema }
+        ensures plain { IfErr result (λ e. (e.0 ≡ LogFault.NotALog) ⊎ IsPlain e.0) }
 
         // A log is refused only if memory runs out, by a fault of the disk, or if a line doesn't
         // have its digest.
         ensures taken { IfErr result (λ e. (state S.Store conn).now.schema ≡ log_schema
             → IsOpen S.Store conn → HasCleanDisk (state S.Store e.1)
             → IsCaused (state S.Store conn) (state S.Store e.1) (Unsealed (rows_of S.Store conn)) e.0) }
+
+        // A connection that comes back has what it had, and a crash leaves what it could leave before.
+        ensures kept { IfErr result (λ e. (state S.Store conn).now.schema ≡ log_schema
+            → IsOpen S.Store e.1
+            → (state S.Store e.1).committed ≡ (state S.Store conn).committed) }
+        ensures refused { IfErr result (λ e. Survives (state S.Store conn) (state S.Store e.1)
+            (IsMade S.Store conn)) }
 
         // The log of an open connection is open.
         ensures stays { IfOk result (λ log. HasCleanDisk (state S.Store log) → IsOpen S.Store conn

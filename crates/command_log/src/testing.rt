@@ -5,7 +5,7 @@ ghost use Rattle.sha2.specs.Sha256.{sha256};
 ghost use Rattle.line_digests.specs.Digests.{digest_of};
 ghost use Rattle.sqlite.specs.Held.{state};
 ghost use Rattle.sqlite.specs.State.{HasCleanDisk, Survives};
-ghost use Rattle.command_log.specs.Faults.{IsCaused, Unsealed};
+ghost use Rattle.command_log.specs.Faults.{IsCaused, IsPlain, Unsealed};
 ghost use Rattle.command_log.specs.Lines.{AreSealed, IsLineRow, IsLog, IsOpen, IsTabled};
 ghost use Rattle.command_log.specs.Lines.{line_in, lines_of, rows_after, rows_of, sum_in, text_in};
 ghost use Rattle.command_log.specs.Testing.{EndsTest, IsTested, Tests};
@@ -51,7 +51,7 @@ fn has_digest(row: &Row, digest: &mut LineDigest) -> bool
 fn test_rows(rows: &[Row], tested: &mut Tested) -> Result<(), LogFault>
     ensures ok { OnOk result (Tests tested.old rows.now tested.new) }
     ensures err { All IsLineRow rows.now → IfErr result (EndsTest tested.old rows.now) }
-    ensures fault { IfErr result (λ fault. fault ≢ LogFault.NotALog) }
+    ensures fault { IfErr result IsPlain }
 {
     for row in rows {
         tested.place = Some(number_of(row)?);
@@ -84,7 +84,7 @@ fn test_more<S: Alter>(conn: &mut Connection<S>, tested: &mut Tested) -> Result<
         → IsTested (rows_of S.Store conn.old) tested.old
         → IfErr result (IsCaused (state S.Store conn.old) (state S.Store conn.new)
         (Unsealed (rows_of S.Store conn.old))) }
-    ensures fault { IfErr result (λ fault. fault ≢ LogFault.NotALog) }
+    ensures fault { IfErr result IsPlain }
 {
     // Called for its clause alone: what an open connection knows of its tables.
     let _schema = conn.schema();
@@ -108,7 +108,7 @@ pub(crate) fn test_all<S: Alter>(conn: &mut Connection<S>) -> Result<LineDigest,
     ensures cause { HasCleanDisk (state S.Store conn.new) → IsOpen S.Store conn.old
         → IfErr result (IsCaused (state S.Store conn.old) (state S.Store conn.new)
         (Unsealed (rows_of S.Store conn.old))) }
-    ensures fault { IfErr result (λ fault. fault ≢ LogFault.NotALog) }
+    ensures fault { IfErr result IsPlain }
 {
     let mut tested = Tested {
         place: None,

@@ -3,20 +3,20 @@ ghost use Rattle.std.specs.Prelude.{◌≡◌, false, IfOk, IfErr, IfSome, IsTru
 ghost use Rattle.command_log.specs.Found.{FindsOnlySuch};
 ghost use Rattle.crash_points.specs.Stopped.{inner_image, sink_of};
 ghost use Rattle.site_start.specs.Started.{IsLeftBy};
-ghost use Rattle.site_tasks.specs.Lasting.{IsOpenedFrom, Lasts};
+ghost use Rattle.site_tasks.specs.Lasting.{Lasts};
 ghost use Rattle.sqlite.specs.FileStore.{view};
 ghost use Rattle.sqlite.specs.Files.{image_of};
 ghost use Rattle.sqlite.specs.View.{IsClean};
 
 use crate::stopping::Stopping;
 use byte_io::{Sink, Source};
-use command_log::{CommandLog, LogFault};
+use command_log::CommandLog;
 use page_trace::Watch;
 use site_journal::Steady;
 use site_serving::Commands;
 use site_start::StartFault;
 use site_tasks::{Served, serve_log};
-use sqlite::{Connection, FileStore, Options};
+use sqlite::{FileStore, Options};
 use sqlite_disk::{Disk, Files, Fuse};
 use std::alloc::Global;
 
@@ -79,31 +79,12 @@ pub fn serve_files<C: Commands, D: Disk + Drop, R: Source, W: Steady + Drop, V: 
     ensures refused { IfErr result (λ e. IfSome e.1 (λ left. IsClean (view left)
         → FindsOnlySuch left (IsLeftBy (image_of D.Disk files) identity.now))) }
 {
-    let log = match open_log(alloc, files, options) {
+    let log = match CommandLog::open_files(alloc, files, options) {
         Ok(log) => log,
         Err(fault) => return Err((StartFault::Log(fault), None)),
     };
     match serve_log(alloc, log, site, identity, reader, sink, watch) {
         Ok(served) => Ok(served),
         Err((fault, left)) => Err((fault, Some(left))),
-    }
-}
-
-/// Opens the log in a database file and SQLite's log beside it, or makes it.
-fn open_log<D: Disk + Drop>(
-    alloc: Global,
-    files: Files<D>,
-    options: Options,
-) -> Result<CommandLog<FileStore<D>>, LogFault>
-    requires log { IsTrue (D.Disk.is_usable files.log) }
-    requires db { IsTrue (D.Disk.is_usable files.db) }
-    ensures { IfOk result (IsOpenedFrom (image_of D.Disk files)) }
-{
-    match Connection::open_files(alloc, files, options) {
-        Ok(conn) => match CommandLog::over(alloc, conn) {
-            Ok(log) => Ok(log),
-            Err((fault, _conn)) => Err(fault),
-        },
-        Err((error, _left)) => Err(error.into()),
     }
 }

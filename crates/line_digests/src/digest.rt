@@ -4,6 +4,7 @@ ghost use Rattle.sha2.specs.Sha256.{sha256};
 ghost use Rattle.line_digests.specs.Digests.{digest_of};
 
 use sha2::{Digest, Sha256};
+use std::fmt;
 use std::marker::Model;
 
 /// The digest of the lines so far: 32 bytes. Contracts see these bytes.
@@ -53,5 +54,15 @@ impl LineDigest {
         ensures { result ≡ bytes_eq self.now bytes.now }
     {
         self.bytes.as_slice() == bytes
+    }
+}
+
+impl fmt::Display for LineDigest {
+    /// Writes the digest as 64 digits of base 16, in lower case.
+    fn fmt<W: fmt::Write>(&self, f: &mut fmt::Formatter<W>) -> fmt::Result {
+        for byte in &self.bytes {
+            write!(f, "{byte:02x}")?;
+        }
+        Ok(())
     }
 }

@@ -3,10 +3,8 @@
 #![tactic(auto)]
 
 mod bytes;
-mod file;
 mod laws;
 mod tail;
 
-pub use file::{DamagedLog, damage_at};
 pub use laws::{law_of_crashes, law_of_damage};
 pub use tail::{Tail, tail_of};

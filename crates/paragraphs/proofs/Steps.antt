@@ -1,5 +1,5 @@
 -- One byte more of a text.
-use Rattle.std.proofs.Common.{◌≡◌, ℕ, zero, suc, List, [], ◌∷◌, ◌++◌, ◌+◌, ap, sym, ◌∙◌, append_assoc, Option, Some, None, Bool, false, ◌||◌}
+use Rattle.std.proofs.Common.{◌≡◌, ℕ, suc, List, ◌∷◌, ◌++◌, ap, sym, ◌∙◌, append_assoc, Some, None, false, ◌||◌}
 use Rattle.std.specs.Option.{option_map_or}
 use Rattle.paragraphs.specs.Marks.{after_dashes, end_after, past_comment, past_element}
 use Rattle.paragraphs.specs.Parts.{ends_closing, is_closing, len_after, next_skipped}

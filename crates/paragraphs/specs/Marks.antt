@@ -1,6 +1,6 @@
 -- What comes at the front of a text: tags, line ends, breaks. Each function that finds something says what comes after it.
 -- Bytes: `<` is 60, `>` 62, `/` 47, a line end 10.
-use Rattle.std.specs.Prelude.{ℕ, Bool, true, false, not, ◌==◌, ◌&&◌, ◌||◌, if◌then◌else◌, List, [], ◌∷◌, codes, bytes_eq, map, nat_le, is_some}
+use Rattle.std.specs.Prelude.{ℕ, Bool, true, false, not, ◌==◌, ◌&&◌, ◌||◌, if◌then◌else◌, List, [], ◌∷◌, codes, bytes_eq, nat_le}
 use Rattle.std.specs.Prelude.{Option, Some, None, option_map}
 use Rattle.std.specs.List.{list_any, before_first}
 use Rattle.std.specs.Option.{option_map_or, option_or}

@@ -1,5 +1,5 @@
 -- The plugin `paragraphs`: its load list, and what its callback is stated to reply.
-use Rattle.std.specs.Prelude.{ℕ, pos, List, [], ◌∷◌, codes}
+use Rattle.std.specs.Prelude.{pos, List, [], ◌∷◌, codes}
 use Rattle.hook_changes.specs.declared.reply.Call.{Call}
 use Rattle.hook_changes.specs.declared.reply.Change.{Change}
 use Rattle.hook_changes.specs.declared.reply.Change.TheVariants.{Add}

@@ -1,8 +1,8 @@
 -- A content as parts, and what becomes of each (wpautop).
-use Rattle.std.specs.Prelude.{ℕ, zero, suc, Bool, true, false, not, ◌==◌, ◌&&◌, ◌||◌, ◌-◌, if◌then◌else◌, List, [], ◌∷◌, ◌++◌, codes, bytes_eq, length, take, drop, is_some, nat_lt, nat_le}
-use Rattle.std.specs.Prelude.{Option, Some, None, option_map, unwrap_or}
+use Rattle.std.specs.Prelude.{ℕ, suc, Bool, true, false, not, ◌==◌, ◌&&◌, ◌||◌, ◌-◌, if◌then◌else◌, [], ◌∷◌, ◌++◌, codes, bytes_eq, length, take, drop, is_some, nat_lt, nat_le}
+use Rattle.std.specs.Prelude.{Option, Some, unwrap_or}
 use Rattle.std.specs.List.{list_all, list_any, before_first}
-use Rattle.std.specs.Option.{option_map_or, option_or}
+use Rattle.std.specs.Option.{option_map_or}
 use Rattle.plain_data.specs.Steps.{◌>>=◌, only_if}
 use Rattle.plain_data.specs.Texts.{Text}
 use Rattle.plain_data.specs.NameByte.{is_name_byte}
@@ -38,7 +38,7 @@ abbrev pub next_skipped : ℕ → Text → Text → Option ℕ
 next_skipped skipped text rest =
     if nat_lt 0 skipped then Some (skipped - 1) else only_if (not (is_stop text)) (length rest - length (kept_after text rest))
 
--- how long a text is up to where it ends, after so many bytes that are passed over
+-- the length of a text up to its end, if the first `skipped` bytes are passed over
 abbrev pub len_after : ℕ → Text → ℕ
 len_after skipped [] = 0
 len_after skipped (b ∷ rest) = option_map_or (λ next. suc (len_after next rest)) (next_skipped skipped (b ∷ rest) rest) 0
@@ -96,7 +96,7 @@ abbrev pub break_turn : Bool → ℕ → Bool → Text → Text → Turn
 break_turn drops skipped is_after text rest =
     if nat_lt 0 skipped then ([], skipped - 1, is_after) else piece_turn rest (piece_at drops is_after text)
 
--- a text with its breaks, after so many bytes that are passed over, and perhaps right after a break
+-- a text with its breaks, if the first `skipped` bytes are passed over; `is_after` says whether a break comes right before it
 abbrev pub breaks_after : Bool → ℕ → Bool → Text → Text
 breaks_after drops skipped is_after [] = []
 breaks_after drops skipped is_after (b ∷ rest) =
@@ -254,7 +254,7 @@ step text =
 abbrev pub turn : ℕ → Text → Text → Text × ℕ
 turn skipped text rest = if nat_lt 0 skipped then ([], skipped - 1) else ((step text).0, length rest - length (step text).1)
 
--- a content with its paragraphs, after so many bytes that are passed over
+-- a content with its paragraphs, if the first `skipped` bytes are passed over
 abbrev pub shown_after : ℕ → Text → Text
 shown_after skipped [] = []
 shown_after skipped (b ∷ rest) = (turn skipped (b ∷ rest) rest).0 ++ shown_after (turn skipped (b ∷ rest) rest).1 rest

@@ -1,9 +1,12 @@
 //! The text of a part, with a break for each line end.
-ghost use Rattle.std.specs.Prelude.{◌≡◌, ◌++◌, ◌+◌, ◌<◌, ◌≤◌, ◌-◌, take, false, [], ◌∷◌, length, drop, IfOk, OnOk, codes, List, ℕ};
+ghost use Rattle.std.specs.Prelude.{◌≡◌, ◌++◌, ◌+◌, ◌<◌, ◌≤◌, ◌-◌, ◌∷◌, []};
+ghost use Rattle.std.specs.Prelude.{take, false, length};
+ghost use Rattle.std.specs.Prelude.{drop, IfOk, OnOk, codes, List, ℕ};
 ghost use Rattle.std.specs.Prelude.{if◌then◌else◌, true};
 ghost use Rattle.std.specs.List.{list_all};
 ghost use Rattle.shortcode_atts.specs.Items.{is_white};
-ghost use Rattle.paragraphs.specs.Parts.{before, break_text, break_turn, breaks_after, is_all_white, piece_at, plain_after, trimmed_end};
+ghost use Rattle.paragraphs.specs.Parts.{before, break_text, break_turn, breaks_after};
+ghost use Rattle.paragraphs.specs.Parts.{is_all_white, piece_at, plain_after, trimmed_end};
 ghost use Rattle.paragraphs.specs.Parts.{trimmed_start, with_breaks, without_break};
 
 use crate::marks::{after_break, after_kept, after_lines, is_white, skip_white, tail};

@@ -1,11 +1,15 @@
 //! What comes at the front of a text: tags, line ends, breaks. A function that finds something
 //! returns what comes after it. Texts are bytes here.
-ghost use Rattle.std.specs.Prelude.{◌≡◌, ◌≤◌, ◌∷◌, bytes_eq, drop, length, map, option_map, not, ◌&&◌};
+ghost use Rattle.std.specs.Prelude.{◌≡◌, ◌≤◌, ◌∷◌, bytes_eq, drop, length, map, option_map, not};
+ghost use Rattle.std.specs.Prelude.{◌&&◌};
 ghost use Rattle.std.specs.List.{before_first, position_or_len, prefix_len};
 ghost use Rattle.shortcode_atts.specs.Items.{is_white, skip_white};
-ghost use Rattle.paragraphs.specs.Marks.{after_break, after_dashes, after_element, after_gap, after_kept, after_lines};
-ghost use Rattle.paragraphs.specs.Marks.{begin_at, begins_letter, block_at, block_names, box_names, end_after, end_at};
-ghost use Rattle.paragraphs.specs.Marks.{ends_name, is_in, is_letter, kept_names, last_line, own_line_names, past_comment};
+ghost use Rattle.paragraphs.specs.Marks.{after_break, after_dashes, after_element, after_gap};
+ghost use Rattle.paragraphs.specs.Marks.{after_kept, after_lines};
+ghost use Rattle.paragraphs.specs.Marks.{begin_at, begins_letter, block_at, block_names};
+ghost use Rattle.paragraphs.specs.Marks.{box_names, end_after, end_at};
+ghost use Rattle.paragraphs.specs.Marks.{ends_name, is_in, is_letter, kept_names, last_line};
+ghost use Rattle.paragraphs.specs.Marks.{own_line_names, past_comment};
 ghost use Rattle.paragraphs.specs.Marks.{past_element, tag_after, tag_at, tag_named, to_angle};
 
 /// The elements that are no part of a line of text.

@@ -1,12 +1,17 @@
 //! A content as parts, and what becomes of each.
-ghost use Rattle.std.specs.Prelude.{◌≡◌, ◌++◌, ◌+◌, ◌<◌, ◌≤◌, ◌-◌, ◌∷◌, [], length, drop, IfOk, OnOk, codes, option_map, is_some};
+ghost use Rattle.std.specs.Prelude.{◌≡◌, ◌++◌, ◌+◌, ◌<◌, ◌≤◌, ◌-◌, ◌∷◌, []};
+ghost use Rattle.std.specs.Prelude.{length, drop, IfOk};
+ghost use Rattle.std.specs.Prelude.{OnOk, codes, option_map, is_some};
 ghost use Rattle.std.specs.Prelude.{if◌then◌else◌};
 ghost use Rattle.std.specs.List.{list_any};
 ghost use Rattle.std.specs.Prelude.{◌==◌, true};
 ghost use Rattle.paragraphs.specs.Marks.{begin_at, end_at};
-ghost use Rattle.paragraphs.specs.Parts.{before, ended, has_tags_alone, inner_step, is_ended, is_open, is_side, is_stop, is_unwrapped};
-ghost use Rattle.paragraphs.specs.Parts.{kept_after, len_after, line, line_byte, lines_after, name_of, paragraph};
-ghost use Rattle.paragraphs.specs.Parts.{paragraphs, next_skipped, part_of, past, rest_of, shown, shown_after, started, step, tag_text, tags, turn};
+ghost use Rattle.paragraphs.specs.Parts.{before, ended, has_tags_alone, inner_step, is_ended};
+ghost use Rattle.paragraphs.specs.Parts.{is_open, is_side, is_stop, is_unwrapped};
+ghost use Rattle.paragraphs.specs.Parts.{kept_after, len_after, line, line_byte, lines_after};
+ghost use Rattle.paragraphs.specs.Parts.{name_of, paragraph};
+ghost use Rattle.paragraphs.specs.Parts.{paragraphs, next_skipped, part_of, past, rest_of, shown};
+ghost use Rattle.paragraphs.specs.Parts.{shown_after, started, step, tag_text, tags, turn};
 ghost use Rattle.paragraphs.specs.Parts.{whole_after, whole_at};
 ghost use Rattle.paragraphs.specs.PartParts.{part_now};
 

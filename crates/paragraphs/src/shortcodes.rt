@@ -1,7 +1,8 @@
 //! Whether a text is one shortcode.
 ghost use Rattle.std.specs.Prelude.{◌≡◌, ◌≤◌, length};
 ghost use Rattle.std.specs.List.{before_first, position_or_len};
-ghost use Rattle.paragraphs.specs.Parts.{ends_bracket, ends_closing, ends_tag_name, is_closed_by, is_closing};
+ghost use Rattle.paragraphs.specs.Parts.{ends_bracket, ends_closing, ends_tag_name, is_closed_by};
+ghost use Rattle.paragraphs.specs.Parts.{is_closing};
 ghost use Rattle.paragraphs.specs.Parts.{is_shortcode, is_tag, tag_name};
 
 use crate::marks::{is_named, tail};

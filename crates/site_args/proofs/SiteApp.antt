@@ -23,13 +23,14 @@ unfolding site_app
 app_is bare served filed whole is_bare is_served is_filed is_whole =
     is_whole ∙ ap history_rules (is_filed ∙ ap file_rules (is_served ∙ ap serving_rules is_bare))
 
--- the seven options
-abbrev pub seven_rules : List Rule
-seven_rules =
+-- the eight options
+abbrev pub all_rules : List Rule
+all_rules =
     number_rule (codes "calls") 100000 ∷ number_rule (codes "cache") 4096 ∷ flag_rule (codes "trace") ∷ path_rule (codes "database")
-    ∷ flag_rule (codes "must-exist") ∷ flag_rule (codes "export") ∷ flag_rule (codes "compact") ∷ []
+    ∷ flag_rule (codes "must-exist") ∷ flag_rule (codes "export") ∷ flag_rule (codes "compact")
+    ∷ flag_rule (codes "check") ∷ []
 
-pub rules_are : (c : Command) → app_of c ≡ site_app → map rule_of (args_of c) ≡ seven_rules
+pub rules_are : (c : Command) → app_of c ≡ site_app → map rule_of (args_of c) ≡ all_rules
 unfolding site_app
 rules_are c is = ap (λ (a : App). a.top.rules) is
 

@@ -3,7 +3,7 @@ use Rattle.std.proofs.Common.{◌≡◌, List, [], ◌∷◌, codes, refl, true,
 use Rattle.clap.proofs.OnLiterals.{clap_on_literals}
 use Rattle.clap.specs.Words.{Text}
 use Rattle.clap.specs.declared.error.kind.ErrorKind.TheVariants as kind
-use Rattle.site_args.specs.CommandLine.{calls_of, cache_of, trace_of, database_of, export_of, compact_of, must_exist_of, reasons, site_app}
+use Rattle.site_args.specs.CommandLine.{calls_of, cache_of, trace_of, database_of, export_of, compact_of, check_of, must_exist_of, reasons, site_app}
 
 pub no_words : reasons [] ≡ []
 unfolding clap_on_literals site_app
@@ -126,6 +126,10 @@ no_file = refl
 pub two_databases : reasons (codes "--database" ∷ codes "a" ∷ codes "--database" ∷ codes "a" ∷ []) ≡ kind.ArgumentConflict ∷ []
 unfolding clap_on_literals site_app
 two_databases = refl
+
+pub check : check_of (codes "--database" ∷ codes "a.db" ∷ codes "--check" ∷ []) ≡ true
+unfolding clap_on_literals site_app
+check = refl
 
 pub must_exist : must_exist_of (codes "--must-exist" ∷ []) ≡ true
 unfolding clap_on_literals site_app

@@ -1,11 +1,11 @@
 -- What the program makes of its arguments.
-use Rattle.std.specs.Prelude.{◌≡◌, ◌≢◌, ◌≤◌, ◌⊎◌, List, [], Bool, true, false, Option, None, Some, option_map, string_bytes}
+use Rattle.std.specs.Prelude.{◌≡◌, ◌≢◌, ◌≤◌, ◌⊎◌, List, [], Bool, true, false, not, ◌&&◌, ◌||◌, Option, None, Some, option_map, string_bytes}
 use Rattle.clap.specs.Words.{IsAmong, Kinds, Text}
 use Rattle.clap.specs.declared.error.kind.ErrorKind.{ErrorKind}
 use Rattle.clap.specs.declared.error.kind.ErrorKind.TheVariants.{DisplayHelp}
-use Rattle.site_args.specs.CommandLine.{calls_of, cache_of, trace_of, database_of, must_exist_of, export_of, compact_of, reasons}
+use Rattle.site_args.specs.CommandLine.{calls_of, cache_of, trace_of, database_of, must_exist_of, export_of, compact_of, check_of, reasons}
 use Rattle.site_args.specs.declared.answer.Task.{Task}
-use Rattle.site_args.specs.declared.answer.Task.TheVariants.{Serve, ServeFile, Export, Compact}
+use Rattle.site_args.specs.declared.answer.Task.TheVariants.{Serve, ServeFile, Export, Compact, Check}
 use Rattle.site_args.specs.declared.answer.Options.{Options}
 use Rattle.site_args.specs.declared.answer.ArgsAnswer.{ArgsAnswer}
 use Rattle.site_args.specs.declared.answer.ArgsAnswer.TheVariants.{Run, Help, Bad, OutOfMemory}
@@ -21,21 +21,24 @@ HasNumbers words (Run calls cache trace must_exist task) = (calls ≡ calls_of w
     × (must_exist ≡ must_exist_of words)
 HasNumbers words _ = Unit {0}
 
--- what a database, `--must-exist`, `--export` and `--compact` ask for together, which is nothing if they don't go together
-abbrev pub AsksFor : Option Text → (must_exist export compact : Bool) → Option Task → Type 0
-AsksFor None false false false (Some Serve) = Unit {0}
-AsksFor (Some path) must_exist false false (Some (ServeFile file)) = string_bytes file ≡ path
-AsksFor (Some path) must_exist true false (Some (Export file)) = string_bytes file ≡ path
-AsksFor (Some path) must_exist false true (Some (Compact file)) = string_bytes file ≡ path
-AsksFor None true export compact None = Unit {0}
-AsksFor None false true compact None = Unit {0}
-AsksFor None false false true None = Unit {0}
-AsksFor (Some path) must_exist true true None = Unit {0}
-AsksFor _ _ _ _ _ = ⊥
+-- `--must-exist`, `--export`, `--compact` and `--check` each need a database, and of the last three there is at most one
+abbrev pub go_together : Option Text → (must_exist export compact check : Bool) → Bool
+go_together None must_exist export compact check = not (must_exist || export || compact || check)
+go_together (Some path) must_exist export compact check = not ((export && compact) || (export && check) || (compact && check))
+
+-- what they ask for, which is nothing if they don't go together
+abbrev pub AsksFor : Option Text → (must_exist export compact check : Bool) → Option Task → Type 0
+AsksFor None false false false false (Some Serve) = Unit {0}
+AsksFor (Some path) must_exist false false false (Some (ServeFile file)) = string_bytes file ≡ path
+AsksFor (Some path) must_exist true false false (Some (Export file)) = string_bytes file ≡ path
+AsksFor (Some path) must_exist false true false (Some (Compact file)) = string_bytes file ≡ path
+AsksFor (Some path) must_exist false false true (Some (Check file)) = string_bytes file ≡ path
+AsksFor database must_exist export compact check None = go_together database must_exist export compact check ≡ false
+AsksFor _ _ _ _ _ _ = ⊥
 
 -- what these arguments ask for
 abbrev pub IsTask : List Text → Option Task → Type 0
-IsTask words task = AsksFor (database_of words) (must_exist_of words) (export_of words) (compact_of words) task
+IsTask words task = AsksFor (database_of words) (must_exist_of words) (export_of words) (compact_of words) (check_of words) task
 
 -- clap refuses the arguments, for another reason than that help is asked for
 abbrev pub IsRefusedFor : Kinds → Type 0
@@ -61,7 +64,8 @@ IsRefusal kinds OutOfMemory = Unit {0}
 -- what options that were read come to
 abbrev pub IsReadFrom : Options → ArgsAnswer → Type 0
 IsReadFrom o (Run calls cache trace must_exist task) =
-    (calls ≡ o.calls) × (cache ≡ o.cache) × (trace ≡ o.trace) × (must_exist ≡ o.must_exist) × AsksFor (option_map string_bytes o.database) o.must_exist o.export o.compact (Some task)
+    (calls ≡ o.calls) × (cache ≡ o.cache) × (trace ≡ o.trace) × (must_exist ≡ o.must_exist)
+    × AsksFor (option_map string_bytes o.database) o.must_exist o.export o.compact o.check (Some task)
 IsReadFrom o (Help text) = ⊥
-IsReadFrom o (Bad text) = AsksFor (option_map string_bytes o.database) o.must_exist o.export o.compact None
+IsReadFrom o (Bad text) = AsksFor (option_map string_bytes o.database) o.must_exist o.export o.compact o.check None
 IsReadFrom o OutOfMemory = Unit {0}

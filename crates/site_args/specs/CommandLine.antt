@@ -32,15 +32,15 @@ serving_rules app =
 abbrev pub file_rules : App → App
 file_rules app = with_rule (with_rule app (path_rule (codes "database"))) (flag_rule (codes "must-exist"))
 
--- and those for its short history
+-- and those for its history
 abbrev pub history_rules : App → App
-history_rules app = with_rule (with_rule app (flag_rule (codes "export"))) (flag_rule (codes "compact"))
+history_rules app = with_rule (with_rule (with_rule app (flag_rule (codes "export"))) (flag_rule (codes "compact"))) (flag_rule (codes "check"))
 
 -- `site`, of the command-line arguments; clap adds `--help`
 abbrev pub bare_app : App
 bare_app = on_top (λ s. record s { no_binary_name = true }) (new_app (codes "site"))
 
--- `site [--calls N] [--cache N] [--trace] [--database FILE] [--must-exist] [--export] [--compact]`
+-- `site [--calls N] [--cache N] [--trace] [--database FILE] [--must-exist] [--export] [--compact] [--check]`
 unfoldable pub site_app : App
 site_app = history_rules (file_rules (serving_rules bare_app))
 
@@ -85,3 +85,7 @@ export_of words = is_given (first_of (codes "export") (matches_of site_app words
 -- whether it is to be put in the place of the history
 abbrev pub compact_of : List Text → Bool
 compact_of words = is_given (first_of (codes "compact") (matches_of site_app words))
+
+-- whether the history is only to be read
+abbrev pub check_of : List Text → Bool
+check_of words = is_given (first_of (codes "check") (matches_of site_app words))

@@ -9,6 +9,7 @@ ghost use Rattle.site_args.specs.CommandLine.{
   must_exist_of,
   export_of,
   compact_of,
+  check_of,
   is_given,
   reasons,
 };
@@ -31,6 +32,8 @@ pub enum Task {
     Export(String),
     /// Put it in the place of the history in this database file.
     Compact(String),
+    /// Say how many edits this database file has, and their digest.
+    Check(String),
 }
 
 /// What the command-line arguments ask for.
@@ -60,8 +63,8 @@ pub enum ArgsAnswer {
 
 // What is said of options that don't go together.
 const APART: &str =
-    "error: '--must-exist', '--export' and '--compact' each need '--database <FILE>', and the last \
-    two exclude one another\n\n\
+    "error: '--must-exist', '--export', '--compact' and '--check' each need '--database <FILE>', and \
+    the last three exclude one another\n\n\
     For more information, try '--help'.\n";
 
 /// What is read of the options, before it is known whether they go together.
@@ -73,13 +76,14 @@ struct Options {
     must_exist: bool,
     export: bool,
     compact: bool,
+    check: bool,
 }
 
 /// Parses the command-line arguments: `--calls N`, `--cache N` (also as `--calls=N`), `--trace`,
-/// `--database FILE`, `--must-exist`, `--export`, `--compact` and `--help`. An option given twice, a
-/// number out of its range, any other argument, `--must-exist`, `--export` or `--compact` without a
-/// file, and the last two beside one another are [`ArgsAnswer::Bad`]. The last clause says in clap's
-/// terms which answer it is.
+/// `--database FILE`, `--must-exist`, `--export`, `--compact`, `--check` and `--help`. An option given
+/// twice, a number out of its range, any other argument, one of the four before the last without a
+/// file, and two of `--export`, `--compact` and `--check` are [`ArgsAnswer::Bad`]. The last clause
+/// says in clap's terms which answer it is.
 pub fn read_args(alloc: Global, words: &[String]) -> ArgsAnswer
     ensures ranges { HasRanges result }
     ensures numbers { HasNumbers (map string_bytes words.now) result }
@@ -106,8 +110,9 @@ fn answer(alloc: Global, options: Options) -> ArgsAnswer
         must_exist,
         export,
         compact,
+        check,
     } = options;
-    match task_for(database, must_exist, export, compact) {
+    match task_for(database, must_exist, export, compact, check) {
         Some(task) => ArgsAnswer::Run {
             calls,
             cache,
@@ -123,15 +128,22 @@ fn answer(alloc: Global, options: Options) -> ArgsAnswer
 }
 
 /// Returns what the options on a database ask for, or `None` if they don't go together.
-fn task_for(database: Option<String>, must_exist: bool, export: bool, compact: bool) -> Option<Task>
-    ensures { AsksFor (option_map string_bytes database) must_exist export compact result }
+fn task_for(
+    database: Option<String>,
+    must_exist: bool,
+    export: bool,
+    compact: bool,
+    check: bool,
+) -> Option<Task>
+    ensures { AsksFor (option_map string_bytes database) must_exist export compact check result }
 {
     match database {
-        None if must_exist || export || compact => None,
+        None if must_exist || export || compact || check => None,
         None => Some(Task::Serve),
-        Some(_) if export && compact => None,
+        Some(_) if (export && compact) || (export && check) || (compact && check) => None,
         Some(path) if export => Some(Task::Export(path)),
         Some(path) if compact => Some(Task::Compact(path)),
+        Some(path) if check => Some(Task::Check(path)),
         Some(path) => Some(Task::ServeFile(path)),
     }
 }
@@ -149,6 +161,7 @@ fn read_options(alloc: Global, words: &[String]) -> Result<Options, Error>
         (λ o. o.must_exist ≡ must_exist_of (map string_bytes words.now)) }
     ensures export { IfOk result (λ o. o.export ≡ export_of (map string_bytes words.now)) }
     ensures compact { IfOk result (λ o. o.compact ≡ compact_of (map string_bytes words.now)) }
+    ensures check { IfOk result (λ o. o.check ≡ check_of (map string_bytes words.now)) }
     ensures kinds { FailsBy (reasons (map string_bytes words.now)) result }
 {
     let command = site_command(alloc)?;
@@ -159,6 +172,7 @@ fn read_options(alloc: Global, words: &[String]) -> Result<Options, Error>
     let must_exist = is_given(matches.get_str("must-exist"));
     let export = is_given(matches.get_str("export"));
     let compact = is_given(matches.get_str("compact"));
+    let check = is_given(matches.get_str("check"));
     let database = copy_of(alloc, matches.get_str("database"))?;
     Ok(Options {
         calls,
@@ -168,6 +182,7 @@ fn read_options(alloc: Global, words: &[String]) -> Result<Options, Error>
         must_exist,
         export,
         compact,
+        check,
     })
 }
 

@@ -97,6 +97,17 @@ fn compact_flag<'a>(alloc: Global) -> Arg<'a>
         .action(ArgAction::SetTrue)
 }
 
+/// Makes the flag `--check`.
+fn check_flag<'a>(alloc: Global) -> Arg<'a>
+    ensures rule { rule_of result ≡ flag_rule (codes "check") }
+    ensures local { result.global ≡ false }
+{
+    Arg::new(alloc, "check")
+        .long("check")
+        .help("Says how many edits the database has and their digest, and serves nothing")
+        .action(ArgAction::SetTrue)
+}
+
 /// Makes a command line with no options, for arguments that begin after the program's name.
 fn bare_command<'a>(alloc: Global) -> Command<'a>
     ensures { app_of result ≡ bare_app }
@@ -127,11 +138,14 @@ fn with_file_options<'a>(alloc: Global, command: Command<'a>) -> Result<Command<
         .arg(must_exist_flag(alloc))
 }
 
-/// Adds the options for the short history of a file.
+/// Adds the options for the history in a file.
 fn with_history_options<'a>(alloc: Global, command: Command<'a>) -> Result<Command<'a>, AllocError>
     ensures { IfOk result (λ more. app_of more ≡ history_rules (app_of command.entry)) }
 {
-    command.arg(export_flag(alloc))?.arg(compact_flag(alloc))
+    command
+        .arg(export_flag(alloc))?
+        .arg(compact_flag(alloc))?
+        .arg(check_flag(alloc))
 }
 
 /// Makes the whole command line, for arguments that begin after the program's name.

@@ -1,7 +1,7 @@
 //! Worked command lines that are theorems: each clause below is computed from clap's definitions.
 ghost use Rattle.std.specs.Prelude.{◌≡◌, ◌∷◌, [], codes, true, false, Some, None};
 ghost use Rattle.site_args.specs.CommandLine.{calls_of, cache_of, trace_of, database_of, export_of};
-ghost use Rattle.site_args.specs.CommandLine.{compact_of, must_exist_of, reasons};
+ghost use Rattle.site_args.specs.CommandLine.{check_of, compact_of, must_exist_of, reasons};
 
 use clap::error::ErrorKind;
 
@@ -31,6 +31,7 @@ pub fn worked_args()
     ensures not_compact { compact_of (codes "--database" ∷ codes "a.db" ∷ codes "--export" ∷ [])
         ≡ false }
     ensures compact { compact_of (codes "--compact" ∷ []) ≡ true }
+    ensures check { check_of (codes "--database" ∷ codes "a.db" ∷ codes "--check" ∷ []) ≡ true }
     ensures must_exist { must_exist_of (codes "--must-exist" ∷ []) ≡ true }
     ensures may_be_new { must_exist_of (codes "--database" ∷ codes "a.db" ∷ []) ≡ false }
 

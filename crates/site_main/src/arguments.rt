@@ -1,13 +1,13 @@
 //! What the command-line arguments ask for.
 ghost use Rattle.std.specs.Prelude.{◌≤◌};
 
-use crate::files::refused_file;
+use crate::files::missing_file;
 use crate::serving::{serve, serve_file};
 use callback_store::{Plugins, Stated};
 use site_args::{ArgsAnswer, Task, read_args};
 use site_program::{Site, StoreFault};
 use site_start::identity_of;
-use site_tasks::{compact, export, failed};
+use site_tasks::{check, compact, export, failed};
 use std::process::ExitCode;
 use std::{env, io};
 
@@ -30,7 +30,7 @@ pub fn run<S: Stated>(rt: &HostRuntime, plugins: &Plugins<S>) -> ExitCode {
             trace,
             must_exist,
             task,
-        } => match refused_file(rt, &task, must_exist) {
+        } => match missing_file(rt, &task, must_exist) {
             Some(status) => status,
             None => with_site(rt, plugins, calls, cache, trace, &task),
         },
@@ -82,6 +82,7 @@ fn with_site<S: Stated>(
             Task::Serve => serve(rt, &mut site, trace),
             Task::ServeFile(path) => serve_file(rt, &mut site, identity, path.as_str(), trace),
             Task::Export(path) => export(rt, &mut site, identity, path.as_str()),
+            Task::Check(path) => check(rt, &mut site, identity, path.as_str()),
             Task::Compact(path) => match Site::new(alloc, plugins, calls, cache) {
                 Ok(mut copy) => compact(rt, &mut site, &mut copy, identity, path.as_str()),
                 Err(fault) => failed(rt, fault),

@@ -1,5 +1,4 @@
 //! What a database file has to be before it is opened.
-use log_tails::damage_at;
 use site_args::Task;
 use site_tasks::failed;
 use std::process::ExitCode;
@@ -18,27 +17,23 @@ impl fmt::Display for MissingFile<'_> {
     }
 }
 
-/// Says why the file of a task is not to be opened, and returns the program's exit status: it has to
-/// be there and is not, or its log is damaged. Nothing is written, and no file is made.
-pub(crate) fn refused_file(rt: &HostRuntime, task: &Task, must_exist: bool) -> Option<ExitCode> {
-    let path = path_of(task)?;
-    if must_exist {
-        if let Some(why) = absence(rt, path) {
-            return Some(failed(rt, MissingFile { path, why }));
-        }
-    }
-    match damage_at(rt, path) {
-        Ok(None) => None,
-        Ok(Some(damage)) => Some(failed(rt, damage)),
-        Err(error) => Some(failed(rt, error)),
-    }
+/// Says that the file of a task is not there or is empty, where it has to have a site, and returns
+/// the program's exit status. No file is made.
+pub(crate) fn missing_file(rt: &HostRuntime, task: &Task, must_exist: bool) -> Option<ExitCode> {
+    let path = path_of(task, must_exist)?;
+    let why = absence(rt, path)?;
+    Some(failed(rt, MissingFile { path, why }))
 }
 
-/// Returns the path of the file that a task is done with.
-fn path_of(task: &Task) -> Option<&str> {
+/// Returns the path of the file of a task if it has to be there. One that is checked always has to
+/// be.
+fn path_of(task: &Task, must_exist: bool) -> Option<&str> {
     match task {
-        Task::Serve => None,
-        Task::ServeFile(path) | Task::Export(path) | Task::Compact(path) => Some(path.as_str()),
+        Task::Check(path) => Some(path.as_str()),
+        Task::ServeFile(path) | Task::Export(path) | Task::Compact(path) if must_exist => Some(
+            path.as_str(),
+        ),
+        _ => None,
     }
 }
 

@@ -8,7 +8,7 @@ ghost use Rattle.sqlite.specs.Recovery.{Image};
 ghost use Rattle.sqlite.specs.View.{IsClean};
 ghost use Rattle.sqlite.specs.WalFiles.{image_at};
 
-use crate::status::{failed, failed_at};
+use crate::status::{failed, failed_at, not_started};
 use byte_io::Source;
 use command_log::{CommandLog, LogFault};
 use page_trace::Watch;
@@ -141,7 +141,7 @@ pub fn serve_path<C: Commands, R: Source, W: Steady + Drop, V: Watch>(
 {
     match serve_file(rt, path, Wary, site, identity, reader, sink, watch) {
         Ok(served) => finish(rt, served),
-        Err((fault, _files)) => failed_at(rt, path, fault),
+        Err((fault, _files)) => not_started(rt, path, fault),
     }
 }
 

@@ -1,31 +1,54 @@
-//! Printing the history in a file, and making it shorter.
-use crate::status::{failed, failed_at};
+//! Printing the history in a file, making it shorter, and reading it alone.
+use crate::status::{failed, failed_at, not_started};
+use crate::summary::summary_of;
 use site_replies::{Refusal, ServeFault};
 use site_serving::Commands;
 use site_start::{compact_file, open_site};
 use sqlite::Wary;
+use std::io;
 use std::process::ExitCode;
 
-/// Writes the short lines of the site of a file to standard output.
+/// Writes the short lines of the site of a file to standard output, and then says on standard error
+/// how many edits the file itself has, and their digest.
 pub fn export<C: Commands>(rt: &HostRuntime, site: &mut C, identity: &str, path: &str) -> ExitCode {
-    if let Err((fault, _log)) = open_site(rt, path, Wary, site, identity) {
-        return failed_at(rt, path, fault);
-    }
+    let mut log = match open_site(rt, path, Wary, site, identity) {
+        Ok(log) => log,
+        Err((fault, _log)) => return not_started(rt, path, fault),
+    };
     match site.short_history() {
-        Ok(lines) => print_lines(rt, &lines),
+        Ok(lines) if print_lines(rt, &lines).is_err() => failed(rt, ServeFault::Write),
+        Ok(_) => match summary_of(&mut log) {
+            Ok(summary) => {
+                let _ = eprintln!(rt; "site: {path}: {summary}");
+                ExitCode::SUCCESS
+            }
+            Err(fault) => failed_at(rt, path, fault),
+        },
         Err(Refusal::OutOfMemory) => failed(rt, "out of memory"),
         Err(_) => failed(rt, "store failed"),
     }
 }
 
 /// Writes lines to standard output.
-fn print_lines(rt: &HostRuntime, lines: &[String]) -> ExitCode {
+fn print_lines(rt: &HostRuntime, lines: &[String]) -> io::Result<()> {
     for line in lines {
-        if println!(rt; "{line}").is_err() {
-            return failed(rt, ServeFault::Write);
-        }
+        println!(rt; "{line}")?;
     }
-    ExitCode::SUCCESS
+    Ok(())
+}
+
+/// Carries out the history in a file, and says on standard output how many edits it has, and their
+/// digest. Nothing is served.
+pub fn check<C: Commands>(rt: &HostRuntime, site: &mut C, identity: &str, path: &str) -> ExitCode {
+    let mut log = match open_site(rt, path, Wary, site, identity) {
+        Ok(log) => log,
+        Err((fault, _log)) => return not_started(rt, path, fault),
+    };
+    match summary_of(&mut log) {
+        Ok(summary) if println!(rt; "{summary}").is_err() => failed(rt, ServeFault::Write),
+        Ok(_) => ExitCode::SUCCESS,
+        Err(fault) => failed_at(rt, path, fault),
+    }
 }
 
 /// Puts the short lines of the site of a file in the place of its history. The copy is an empty
@@ -39,6 +62,6 @@ pub fn compact<C: Commands>(
 ) -> ExitCode {
     match compact_file(rt, path, Wary, site, copy, identity) {
         Ok(_log) => ExitCode::SUCCESS,
-        Err((fault, _log)) => failed_at(rt, path, fault),
+        Err((fault, _log)) => not_started(rt, path, fault),
     }
 }

@@ -8,7 +8,9 @@
 mod files;
 mod history;
 mod status;
+mod summary;
 
 pub use files::{Served, serve_file, serve_log, serve_path};
-pub use history::{compact, export};
+pub use history::{check, compact, export};
 pub use status::failed;
+pub use summary::{Summary, summary_of};

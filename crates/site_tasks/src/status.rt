@@ -1,4 +1,6 @@
 //! The exit status of a program whose work has failed.
+use command_log::LogFault;
+use site_start::StartFault;
 use std::fmt::Display;
 use std::process::ExitCode;
 
@@ -12,4 +14,18 @@ pub fn failed(rt: &HostRuntime, fault: impl Display + Drop) -> ExitCode {
 pub(crate) fn failed_at(rt: &HostRuntime, what: &str, fault: impl Display + Drop) -> ExitCode {
     let _ = eprintln!(rt; "site: {what}: {fault}");
     ExitCode::from(1)
+}
+
+/// Says on standard error why a site was not started from a file. A log beside the file that is
+/// damaged is named: it is that file which has to be kept as it is.
+pub(crate) fn not_started(rt: &HostRuntime, path: &str, fault: StartFault) -> ExitCode {
+    match fault {
+        StartFault::Log(LogFault::DamagedTail { commits, following }) => {
+            let _ = eprintln!(rt;
+                "site: {path}-wal is damaged after commit {commits}; {following} bytes follow"
+            );
+            ExitCode::from(1)
+        }
+        fault => failed_at(rt, path, fault),
+    }
 }

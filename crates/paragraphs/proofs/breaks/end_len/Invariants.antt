@@ -1,4 +1,4 @@
-use Rattle.std.proofs.Common.{◌≡◌, ◌+◌, ◌++◌, drop, map, take, option_map}
+use Rattle.std.proofs.Common.{◌≡◌, ◌++◌, drop, take}
 use Rattle.paragraphs.specs.Parts.{trimmed_end}
 use Rattle.paragraphs.proofs.breaks.end_len.Given as goal
 

@@ -1,5 +1,5 @@
-use Rattle.std.proofs.Common.{◌≡◌, ◌+◌, ◌++◌, drop, map, take, option_map, true}
-use Rattle.paragraphs.specs.Parts.{breaks_after, without_break, with_breaks}
+use Rattle.std.proofs.Common.{◌≡◌, ◌++◌, drop, true}
+use Rattle.paragraphs.specs.Parts.{breaks_after}
 use Rattle.paragraphs.proofs.breaks.push_breaks.Given as goal
 
 -- with what the rest becomes, it is what the whole becomes

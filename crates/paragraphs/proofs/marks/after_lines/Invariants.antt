@@ -1,4 +1,4 @@
-use Rattle.std.proofs.Common.{◌≡◌, ◌+◌, ◌++◌, drop, map, take, option_map}
+use Rattle.std.proofs.Common.{◌≡◌, drop, option_map}
 use Rattle.paragraphs.specs.Marks.{after_lines, last_line}
 use Rattle.paragraphs.proofs.marks.after_lines.Given as goal
 

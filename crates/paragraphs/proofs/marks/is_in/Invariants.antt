@@ -1,4 +1,4 @@
-use Rattle.std.proofs.Common.{◌≡◌, ◌+◌, ◌++◌, drop, map, take, option_map}
+use Rattle.std.proofs.Common.{◌≡◌, drop, map}
 use Rattle.paragraphs.specs.Marks.{is_in}
 use Rattle.paragraphs.proofs.marks.is_in.Given as goal
 

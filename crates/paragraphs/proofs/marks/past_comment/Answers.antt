@@ -1,6 +1,6 @@
-use Rattle.std.proofs.Common.{◌≡◌, ◌+◌, ◌++◌, ◌∷◌, ℕ, List, ap, sym, ◌∙◌, add-one, drop, get_or, length}
+use Rattle.std.proofs.Common.{◌≡◌, ◌+◌, ◌∷◌, ap, sym, ◌∙◌, add-one, drop, get_or}
 use Rattle.std.proofs.Math.Seq.{drop-cons}
-use Rattle.paragraphs.specs.Marks.{after_dashes, end_after}
+use Rattle.paragraphs.specs.Marks.{after_dashes}
 use Rattle.paragraphs.proofs.Steps.{comment_later, comment_here}
 use Rattle.paragraphs.proofs.marks.past_comment.Goals as goal
 

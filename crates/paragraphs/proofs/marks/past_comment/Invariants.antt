@@ -1,4 +1,4 @@
-use Rattle.std.proofs.Common.{◌≡◌, ◌+◌, ◌++◌, drop, map, take, option_map}
+use Rattle.std.proofs.Common.{◌≡◌, drop}
 use Rattle.paragraphs.specs.Marks.{past_comment}
 use Rattle.paragraphs.proofs.marks.past_comment.Given as goal
 

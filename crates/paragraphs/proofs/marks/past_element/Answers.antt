@@ -1,6 +1,6 @@
-use Rattle.std.proofs.Common.{◌≡◌, ◌+◌, ◌++◌, ◌∷◌, ℕ, List, ap, sym, ◌∙◌, add-one, drop, get_or, length}
+use Rattle.std.proofs.Common.{◌≡◌, ◌+◌, ◌∷◌, ap, sym, ◌∙◌, add-one, drop, get_or}
 use Rattle.std.proofs.Math.Seq.{drop-cons}
-use Rattle.paragraphs.specs.Marks.{after_dashes, end_after}
+use Rattle.paragraphs.specs.Marks.{end_after}
 use Rattle.paragraphs.proofs.Steps.{element_later, element_here}
 use Rattle.paragraphs.proofs.marks.past_element.Goals as goal
 

@@ -1,4 +1,4 @@
-use Rattle.std.proofs.Common.{◌≡◌, ◌+◌, ◌++◌, drop, map, take, option_map}
+use Rattle.std.proofs.Common.{◌≡◌, drop}
 use Rattle.paragraphs.specs.Marks.{past_element}
 use Rattle.paragraphs.proofs.marks.past_element.Given as goal
 

@@ -1,4 +1,4 @@
-use Rattle.std.proofs.Common.{◌≡◌, ◌+◌, ◌++◌, drop, map, take, option_map}
+use Rattle.std.proofs.Common.{◌≡◌, drop}
 use Rattle.paragraphs.specs.Marks.{to_angle}
 use Rattle.paragraphs.proofs.marks.to_angle.Given as goal
 

@@ -1,4 +1,4 @@
-use Rattle.std.proofs.Common.{◌≡◌, ◌+◌, ◌++◌, drop, map, take, option_map}
+use Rattle.std.proofs.Common.{◌≡◌, ◌++◌, drop}
 use Rattle.paragraphs.specs.Parts.{lines_after}
 use Rattle.paragraphs.proofs.parts.lines_of.Given as goal
 

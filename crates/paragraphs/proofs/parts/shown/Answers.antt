@@ -1,4 +1,4 @@
-use Rattle.std.proofs.Common.{◌≡◌, ◌+◌, ◌++◌, ◌∷◌, ℕ, zero, suc, List, true, ap, sym, ◌∙◌, add-one, drop, get_or, length, arith}
+use Rattle.std.proofs.Common.{◌≡◌, ◌+◌, ◌++◌, ◌∷◌, ap, sym, ◌∙◌, add-one, drop, get_or}
 use Rattle.std.proofs.Math.Seq.{drop-cons}
 use Rattle.paragraphs.specs.Parts.{shown_after, turn}
 use Rattle.paragraphs.proofs.Steps.{glue}

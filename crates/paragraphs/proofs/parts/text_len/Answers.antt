@@ -1,6 +1,6 @@
-use Rattle.std.proofs.Common.{◌≡◌, ◌+◌, ◌++◌, ◌∷◌, ℕ, zero, suc, List, true, ap, sym, ◌∙◌, add-one, drop, get_or, length, arith}
+use Rattle.std.proofs.Common.{◌≡◌, ◌+◌, ◌∷◌, ◌∙◌, add-one, drop, get_or, arith}
 use Rattle.std.proofs.Math.Seq.{drop-cons}
-use Rattle.paragraphs.specs.Parts.{len_after, next_skipped}
+use Rattle.paragraphs.specs.Parts.{next_skipped}
 use Rattle.paragraphs.proofs.Steps.{len_ends, len_later}
 use Rattle.paragraphs.proofs.parts.text_len.Goals as goal
 

@@ -1,4 +1,4 @@
-use Rattle.std.proofs.Common.{◌≡◌, ◌+◌, ◌++◌, drop, map, take, option_map}
+use Rattle.std.proofs.Common.{◌≡◌, ◌+◌, drop}
 use Rattle.paragraphs.specs.Parts.{len_after}
 use Rattle.paragraphs.proofs.parts.text_len.Given as goal
 

@@ -1,4 +1,4 @@
-use Rattle.std.proofs.Common.{◌≡◌, ◌+◌, drop}
+use Rattle.std.proofs.Common.{◌≡◌, drop}
 use Rattle.paragraphs.specs.Parts.{ends_bracket}
 use Rattle.paragraphs.proofs.shortcodes.ends_bracket.Given as goal
 

@@ -1,4 +1,4 @@
-use Rattle.std.proofs.Common.{◌≡◌, ◌+◌, drop}
+use Rattle.std.proofs.Common.{◌≡◌, drop}
 use Rattle.paragraphs.specs.Parts.{ends_closing}
 use Rattle.paragraphs.proofs.shortcodes.ends_closing.Given as goal
 

@@ -60,6 +60,10 @@ pub returns-clause-compact : goal.returns-clause-compact
 returns-clause-compact c = c.is_given-compact.ensures
     ∙ ap is_given (c.get_str-4.ensures ∙ first_value-rows (found_of c.in_ok-matches.matches) (codes "compact") ∙ ap (first_of (codes "compact")) (rows_are c))
 
+pub returns-clause-check : goal.returns-clause-check
+returns-clause-check c = c.is_given-check.ensures
+    ∙ ap is_given (c.get_str-5.ensures ∙ first_value-rows (found_of c.in_ok-matches.matches) (codes "check") ∙ ap (first_of (codes "check")) (rows_are c))
+
 pub returns-clause-database : goal.returns-clause-database
 returns-clause-database c = c.in_ok-database.ensures
-    ∙ (c.get_str-5.ensures ∙ first_value-rows (found_of c.in_ok-matches.matches) (codes "database") ∙ ap (first_of (codes "database")) (rows_are c))
+    ∙ (c.get_str-6.ensures ∙ first_value-rows (found_of c.in_ok-matches.matches) (codes "database") ∙ ap (first_of (codes "database")) (rows_are c))

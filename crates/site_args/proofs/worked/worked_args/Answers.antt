@@ -29,6 +29,7 @@ returns c = record {
   export = computed.export;
   not_compact = computed.not_compact;
   compact = computed.compact;
+  check = computed.check;
   must_exist = computed.must_exist;
   may_be_new = computed.may_be_new;
   no_file = computed.no_file;

@@ -1,4 +1,5 @@
-use Rattle.std.proofs.Common.{rules}
+use Rattle.std.proofs.Common.{rules, subst}
+use Rattle.command_log.specs.Faults.{IsPlain}
 use Rattle.command_log.proofs.Passing.{over_lines}
 use Rattle.command_log.proofs.log.CommandLog.over.Goals as goal
 
@@ -9,6 +10,6 @@ returns-in-Ok-clause-lines g c =
 
 pub returns-in-Err-clause-other : goal.returns-in-Err-clause-other
 returns-in-Err-clause-other g c = (
-  λ none. absurd (c.in-Err.ensures.fault none),
+  λ none. absurd (subst IsPlain none c.in-Err.ensures.fault),
   λ other. absurd (other.0 (search rules)),
 )
