@@ -1,11 +1,11 @@
 /*
  * read, write and writev that give and take little, and fail: a read of standard input gives at most FAIL_PIECE bytes,
- * and fails once FAIL_GOOD bytes were given; standard output takes at most FAIL_TAKES bytes a write, FAIL_ROOM bytes in
- * all, and then fails. A variable that isn't set limits nothing. If FAIL_TIMES is set, that many calls fail, and later
- * ones do all that they are asked to. If FAIL_SILENTLY is set, a write that fails says that it took no byte. As the
- * program ends, the number of its writes to standard output is written to the file that FAIL_COUNT names. It is
- * compiled by the toolchain's own compiler, which brings no headers, so what it takes from the C library is declared
- * here.
+ * and fails once FAIL_GOOD bytes were given; standard output, or the descriptor that FAIL_FILE names, takes at most
+ * FAIL_TAKES bytes a write, FAIL_ROOM bytes in all, and then fails. A variable that isn't set limits nothing. If
+ * FAIL_TIMES is set, that many calls fail, and later ones do all that they are asked to. If FAIL_SILENTLY is set, a
+ * write that fails says that it took no byte. As the program ends, the number of its writes to that descriptor is
+ * written to the file that FAIL_COUNT names. It is compiled by the toolchain's own compiler, which brings no headers, so
+ * what it takes from the C library is declared here.
  */
 typedef unsigned long size_t;
 typedef long ssize_t;
@@ -32,6 +32,7 @@ static size_t takes;
 static size_t room;
 static size_t times;
 static int is_silent;
+static int writer;
 static unsigned long writes;
 
 static size_t limit(const char *name)
@@ -48,6 +49,7 @@ __attribute__((constructor)) static void begin(void)
     room = limit("FAIL_ROOM");
     times = limit("FAIL_TIMES");
     is_silent = getenv("FAIL_SILENTLY") != 0;
+    writer = getenv("FAIL_FILE") ? (int)limit("FAIL_FILE") : 1;
 }
 
 __attribute__((destructor)) static void end(void)
@@ -85,9 +87,9 @@ ssize_t read(int file, void *bytes, size_t count)
 ssize_t write(int file, const void *bytes, size_t count)
 {
     ssize_t (*next)(int, const void *, size_t) = (ssize_t(*)(int, const void *, size_t))dlsym(NEXT, "write");
-    if (file == 1)
+    if (file == writer)
         writes++;
-    if (file != 1 || times == 0)
+    if (file != writer || times == 0)
         return next(file, bytes, count);
     if (room == 0) {
         ssize_t fault = failed();

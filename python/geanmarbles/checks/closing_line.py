@@ -4,7 +4,8 @@ line that ends a run. `python/conftest.py` hands it on."""
 from importlib import import_module
 from typing import Any
 
-from geanmarbles.checks.runner import Skipped, closing, is_check
+from geanmarbles.checks.judging import Counted, Skipped
+from geanmarbles.checks.runner import is_check
 
 COUNTS = {"passed": 0, "failed": 0, "skipped": 0}
 
@@ -41,4 +42,4 @@ def pytest_collectreport(report: Any) -> None:
 
 
 def pytest_unconfigure() -> None:
-    print(closing(COUNTS["passed"], COUNTS["failed"], COUNTS["skipped"]), flush=True)
+    print(Counted(**COUNTS), flush=True)

@@ -8,20 +8,27 @@ of them and a run with one, divided by their number. A request fails that replie
 either than counts.txt beside this script says; --record writes that file anew. What takes less than recorded by as much
 is named, so that it can be recorded. Without valgrind nothing is counted, which is said.
 
+Among the requests are a site in a file: edits of which many come in one read and so in one commit, as many as fill a
+read, and edits that a start carries out; pages that are watched by a log, also by one that can't be written, and a page
+by single turns; large pages and texts; every plugin of `press`; and a site of 10,000 options.
+
 A snippet of the program `press`, which is crates/press/out/press, is counted beside a bundled plugin that prints the
 same: it may take twice as many instructions.
 
 The last line is 'N passed, M failed'. The exit status is 0 if nothing failed.
 """
 
+import os
 import re
 import shutil
 import subprocess
 import sys
 import tempfile
 from collections import Counter
-from collections.abc import Iterator, Mapping, Sequence
+from collections.abc import Iterable, Iterator, Mapping
 from concurrent.futures import ThreadPoolExecutor
+from enum import Enum
+from pathlib import Path
 from typing import NamedTuple
 
 from geanmarbles.arguments import Parser
@@ -56,17 +63,35 @@ LINK = '<a href="/a">Home</a>'
 FIVE = activate("args", "atts", "bold", "marks", "note")
 # What the five plugins make of a post that is empty.
 OF_FIVE = shown("[1:]", "n0X1Y(2 1)")
+# Every plugin of the program `press`, and what they make of such a post.
+EVERY = activate(
+    *("args", "atts", "blocks", "bold", "captions", "deep", "grow", "guard", "marks", "nest", "note"),
+    *("once", "paragraphs", "snippets", "tagmark"),
+)
+OF_EVERY = shown("[1:]", "n0aX1Y11-n0aXY1193244(1 )7-23244(2 1)7")
+
+
+class Place(Enum):
+    """Where a request finds its site."""
+
+    MEMORY, FILE, START = range(3)
 
 
 class Request(NamedTuple):
     """A request: its name, what is sent before it, the exchange that is counted, and the program: its arguments, its
-    crate."""
+    crate, where its standard error goes."""
 
     name: str
     before: Exchange
     counted: Exchange
     options: tuple[str, ...] = ()
     program: str = "site"
+    errors: str = os.devnull
+    # Whether the site is in a file; or the edits are there already, and the start that carries them out is counted.
+    place: Place = Place.MEMORY
+
+    def times(self, times: int) -> Exchange:
+        return self.before + self.counted * times
 
 
 class Cost(NamedTuple):
@@ -121,32 +146,108 @@ def links() -> Iterator[Request]:
     yield Request("100 links of a snippet", listed + template + site, front, program="press")
 
 
-def counted(program: str, options: Sequence[str], exchange: Exchange) -> Cost | None:
-    """What a run over an exchange takes."""
-    with tempfile.NamedTemporaryFile("r", encoding="utf-8", errors="replace") as counts:
-        words = ["valgrind", "--tool=callgrind", f"--callgrind-out-file={counts.name}", program, *options]
-        ran = subprocess.run(words, input=exchange.lines.encode(), capture_output=True, check=False)
+def stored_requests() -> Iterator[Request]:
+    """Edits of a site in a file."""
+    site = put(1, "x")
+    edits = done("edit", id=1, title="t") * 50
+    yield Request("50 edits in a file, in one commit", site, edits, place=Place.FILE)
+    # More than the 65,536 bytes that are read at a time, so that each time there is one more commit.
+    chunk = done("edit", id=1, content="y" * 1_000) * 64
+    yield Request("64 edits of 1 KB in a file, a commit", site, chunk, place=Place.FILE)
+    yield Request("50 edits that a start carries out", site, edits, place=Place.START)
+
+
+def watched_requests() -> Iterator[Request]:
+    """Pages that are printed turn by turn."""
+    site, front = posts(100)
+    traced = ("--trace",)
+    yield Request("100 empty posts", site, front)
+    yield Request("100 empty posts, watched", site, front, traced)
+    yield Request("100 empty posts, watched by a log that is full", site, front, traced, errors="/dev/full")
+    begun = Exchange('{"cmd":"begin","path":"/"}\n', "ok 1\n")
+    turn = '{"cmd":"turns","page":1,"count":1}\n'
+    # The content of each post is a turn, and the last one comes to the end.
+    turns = begun + Exchange(turn, "ok\n") * 100 + Exchange(turn, front.replies)
+    yield Request("100 empty posts, a turn at a time", site, turns)
+    yield Request("100 empty posts, a turn at a time, watched", site, turns, traced)
+
+
+def large_requests() -> Iterator[Request]:
+    """Large pages and texts, many paths, many options."""
+    large, echoes = LETTERS * 10, 100
+    site = done("option", name="posts_per_page", value="6") + put(1, "[say]" * echoes)
+    site += joined(put(it, large) for it in range(2, 7))
+    front = get(body=shown(large) * 5 + shown("E" * echoes + "A" * echoes))
+    yield Request("a page of 2.5 MB, with 100 echoes at its end", activate("note") + site, front)
+    spaced = ("[b]x[/b]" + "word " * 8) * 2_000
+    bold = spaced.replace("[b]", "<b>").replace("[/b]", "</b>")
+    yield Request("2,000 shortcodes in 96 KB", activate("bold") + put(1, spaced), get(body=shown(bold)))
+    site = joined(put(it) for it in range(1, 9))
+    yield Request("eight paths in turn", site, joined(get(f"/?p={it}", shown("")) for it in range(1, 9)))
+    options = joined(done("option", name=f"o{it}", value="v") for it in range(10_000))
+    yield Request("the front of no post, beside 10,000 options", options, get(body=NOTHING))
+    change = done("option", name="o5000", value="v")
+    yield Request("the same after a change of one of them", options, change + get(body=NOTHING))
+
+
+def pressed_requests() -> Iterator[Request]:
+    """Many plugins, and many callbacks on one hook."""
+    yield Request("one empty post, every plugin of press active", EVERY + put(1), get(body=OF_EVERY), program="press")
+    hooks = done("option", name="snippets", value=" ".join(f"the_content:{it}" for it in range(100)))
+    site = activate("snippets") + hooks + put(1, LETTERS)
+    yield Request("100 filters of a text of 50,000 letters", site, get(body=shown(LETTERS)), program="press")
+
+
+def made_file(program: str, folder: str, exchange: Exchange) -> str:
+    """A file with the edits of an exchange."""
+    file = str(Path(folder, "site.db"))
+    subprocess.run([program, "--database", file], input=exchange.lines.encode(), capture_output=True, check=True)
+    return file
+
+
+def counted(program: str, request: Request, exchange: Exchange) -> Cost | None:
+    """What a run over an exchange takes. Its input is a file, so each read of it is as long as it can be."""
+    with tempfile.TemporaryDirectory() as folder:
+        words = list(request.options)
+        if request.place != Place.MEMORY:
+            words += ["--database", made_file(program, folder, Exchange())]
+        if request.place == Place.START:
+            made_file(program, folder, exchange)
+            exchange = Exchange()
+        counts, given = Path(folder, "counts"), Path(folder, "lines")
+        given.write_text(exchange.lines, encoding="utf-8")
+        tool = ["valgrind", "--tool=callgrind", "--log-file=/dev/null", f"--callgrind-out-file={counts}"]
+        with given.open("rb") as lines, open(request.errors, "wb") as errors:
+            ran = subprocess.run(
+                [*tool, program, *words], stdin=lines, stdout=subprocess.PIPE, stderr=errors, check=False
+            )
         if ran.returncode or ran.stdout != exchange.replies.encode():
             return None
-        names: dict[str, str] = {}
-        calls: Counter[str] = Counter()
-        callee, total = "", 0
-        for text in counts:
-            named = NAMED.match(text)
-            if named:
-                names.setdefault(named[2], named[3])
-                callee = names[named[2]] if named[1] else callee
-            elif text.startswith("calls="):
-                calls[callee] += int(text[len("calls=") :].split()[0])
-            elif text.startswith(("summary: ", "totals: ")):
-                total = int(text.split()[1])
+        with counts.open(encoding="utf-8", errors="replace") as texts:
+            return cost_in(texts)
+
+
+def cost_in(counts: Iterable[str]) -> Cost:
+    """What callgrind has counted of a run."""
+    names: dict[str, str] = {}
+    calls: Counter[str] = Counter()
+    callee, total = "", 0
+    for text in counts:
+        named = NAMED.match(text)
+        if named:
+            names.setdefault(named[2], named[3])
+            callee = names[named[2]] if named[1] else callee
+        elif text.startswith("calls="):
+            calls[callee] += int(text[len("calls=") :].split()[0])
+        elif text.startswith(("summary: ", "totals: ")):
+            total = int(text.split()[1])
     return Cost(total, sum(calls[it] for it in ALLOCATE))
 
 
 def cost_of(program: str, request: Request) -> Cost | None:
     """What one request takes, or None if one is replied to wrongly."""
     program = str(BUILT_PRESS) if request.program == "press" else program
-    one, many = (counted(program, request.options, request.before + request.counted * it) for it in (1, 1 + TIMES))
+    one, many = (counted(program, request, request.times(it)) for it in (1, 1 + TIMES))
     if not one or not many:
         return None
     return Cost((many.instructions - one.instructions) / TIMES, (many.allocations - one.allocations) / TIMES)
@@ -195,7 +296,7 @@ def main() -> int:
     if not shutil.which("valgrind"):
         print("tests/cost/run: valgrind isn't on the PATH, so nothing is counted\n0 passed, 0 failed")
         return 0
-    asked = [*requests(), *links()]
+    asked = [*requests(), *links(), *stored_requests(), *watched_requests(), *large_requests(), *pressed_requests()]
     with ThreadPoolExecutor(2) as pool:
         costs = list(pool.map(lambda it: cost_of(options.program, it), asked))
     if options.record and all(costs):

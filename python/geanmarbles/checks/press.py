@@ -23,18 +23,20 @@ import json
 import re
 import shutil
 import signal
-import socket
 import subprocess
 import tempfile
 import time
 import urllib.error
 import urllib.request
 from collections.abc import Callable, Iterable, Mapping, Sequence
+from functools import partial
 from pathlib import Path
 from random import Random
 from typing import Any
 
 from geanmarbles.arguments import Parser
+from geanmarbles.checks.cluster.processes import free_port
+from geanmarbles.checks.judging import Counts, Skipped, must
 from geanmarbles.checks.programs import missing
 from geanmarbles.client.snippets import Place, faults, options_in, parts, place_after
 from geanmarbles.paths import BUILT_PRESS, BUILT_PROGRAM, EXAMPLES, TESTS
@@ -151,19 +153,6 @@ OF_WORDPRESS = re.compile(
 )
 # The kinds of places that values may be at.
 KINDS = ("attribute", "bare", "between", "comment", "equals", "inside", "name", "opened", "quoted", "raw")
-
-
-class Wrong(Exception):
-    """What came otherwise than it must."""
-
-
-class Skipped(Exception):
-    """What can't be tried here, with the reason."""
-
-
-def must(holds: object, what: str) -> None:
-    if not holds:
-        raise Wrong(what)
 
 
 def joined(lines: Iterable[Line]) -> str:
@@ -389,14 +378,6 @@ def agrees_with_wordpress(press: str, _site: str, options: argparse.Namespace) -
             must(page == other, f"{made.__name__}: of {content!r} it shows {page!r}, WordPress {other!r}")
 
 
-def free_port() -> int:
-    """A port such that it and those that examples/cluster/three takes after it are likely to be free."""
-    with socket.socket() as taken:
-        taken.bind(("127.0.0.1", 0))
-        port: int = taken.getsockname()[1]
-    return min(port, 65_000)
-
-
 def page_at(port: int) -> str | None:
     """The page of the post at a node, or None while the node doesn't have it yet."""
     try:
@@ -482,17 +463,9 @@ def main() -> int:
     parser.add_argument("press", nargs="?", default=str(BUILT_PRESS), metavar="PRESS")
     parser.add_argument("site", nargs="?", default=str(BUILT_PROGRAM), metavar="SITE")
     options = parser.parse_args()
-    passed = failed = 0
+    counts = Counts()
+    absent = missing(options.press) or missing(options.site)
     for check in CHECKS:
-        try:
-            absent = missing(options.press) or missing(options.site)
-            must(not absent, absent or "")
-            check(options.press, options.site, options)
-            passed += 1
-        except Skipped as why:
-            print(f"skipped: {check.__doc__}: {why}")
-        except (Wrong, subprocess.TimeoutExpired) as fault:
-            failed += 1
-            print(f"FAILED: {check.__doc__}: {fault}")
-    print(f"{passed} passed, {failed} failed")
-    return 1 if failed else 0
+        made = partial(must, False, absent) if absent else partial(check, options.press, options.site, options)
+        counts.judge(check.__doc__, made)
+    return counts.end()

@@ -14,7 +14,6 @@ The last line is 'N passed, M failed'. With --sums, it prints what out/quick.jso
 
 import argparse
 import json
-import re
 import subprocess
 import time
 from collections.abc import Iterable, Sequence
@@ -22,6 +21,7 @@ from pathlib import Path
 from typing import Any
 
 from geanmarbles.arguments import Parser
+from geanmarbles.checks.judging import Counted, counted_in
 from geanmarbles.checks.parts import parts_of
 from geanmarbles.paths import BUILT_PRESS, ROOT
 from geanmarbles.repository.crates import (
@@ -45,7 +45,6 @@ SITE = ROOT / "crates" / "site" / "out" / "site"
 PROGRAM = ROOT / "out" / "site.quick"
 # More changed crates than this are better built side by side.
 MANY = 3
-CLOSING = re.compile(r"(\d+) passed, (\d+) failed(?:, \d+ skipped)?")
 
 
 class Counts:
@@ -78,9 +77,9 @@ def script(counts: Counts, words: Sequence[str]) -> None:
     """Runs a script whose last line counts."""
     ran = subprocess.run([str(ROOT / words[0]), *words[1:]], stdout=subprocess.PIPE, errors="replace")
     print(ran.stdout, end="", flush=True)
-    closing = CLOSING.fullmatch((ran.stdout.strip().split("\n") or [""])[-1])
-    counts.passed += int(closing[1]) if closing else 0
-    counts.failed += int(closing[2]) if closing else 1
+    closing = counted_in(ran.stdout) or Counted(failed=1)
+    counts.passed += closing.passed
+    counts.failed += closing.failed
 
 
 def sums_of(crates: Iterable[str]) -> Sums:

@@ -98,8 +98,15 @@ def check_random(program: str, number: int) -> None:
     SHORTER.judge(f"refusals {number}", partial(check_list, program), Lines(Random(f"1/{number}")).list())
 
 
-def check_after(program: str, before: list[bytes], lines: list[bytes]) -> None:
-    """The script against the program's replies over a site in a file, after what was carried out before."""
+def check_random_after(program: str, number: int) -> None:
+    """The same of a list whose first half was carried out before."""
+    lines = Lines(Random(f"2/{number}")).list()
+    SHORTER.judge(f"refusals after {number}", partial(check_after, program), lines)
+
+
+def check_after(program: str, listed: list[bytes]) -> None:
+    """The script against the program's replies over a site in a file: to the second half of a list, after the first."""
+    before, lines = listed[: len(listed) // 2], listed[len(listed) // 2 :]
     with tempfile.TemporaryDirectory() as name:
         site, first, second, exported = (Path(name, it) for it in ("site.db", "1.jsonl", "2.jsonl", "site.jsonl"))
         kept = ["--database", str(site)]
@@ -205,9 +212,7 @@ def checks_of(program: str, lists: int) -> Iterator[tuple[str, Callable[[], None
     for number in range(lists):
         yield f"random lines {number}", partial(check_random, program, number)
     for number in range(lists // 4):
-        lines = Lines(Random(f"2/{number}")).list()
-        half = len(lines) // 2
-        yield f"lines after others {number}", partial(check_after, program, lines[:half], lines[half:])
+        yield f"lines after others {number}", partial(check_random_after, program, number)
 
 
 def main() -> int:

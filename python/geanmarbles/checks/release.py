@@ -22,7 +22,7 @@ from typing import Any, NamedTuple
 from geanmarbles.checks import bare
 from geanmarbles.checks.links.planted import copy_to
 from geanmarbles.checks.programs import executable, missing, without_toolchain
-from geanmarbles.checks.runner import Skipped
+from geanmarbles.checks.judging import Skipped, must
 from geanmarbles.paths import BUILT_PROGRAM, EXAMPLES
 
 SECONDS = 600
@@ -35,15 +35,6 @@ EXPORT = "tests/from_wordpress/whole/fournil.xml"
 # Whose commits the tests make, and when.
 MAKER = {f"GIT_{who}_{what}": "a" for who in ("AUTHOR", "COMMITTER") for what in ("NAME", "EMAIL")}
 MAKER |= {f"GIT_{who}_DATE": "2026-01-02T03:04:05Z" for who in ("AUTHOR", "COMMITTER")}
-
-
-class Wrong(Exception):
-    """What came otherwise than it must."""
-
-
-def must(holds: object, what: str) -> None:
-    if not holds:
-        raise Wrong(what)
 
 
 class Repository:

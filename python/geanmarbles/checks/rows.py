@@ -238,8 +238,7 @@ def difference(what: str, wanted: bytes, came: bytes) -> list[str]:
     """Says at which byte two texts begin to differ, or nothing if they are equal."""
     if wanted == came:
         return []
-    shorter = min(len(wanted), len(came))
-    at = next((i for i in range(shorter) if wanted[i] != came[i]), shorter)
+    at = len(os.path.commonprefix([wanted, came]))
     return [
         f"{what} differs at byte {at} (wanted {len(wanted)} bytes, {len(came)} came)",
         f"  wanted: {around(wanted, at)}",

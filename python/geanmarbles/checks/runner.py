@@ -13,20 +13,15 @@ import os
 import shutil
 import subprocess
 import sys
-from collections.abc import Callable, Iterable, Iterator, Sequence
+from collections.abc import Iterable, Iterator, Sequence
 from importlib import import_module
 from importlib.util import find_spec
 from pathlib import Path
 from types import ModuleType
 
 from geanmarbles.arguments import Parser
+from geanmarbles.checks.judging import Check, Counts
 from geanmarbles.paths import ROOT
-
-Check = Callable[[], object]
-
-
-class Skipped(Exception):
-    """Why a check isn't made here."""
 
 
 def is_check(module: ModuleType, name: str, found: object) -> bool:
@@ -43,11 +38,6 @@ def checks_of(modules: Iterable[str], only: Sequence[str]) -> Iterator[tuple[str
             full = f"{name.rpartition('.')[2]}::{function}"
             if is_check(module, function, found) and (not only or any(it in full for it in only)):
                 yield full, found
-
-
-def closing(passed: int, failed: int, skipped: int) -> str:
-    """The last line of a run."""
-    return f"{passed} passed, {failed} failed" + (f", {skipped} skipped" if skipped else "")
 
 
 def pytest_words() -> list[str] | None:
@@ -73,19 +63,10 @@ def run_by_pytest(words: Sequence[str], modules: Iterable[str], only: Sequence[s
 
 def run_by_itself(modules: Iterable[str], only: Sequence[str]) -> int:
     """Runs the checks one after another."""
-    passed = failed = skipped = 0
+    counts = Counts()
     for name, check in checks_of(modules, only):
-        try:
-            check()
-            passed += 1
-        except Skipped as why:
-            skipped += 1
-            print(f"skipped: {name}: {why}", flush=True)
-        except Exception as fault:
-            failed += 1
-            print(f"FAILED: {name}: {check.__doc__ or ''}: {type(fault).__name__}: {fault}", flush=True)
-    print(closing(passed, failed, skipped))
-    return 1 if failed else 0
+        counts.judge(f"{name}: {check.__doc__ or ''}", check)
+    return counts.end()
 
 
 def main_of(doc: str | None, modules: Sequence[str]) -> int:

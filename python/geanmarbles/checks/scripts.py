@@ -15,18 +15,21 @@ each of which is a function below or in release.py. The exit status is 0 if noth
 
 from __future__ import annotations
 
+import ast
 import json
 import os
 import re
 import shutil
 import signal
 import subprocess
+import sys
 import tempfile
-import time
 from pathlib import Path
 from typing import Any, Self
 
-from geanmarbles.checks.runner import Skipped, main_of
+from geanmarbles.checks.cluster.processes import wait_for
+from geanmarbles.checks.judging import Skipped, must
+from geanmarbles.checks.runner import main_of
 from geanmarbles.checks.programs import with_toolchain, without_toolchain
 from geanmarbles.paths import ROOT
 from geanmarbles.repository.unproved import run_telling
@@ -48,17 +51,10 @@ TRIED = '#!/bin/sh\necho "got $*"; read x; echo "$x"; exec test "$x" != bad\n'
 OLD, NEW = 1_000_000_000, 2_000_000_000
 # The crates that docs/PLUGINS.md goes through.
 TUTORIAL = ["example_exclaim", "example_notices", "example_site", "example_gallery"]
+# What is used of Debian's packages for Python, where it is there.
+PACKAGES = {"hypothesis", "prometheus_client", "pytest"}
 # What these scripts do takes no argument, or isn't theirs to say.
 WITHOUT_HELP = {".ci/run"}
-
-
-class Wrong(Exception):
-    """What came otherwise than it must."""
-
-
-def must(holds: object, what: str) -> None:
-    if not holds:
-        raise Wrong(what)
 
 
 def copy_package(folder: Path) -> None:
@@ -207,10 +203,7 @@ def scripts_become_python() -> None:
     words = ["examples/explain", "--hook", "x"]
     with subprocess.Popen(words, cwd=ROOT, stdin=subprocess.PIPE, stderr=subprocess.PIPE) as child:
         try:
-            until = time.monotonic() + SECONDS
-            while "python" not in os.readlink(f"/proc/{child.pid}/exe"):
-                must(time.monotonic() < until, "it doesn't become Python")
-                time.sleep(0.01)
+            wait_for(lambda: "python" in os.readlink(f"/proc/{child.pid}/exe"), SECONDS, "it becomes Python")
             child.send_signal(signal.SIGTERM)
             must(child.wait(SECONDS) == -signal.SIGTERM, f"SIGTERM ends it with {child.returncode}")
         finally:
@@ -521,6 +514,26 @@ def packages_stand_on_lower_ones() -> None:
         must(not re.search(r"^ *sys\.path\b", text, re.M), f"{path} changes Python's path")
 
 
+def needs_python_alone() -> None:
+    """no module of python/ imports anything but Python's own library; the few that use a package of Debian's, as
+    docs/DECISIONS.md says, ask for it only where it is used"""
+    decisions, used = (ROOT / "docs" / "DECISIONS.md").read_text(encoding="utf-8"), set()
+    for path in sorted((ROOT / "python").rglob("*.py")):
+        text, names = path.read_text(encoding="utf-8"), set()
+        for node in ast.walk(ast.parse(text)):
+            if isinstance(node, ast.Import):
+                names |= {it.name.partition(".")[0] for it in node.names}
+            elif isinstance(node, ast.ImportFrom):
+                names.add((node.module or "").partition(".")[0])
+        foreign = names - sys.stdlib_module_names - {"geanmarbles"}
+        must(not foreign, f"{path} imports {', '.join(sorted(foreign))}")
+        used |= set(re.findall(r'import_module\("(\w+)', text))
+    must(used == PACKAGES, f"these are asked for: {sorted(used)}")
+    for name in PACKAGES:
+        package = f"`python3-{name.replace('_', '-')}`"
+        must(package in decisions, f"docs/DECISIONS.md doesn't say that {package} is used")
+
+
 CHECKS = [
     builds_what_changed,
     knows_contents,
@@ -539,6 +552,7 @@ CHECKS = [
     long_titles_are_found,
     scripts_know_help,
     packages_stand_on_lower_ones,
+    needs_python_alone,
     package_is_sound,
 ]
 

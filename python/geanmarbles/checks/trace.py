@@ -12,7 +12,9 @@ says. Here are
 - logs that can't be written: standard error that is closed, full, only for reading, or whose reader goes away at once
   or after some lines. The pages come as without the option;
 - the script of tests/memory with each of its allocations refused in turn: what is written is as tests/memory says, so
-  no page is refused for the log. In some runs the log alone has lost lines, and it never has others;
+  no page is refused for the log. In some runs the log alone has lost lines, and it never has others. A page that is
+  refused since memory ran out is told as such;
+- pages of as many invocations as `--calls` can allow, each of which is told, and the end;
 - examples/explain and examples/step: what they print for the logs of tests/rows/trace.json, and for a session;
 - examples/explain --notes: what it prints for the log of notes.jsonl, and over random contents that it names no
   shortcode of an active plugin, each other one that stays, and no text as unchanged that isn't.
@@ -50,6 +52,12 @@ HERE = TESTS / "trace"
 SECONDS = 120
 LISTS = 200
 CALLS = 1_000
+# The most invocations that a page may be allowed, and how one is asked for that makes them: at once, or by turns.
+MOST_CALLS = 100_000
+ASKS = {
+    "at once": [b'{"cmd":"get","path":"/"}'],
+    "by turns": [b'{"cmd":"begin","path":"/"}', b'{"cmd":"turns","page":1,"count":1000000}'],
+}
 SHORTER = Shorter()
 OK = b"ok\n"
 # A log that isn't written: what a shell makes of standard error.
@@ -177,6 +185,18 @@ def check_lines(program: Program, lines: list[bytes]) -> None:
     check_turns(program, once, replies, ends)
 
 
+def check_many_calls(program: Program, asks: Sequence[bytes]) -> None:
+    """A page that is refused after as many invocations as there may be is told whole: each of them, and its end."""
+    site = [line_of(cmd="activate", plugin="bold")]
+    site.append(line_of(cmd="put", title="", content="[b/]" * MOST_CALLS, date="2024-05-01 10:00:00"))
+    run = program.run(b"".join(line + b"\n" for line in (*site, *asks)), "--calls", str(MOST_CALLS), "--trace")
+    if run.returncode or not run.stdout.endswith(b"refused 9 TooManyCalls\n"):
+        raise Wrong(f"it ended with status {run.returncode} and wrote {shown(run.stdout)}")
+    [end] = ends_in(told(run.stderr))
+    if (end["refused"], end["invocations"]) != (9, MOST_CALLS):
+        raise Wrong(f"the end of the page is told as {end}")
+
+
 def check_example(program: Program, file: Path) -> None:
     given = file.read_bytes()
     plain, with_log = program.run(given), program.run(given, "--trace")
@@ -227,6 +247,8 @@ def check_memory(program: Program) -> None:
         logs: list[set[bytes]] = []
         made: dict[str, subprocess.CompletedProcess[bytes]] = {}
         log_of: dict[int, set[bytes]] = {}
+        # What logs say of pages that were refused: in the script that comes of memory alone.
+        refused: list[Told] = []
 
         def run(self, lines: Iterable[bytes], **variables: str) -> subprocess.CompletedProcess[bytes]:
             if variables.get("REFUSE_AT") in self.made:
@@ -243,8 +265,10 @@ def check_memory(program: Program) -> None:
 
         def judge(self, number: int) -> str | tuple[int, str]:
             done = self.run(self.lines, REFUSE_AT=str(number))
+            log = self.log_of[id(done)]
             if whole_replies(done.stdout) == self.replies:
-                self.logs.append(self.log_of[id(done)])
+                self.logs.append(log)
+            self.refused += [it for it in map(json.loads, log) if "refused" in it]
             self.made[str(number)] = done
             return super().judge(number)
 
@@ -259,6 +283,9 @@ def check_memory(program: Program) -> None:
     strange = [line for log in runs.logs for line in log - whole if not is_shorter(line, whole)]
     if strange:
         raise Wrong(f"a log has a line that the whole one doesn't have: {shown(strange[0])}")
+    others = [it for it in runs.refused if (it["refused"], it["name"]) != (11, REFUSALS[11])]
+    if others or not runs.refused:
+        raise Wrong(f"pages are refused since memory ran out, and the logs tell of {others[:1] or 'none of them'}")
 
 
 def is_shorter(line: bytes, whole: Iterable[bytes]) -> bool:
@@ -381,6 +408,8 @@ def cases(program: Program, lists: int) -> Cases:
         yield f"a log that is {name}", partial(check_unwritten, program, redirection)
     for wanted in (0, 1, 100, 5_000):
         yield f"a reader that goes away after {wanted} lines", partial(check_reader, program, wanted)
+    for name, asks in ASKS.items():
+        yield f"a page of {MOST_CALLS} invocations, {name}", partial(check_many_calls, program, asks)
     yield "memory", lambda: check_memory(program)
     yield from script_cases(program)
     yield from note_cases(program)

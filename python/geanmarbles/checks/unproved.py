@@ -21,31 +21,28 @@ if nothing failed.
 """
 
 import argparse
-import re
 import shutil
 import subprocess
 import sys
 from collections.abc import Sequence
 
 from geanmarbles.arguments import Parser
+from geanmarbles.checks.judging import Counted, counted_in
 from geanmarbles.checks.parts import parts_of
 from geanmarbles.paths import ROOT
 
-CLOSING = re.compile(r"(\d+) passed, (\d+) failed(?:, (\d+) skipped)?")
 
-
-def counted(words: Sequence[str]) -> tuple[int, int, int]:
+def counted(words: Sequence[str]) -> Counted:
     """What a part reports in its last line: how many passed, failed and were skipped. A part that has no such line, or
     that ends badly without a failure, counts as one."""
     print(f"test: {' '.join(words)}", flush=True)
     ran = subprocess.run([ROOT / words[0], *words[1:]], cwd=ROOT, stdout=subprocess.PIPE, text=True, errors="replace")
     print(ran.stdout, end="", flush=True)
-    closing = CLOSING.fullmatch((ran.stdout.strip().split("\n") or [""])[-1])
-    passed, failed, skipped = (int(it or 0) for it in closing.groups()) if closing else (0, 0, 0)
-    if not closing or ran.returncode and not failed:
-        print(f"test: {words[0]} ended with status {ran.returncode} and reported no failure", flush=True)
-        failed += 1
-    return passed, failed, skipped
+    closing = counted_in(ran.stdout)
+    if closing and (closing.failed or not ran.returncode):
+        return closing
+    print(f"test: {words[0]} ended with status {ran.returncode} and reported no failure", flush=True)
+    return (closing or Counted())._replace(failed=1)
 
 
 def main() -> int:
@@ -55,7 +52,7 @@ def main() -> int:
         print(f"test: {why}", file=sys.stderr)
         print("0 passed, 1 failed")
         return 1
-    passed, failed, skipped = map(sum, zip(*map(counted, parts_of("unproved"))))
+    whole = Counted(*map(sum, zip(*map(counted, parts_of("unproved")))))
     print("test: nothing was proved; ./test is the verdict")
-    print(f"{passed} passed, {failed} failed" + (f", {skipped} skipped" if skipped else ""))
-    return 1 if failed else 0
+    print(whole)
+    return 1 if whole.failed else 0

@@ -51,6 +51,21 @@ class Last:
     count: int
 
 
+class Front(NamedTuple):
+    """The edits of a history up to some place: the last of them, and the digest of their lines if it is known.
+
+    It is SHA-256 of the digest before the last edit and then that edit's line; that of no edit is SHA-256 of nothing.
+    """
+
+    last: Last
+    digest: bytes | None
+
+    def with_edit(self, edit: Edit) -> Front:
+        """The same edits and the next one."""
+        digest = None if self.digest is None else hashlib.sha256(self.digest + edit.line).digest()
+        return Front(Last(edit.place, edit.id, self.last.count + 1), digest)
+
+
 class Made(NamedTuple):
     """An edit that is in the history: its place, and its reply if a snapshot has it already, else None."""
 
@@ -59,13 +74,18 @@ class Made(NamedTuple):
 
 
 class Head(NamedTuple):
-    """A snapshot: the last edit that it has, its parts, and the revision at which its head was written."""
+    """A snapshot: the last edit that it has, its parts, the revision at which its head was written, and the digest of
+    all edits up to the last, unless an older node made it."""
 
     last: Last
     folder: str
     parts: int
     sum: str
     revision: int
+    digest: bytes | None = None
+
+    def front(self) -> Front:
+        return Front(self.last, self.digest)
 
 
 class OtherBody(Exception):
@@ -81,6 +101,7 @@ def sum_of(text: bytes) -> str:
 
 
 NONE = Last(0, "", 0)
+NO_EDIT = Front(NONE, hashlib.sha256().digest())
 
 
 class Keys:
@@ -287,7 +308,8 @@ def head_of(found: Json) -> Head:
     """A snapshot's head as its key has it."""
     head = json.loads(decoded(found["value"]))
     last = Last(head["place"], head["id"], head["count"])
-    return Head(last, head["folder"], head["parts"], head["sum"], int(found["mod_revision"]))
+    digest = bytes.fromhex(head["digest"]) if "digest" in head else None
+    return Head(last, head["folder"], head["parts"], head["sum"], int(found["mod_revision"]), digest)
 
 
 def told(last: Last) -> str:

@@ -204,10 +204,11 @@ class Handler(EditHandler):
     def tell_health(self) -> None:
         node = self.server.node
         why = ("stopping", "the node ends") if self.server.is_ending else node.state()
-        head = node.head
+        head, front = node.head, node.front()
         told: dict[str, object] = {
             "ready": why is None,
-            "applied": node.place(),
+            "applied": front.last.place,
+            "digest": front.digest and front.digest.hex(),
             "known": max(node.known.place, node.last.place),
         }
         told |= {"reason": why and why[0], "why": why and why[1], "snapshot": head.last.place if head else 0}

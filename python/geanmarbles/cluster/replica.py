@@ -22,7 +22,7 @@ from geanmarbles.client.program import LINE_BYTES, Ended, NoReply, Program, Repl
 from geanmarbles.cluster import snapshots
 from geanmarbles.cluster.etcd import Refused, Unreachable, WentBack, reason_of
 from geanmarbles.cluster.following import Following
-from geanmarbles.cluster.history import NONE, Edit, Gap, Head, History, Last
+from geanmarbles.cluster.history import NO_EDIT, Edit, Gap, Head, History, Last
 
 # What a program may refuse an edit with that isn't a function of the lines before it.
 BY_CHANCE = {"11", "12"}
@@ -75,8 +75,8 @@ class Replica:
         # Why it has ended, and why it carries out no more edits.
         self.fault: Fault | None = None
         self.is_full: Fault | None = None
-        # The last edit that was carried out, and how many lines the program had been sent when it was there.
-        self.last, self.lines_at_start = NONE, 0
+        # The edits that were carried out, and how many lines the program had been sent once they were the cluster's.
+        self.front, self.lines_at_start = NO_EDIT, 0
         # The edits that no snapshot has: the place, the reply and the size of each by its ID; and the place up to which
         # a snapshot has them.
         self.done: dict[str, tuple[int, str, int]] = {}
@@ -87,6 +87,11 @@ class Replica:
         # Held while the program is asked, until it has replied; and since when it has owed a reply.
         self.turn = threading.Lock()
         self.owes_since: float | None = None
+
+    @property
+    def last(self) -> Last:
+        """The last edit that was carried out."""
+        return self.front.last
 
     def start(self) -> Self:
         threading.Thread(target=self.run, daemon=True).start()
@@ -140,7 +145,7 @@ class Replica:
                 if reply.words[0] != "ok":
                     raise Fault("snapshot-refused", f"a line of the snapshot has the reply {reply.text()!r}")
         if head:
-            self.last = head.last
+            self.front = head.front()
         self.set_goal(self.history.last())
 
     def follow(self) -> None:
@@ -189,7 +194,7 @@ class Replica:
             raise Fault("edit-refused", f"the edit of revision {edit.place} has the reply {reply.text()!r}")
         # Whoever sees that the edit was carried out finds its reply.
         self.done[edit.id] = (edit.place, reply.text(), len(edit.line))
-        self.last = Last(edit.place, edit.id, self.last.count + 1)
+        self.front = self.front.with_edit(edit)
         if self.goal and edit.place >= self.goal.place:
             self.compare()
 

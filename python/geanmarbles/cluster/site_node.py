@@ -11,7 +11,7 @@ from typing import NamedTuple
 
 from geanmarbles.client.program import Ended, NoReply, Program, Reply
 from geanmarbles.cluster.etcd import Refused, Unreachable, WentBack, reason_of, text_of
-from geanmarbles.cluster.history import NONE, Gap, Head, History, Last
+from geanmarbles.cluster.history import NO_EDIT, NONE, Front, Gap, Head, History, Last
 from geanmarbles.cluster.identity import claimed
 from geanmarbles.cluster.news import News
 from geanmarbles.cluster.replica import Fault, Replica, Slow
@@ -326,9 +326,13 @@ class Node:
         """For how many seconds etcd hasn't answered."""
         return time.monotonic() - self.heard
 
-    def place(self) -> int:
+    def front(self) -> Front:
+        """The edits that the replica which serves has carried out."""
         current = self.current
-        return current.last.place if current else 0
+        return current.front if current else NO_EDIT
+
+    def place(self) -> int:
+        return self.front().last.place
 
     # What requests ask.
 

@@ -25,8 +25,10 @@ from geanmarbles.cluster.etcd import Json, Refused, Unreachable, WentBack, decod
 from geanmarbles.cluster.following import Following
 from geanmarbles.cluster.history import (
     KEYS_LISTED,
+    NO_EDIT,
     NONE,
     Edit,
+    Front,
     Gap,
     Head,
     History,
@@ -191,37 +193,42 @@ def edits_up_to(history: History, last: Last, goal: Last) -> Iterator[list[Edit]
         following.close()
 
 
-def rebuilt(history: History, path: str) -> tuple[bytes, Last, Head | None, list[Noted]]:
-    """What the history makes up to its last edit: the lines, that edit, the snapshot that it began with, and of each
-    edit after that its ID, and what is noted of it."""
+def front_of(head: Head | None) -> Front:
+    """The edits that a snapshot has. An older node's has no digest: it begins anew with the sum of the snapshot."""
+    return Front(head.last, head.digest or bytes.fromhex(head.sum)) if head else NO_EDIT
+
+
+def rebuilt(history: History, path: str) -> tuple[bytes, Front, Head | None, list[Noted]]:
+    """What the history makes up to its last edit: the lines, the edits up to there, the snapshot that it began with,
+    and of each edit after that its ID, and what is noted of it."""
     (head, lines), goal = newest(history), history.last()
-    last = head.last if head else NONE
+    front = front_of(head)
     edits: list[Noted] = []
     with Rebuilt(path) as site:
         if any(it.is_refused() for it in site.told(lines)):
             raise NotMade("a line of the snapshot before is refused")
-        for batch in edits_up_to(history, last, goal):
+        for batch in edits_up_to(history, front.last, goal):
             for edit, reply in zip(batch, site.told([it.line for it in batch])):
                 edits.append((edit.id, {"place": edit.place, "reply": reply.text(), "sum": sum_of(edit.line)}))
-        if edits:
-            last = Last(edits[-1][1]["place"], edits[-1][0], last.count + len(edits))
-        if last != goal:
-            raise NotMade(f"the history ends with {last}, and the cluster says {goal}")
-        return site.exported(), goal, head, edits
+                front = front.with_edit(edit)
+        if front.last != goal:
+            raise NotMade(f"the history ends with {front.last}, and the cluster says {goal}")
+        return site.exported(), front, head, edits
 
 
 def make(history: History, path: str, remember: int) -> tuple[Last, int]:
     """Makes a snapshot of the whole history. Raises OtherMaker, NotMade, or what a call of etcd raises."""
     with Turn(history) as turn:
         tidy(turn, history.head())
-        text, last, head, edits = rebuilt(history, path)
+        text, (last, digest), head, edits = rebuilt(history, path)
+        assert digest is not None
         folder = f"{last.place}-{turn.revision}"
         parts = [text[first : first + PART_BYTES] for first in range(0, len(text), PART_BYTES)]
         for number, part in enumerate(parts):
             turn.write([put(history.keys.parts_of(folder) + b"%08d" % number, part)])
         note_done(turn, edits, remember)
         told: Json = {"place": last.place, "id": last.id, "count": last.count, "folder": folder, "parts": len(parts)}
-        told["sum"] = hashlib.sha256(text).hexdigest()
+        told |= {"sum": hashlib.sha256(text).hexdigest(), "digest": digest.hex()}
         former = is_changed_at(history.keys.head, head.revision if head else 0)
         if not turn.write([put(history.keys.head, json.dumps(told).encode())], former):
             raise NotMade("another snapshot has come meanwhile")

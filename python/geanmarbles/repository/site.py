@@ -54,7 +54,7 @@ LARGEST = {"--calls": 100_000, "--cache": 4_096}
 TRACE = "--trace"
 # The heading of a version in CHANGELOG.md.
 RELEASED = re.compile(r"^## \[(\d+\.\d+\.\d+)\]", re.M)
-DATABASE, SHORT = "--database", ("--export", "--compact")
+DATABASE, MUST_EXIST, ALONE = "--database", "--must-exist", ("--export", "--compact", "--check")
 NEEDS = (
     "The first build proves every crate below the program: 43 minutes on four processors with little else to do,"
     " about 5 GB of disk in crates/*/out, and up to 2.6 GB of memory for each process of the prover, one a processor."
@@ -87,11 +87,12 @@ def check_options(seen: list[str]) -> None:
     for option in seen:
         if seen.count(option) > 1:
             raise BadArguments(f"{option} is given twice")
-    short = [it for it in seen if it in SHORT]
-    if short and DATABASE not in seen:
-        raise BadArguments(f"{short[0]} needs {DATABASE} FILE")
-    if len(short) > 1:
-        raise BadArguments(f"{' beside '.join(short)}: one of them")
+    alone = [it for it in seen if it in ALONE]
+    needing = [*alone, *(it for it in seen if it == MUST_EXIST)]
+    if needing and DATABASE not in seen:
+        raise BadArguments(f"{needing[0]} needs {DATABASE} FILE")
+    if len(alone) > 1:
+        raise BadArguments(f"{' beside '.join(alone)}: one of them")
 
 
 def check_value(option: str, value: str) -> None:
@@ -121,7 +122,7 @@ def read_arguments(given: Sequence[str]) -> Asked:
             check_value(option, value)
             seen.append(option)
             words += [option, value]
-        elif word == TRACE or word in SHORT:
+        elif word in (TRACE, MUST_EXIST) or word in ALONE:
             seen.append(word)
             words.append(word)
         elif word in ("-h", "--help", "--version"):

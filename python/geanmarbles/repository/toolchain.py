@@ -5,11 +5,35 @@ import importlib.util
 import os
 import shutil
 import sys
-from typing import Any
+from collections.abc import Iterable
+from typing import IO, Any, Protocol
 
 
 class ToolchainFault(Exception):
     """The toolchain isn't there, or stopped without a verdict."""
+
+
+class Crate(Protocol):
+    """A crate as the toolchain's library has it."""
+
+    name: str
+    folder: str
+    # What it uses of the kit.
+    of_kit: list[str]
+    # Where what is said of its build goes.
+    out: IO[str]
+
+    def below(self) -> list["Crate"]:
+        """The repository's libraries below it, each after those that it uses."""
+
+    def words(self, flags: Iterable[str], *, keeps: bool = True) -> list[str]:
+        """The words of the prover's command that say what the crate is made of."""
+
+    def count(self, pattern: bytes) -> int:
+        """How often its sources have something."""
+
+    def build_rlib(self, flags: Iterable[str], anew: bool) -> int:
+        """Proves and builds it as a library. The result is 0 if it is proved."""
 
 
 def load() -> Any:

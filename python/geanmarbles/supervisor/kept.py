@@ -23,7 +23,7 @@ def check_site(program: str, database: Path) -> None:
     """Makes sure that a file is a site of the program, and that nothing serves it."""
     if not database.is_file():
         raise NotKept(f"there is no file {database}")
-    words = [program, "--database", str(database), "--export"]
+    words = [program, "--database", str(database), "--check"]
     ran = subprocess.run(
         words, stdin=subprocess.DEVNULL, stdout=subprocess.DEVNULL, stderr=subprocess.PIPE, check=False
     )

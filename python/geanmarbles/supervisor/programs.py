@@ -12,6 +12,7 @@ has: they are read from it before a program is started, and each that is done is
 import json
 import queue
 import subprocess
+import sys
 import threading
 from collections.abc import Callable, Iterable, Iterator, Sequence
 from contextlib import contextmanager
@@ -225,8 +226,9 @@ class Site:
     def exported(self) -> list[bytes]:
         """The lines that rebuild the site in the file, which no program may have meanwhile."""
         words = [self.path, "--database", self.file(), "--export"]
-        ran = subprocess.run(words, stdin=subprocess.DEVNULL, stdout=subprocess.PIPE)
+        ran = subprocess.run(words, stdin=subprocess.DEVNULL, capture_output=True)
         if ran.returncode:
+            sys.stderr.write(ran.stderr.decode(errors="replace"))
             raise NotServed(f"--database {self.database} --export ended with status {ran.returncode}")
         return ran.stdout.splitlines()
 

@@ -10,7 +10,6 @@ must get. The last line is 'N passed, M failed', over the checks. The exit statu
 
 import contextlib
 import html
-import http.client
 import io
 import json
 import os
@@ -23,11 +22,14 @@ import threading
 import time
 from collections.abc import Callable
 from concurrent.futures import ThreadPoolExecutor
+from functools import partial
 from pathlib import Path
 from typing import Any
 
 from geanmarbles.checks.browse import edit_checks
 from geanmarbles.checks.browse.browsing import PLAIN, SECONDS, Browse, Response, expect, expect_plain, ran
+from geanmarbles.checks.cluster.processes import wait_for
+from geanmarbles.checks.judging import Counts, must
 from geanmarbles.checks.programs import executable, missing, parser_of, with_toolchain, without_toolchain
 from geanmarbles.client.log import printed, read_pages, tree_of
 from geanmarbles.client.program import Reply, lines_of, pipe, read_reply
@@ -415,12 +417,6 @@ def interrupts_end_it(program: str) -> None:
             expect(is_running(pid), False, "the program runs afterwards")
 
 
-def wait_until(is_so: Callable[[], object]) -> None:
-    until = time.monotonic() + SECONDS
-    while not is_so() and time.monotonic() < until:
-        time.sleep(0.01)
-
-
 def ends_are_made_good(program: str) -> None:
     """if the program ends, the next one takes its place, and no visitor is refused for it"""
     pages, killed = bakery(), set()
@@ -475,7 +471,11 @@ def sites_last(program: str) -> None:
         with Browse(program, "--database", database, EXAMPLES / "bakery.jsonl") as browse:
             expect_page(browse.ask("/"), pages["/"], "the front")
             came = ran("browse", "--program", program, "--port", "0", "--database", database)
-            wanted = f"site: {database}: the file is in use\nbrowse: the program has ended, so the site is gone\n"
+            wanted = (
+                f"site: {database}: the file is in use: end the program that has it, or edit the site through that"
+                " one\n"
+                "browse: the program has ended, so the site is gone\n"
+            )
             expect(came, (1, "", wanted), "a second browse on the file")
             expect(browse.interrupted(), (0, ""), "status and standard error")
         for number in (1, 2, 3):
@@ -509,7 +509,7 @@ def readers_agree(program: str) -> None:
                 expect(statuses <= ({404, 200} if number == 1 else {200}), True, f"statuses meanwhile: {statuses}")
             browse.process.send_signal(signal.SIGUSR1)
             told = re.compile(r"browse: 2\d\d pages in [\d.]+ s, [\d,]+ a second, by 3 programs\n")
-            wait_until(browse.said)
+            wait_for(browse.said, SECONDS, "it says something")
             expect(bool(told.fullmatch(browse.said())), True, f"what SIGUSR1 has it say: {browse.said()!r}")
             status, said = browse.interrupted()
             expect((status, len(told.findall(said))), (0, 2), f"status and report at the end: {said!r}")
@@ -630,24 +630,9 @@ CHECKS = [
 ]
 
 
-def failures(program: str) -> int:
-    """How many checks failed, each of which is printed."""
-    failed = 0
-    for check in CHECKS:
-        try:
-            check(program)
-        except (Wrong, OSError, ValueError, http.client.HTTPException, subprocess.SubprocessError) as fault:
-            failed += 1
-            print(f"FAILED: {check.__doc__}: {type(fault).__name__}: {fault}")
-    return failed
-
-
 def main() -> int:
     program = parser_of(__doc__).parse_args().program
-    if missing(program):
-        print(f"FAILED: {missing(program)}")
-        failed = len(CHECKS)
-    else:
-        failed = failures(program)
-    print(f"{len(CHECKS) - failed} passed, {failed} failed")
-    return 1 if failed else 0
+    absent, counts = missing(program), Counts()
+    for check in CHECKS:
+        counts.judge(check.__doc__, partial(must, False, absent) if absent else partial(check, program))
+    return counts.end()

@@ -51,8 +51,11 @@ def post(token: str, *lines: bytes, version: bytes = b"HTTP/1.1") -> bytes:
     return b"POST /command " + version + b"\r\n" + head + b"".join(lines) + b"\r\n" + HIDDEN
 
 
-# Lengths that are none.
-LENGTHS = (b"+5", b"-1", b"0x10", b"5 5", b"5, 5", b"", b"5;", b"1e1", b"5.0", "\u0665".encode(), b"5\x0b", b'"5"')
+# Lengths that are none, some of which are numbers to one reader or another.
+LENGTHS = (
+    *(b"+5", b"-1", b"0x10", b"5 5", b"5, 5", b"", b"5;", b"1e1", b"5.0", "\u0665".encode(), b"5\x0b", b'"5"'),
+    *(b"5\t5", b"5,5", b"5,", b",5", b"5_0", "\u00b2".encode(), b"\xb2", b"5L", b"0b101", b"0o5", b"-0", b"+0", b"NaN"),
+)
 # Lines that are no field. What comes after one is another request's, or is lost with the length in it.
 NO_FIELDS = {
     "a blank in a name": b"X Y: z\r\n",
@@ -71,6 +74,14 @@ NO_FIELDS = {
     "two carriage returns": b"X: a\r\r\n",
     "a newline alone": b"X: a\n",
     "a carriage return in a name": b"X\r: a\r\n",
+    "a comma in a name": b"X,Y: a\r\n",
+    "a slash in a name": b"X/Y: a\r\n",
+    "an at sign in a name": b"X@Y: a\r\n",
+    "a backslash in a name": b"X\\: a\r\n",
+    "a quote in a name": b'"X": a\r\n',
+    "a vertical tab in a value": b"X: a\x0bb\r\n",
+    "a form feed in a value": b"X: a\x0cb\r\n",
+    "an escape in a value": b"X: a\x1bb\r\n",
 }
 # Request lines.
 LINES = {
@@ -99,6 +110,15 @@ LINES = {
     "HTTPS/1.1": b"GET / HTTPS/1.1",
     "a host with a user": b"GET http://user@x/ HTTP/1.1",
     "a whole address without a host": b"GET http:/// HTTP/1.1",
+    "half a bracket in a whole address": b"GET http://[::1/ HTTP/1.1",
+    "two ports in a whole address": b"GET http://x:1:2/ HTTP/1.1",
+    "a method with a colon": b"GET: / HTTP/1.1",
+    "HTTP/1.1.1": b"GET / HTTP/1.1.1",
+    "HTTP/11": b"GET / HTTP/11",
+    "HTTP/+1.1": b"GET / HTTP/+1.1",
+    "HTTP/1,1": b"GET / HTTP/1,1",
+    "HTTP1.1": b"GET / HTTP1.1",
+    "a blank in the version": b"GET / HTTP /1.1",
 }
 # Hosts that are none, or several.
 HOSTS = {
@@ -111,7 +131,18 @@ HOSTS = {
     "a user in Host": b"Host: y@x\r\n",
     "half a bracket in Host": b"Host: [::1\r\n",
     "no port in Host": b"Host: x:y\r\n",
+    "two ports in Host": b"Host: x:1:2\r\n",
+    "a query in Host": b"Host: x?y\r\n",
+    "a fragment in Host": b"Host: x#y\r\n",
+    "a quote in Host": b'Host: "x"\r\n',
+    "a backslash in Host": b"Host: x\\y\r\n",
+    "half a percent sign in Host": b"Host: x%2\r\n",
 }
+# Transfer codings other than chunks alone.
+CODINGS = (
+    *(b"identity", b"gzip, chunked", b"xchunked", b"chunked, identity", b"chunked;a=b", b'"chunked"'),
+    *(b"", b"deflate", b"chunked, gzip"),
+)
 TWICE = ("Authorization", "Content-Length", "Content-Type", "Idempotency-Key", "X-Site-Fresh", "X-Site-Revision")
 
 
@@ -124,6 +155,13 @@ def of_lengths(token: str) -> Iterator[Attack]:
     yield Attack("a blank before the colon", post(token, b"Content-Length : " + SIZE + b"\r\n"))
     yield Attack("a tab before the colon", post(token, b"Content-Length\t: " + SIZE + b"\r\n"))
     yield Attack("a blank before the name", post(token, b" Content-Length: " + SIZE + b"\r\n"))
+    yield Attack("a length in the next line", post(token, b"Content-Length:\r\n " + SIZE + b"\r\n"))
+    yield Attack("a length and an empty one", post(token, b"Content-Length:\r\n", length))
+    yield Attack("one length, written in two ways", post(token, b"Content-Length: 0" + SIZE + b"\r\n", length))
+    yield Attack("a form feed before a length", post(token, b"Content-Length:\x0c" + SIZE + b"\r\n"))
+    yield Attack("a zero after a length", post(token, b"Content-Length: " + SIZE + b"\x00\r\n"))
+    yield Attack("a newline alone after a length", post(token, b"Content-Length: " + SIZE + b"\n"))
+    yield Attack("a carriage return alone after a length", post(token, b"Content-Length: " + SIZE + b"\rX: y\r\n"))
     for given in LENGTHS:
         yield Attack(f"a length {given!r}", post(token, b"Content-Length: " + given + b"\r\n"))
     yield Attack("no length", post(token), (411,))
@@ -145,7 +183,9 @@ def of_codings(token: str) -> Iterator[Attack]:
     yield Attack("chunks of HTTP/1.0", post(token, chunked, version=b"HTTP/1.0"))
     yield Attack("a blank before the colon of a coding", post(token, b"Transfer-Encoding : chunked\r\n", length))
     yield Attack("a vertical tab before a coding", post(token, b"Transfer-Encoding:\x0bchunked\r\n", length))
-    for coding in (b"identity", b"gzip, chunked", b"xchunked", b"chunked, identity", b"chunked;a=b", b'"chunked"'):
+    yield Attack("a coding in the next line", post(token, b"Transfer-Encoding:\r\n chunked\r\n", length))
+    yield Attack("chunks after another coding", post(token, b"Transfer-Encoding: gzip\r\n", chunked), (501,))
+    for coding in CODINGS:
         yield Attack(f"a coding {coding!r}", post(token, b"Transfer-Encoding: " + coding + b"\r\n"), (501,))
         yield Attack(
             f"a coding {coding!r} and a length", post(token, b"Transfer-Encoding: " + coding + b"\r\n", length)

@@ -14,9 +14,9 @@ from functools import partial
 from typing import Any, Protocol
 
 from geanmarbles.checks.cluster.clients import DATE, Answer, ask, joined, line_of
-from geanmarbles.checks.cluster.judged import Cases, Skipped, must
 from geanmarbles.checks.cluster.nodes import TOKEN, Cluster, Node
 from geanmarbles.checks.cluster.processes import Process, free_port, wait_for
+from geanmarbles.checks.judging import Cases, Skipped, must
 from geanmarbles.client.replies import Wrong
 
 SECONDS = 60

@@ -22,8 +22,8 @@ SECONDS = 5
 TAGS = ("the_title", "the_content", "the_ID")
 PLUGINS = ("bold", "marks", "atts")
 PATHS = ("/", "/?p=1", "/?p=2", "/?p=5", "/?p=17", "/?paged=2", "/?m=202405", "/x")
-# How often a client asks again after no answer, and the chance that it does.
-AGAIN, ASKS_AGAIN = 6, 0.7
+# How often a client asks again after no answer, the chance that it does, and that it does so although it was answered.
+AGAIN, ASKS_AGAIN, ASKS_TWICE = 6, 0.7, 0.1
 
 
 class NoAnswer(Exception):
@@ -220,7 +220,8 @@ class Client(threading.Thread):
             start, end, answer = self.asked(node.post, joined(lines), **headers)
             if self.record.edits(lines, start, end, answer) and answer:
                 self.known, self.cookie = answer.revision(), answer.cookie()
-                return True
+                if self.random.random() > ASKS_TWICE:
+                    return True
             if self.has_ended.is_set() or self.random.random() > ASKS_AGAIN:
                 return False
             time.sleep(self.random.uniform(0.01, 0.2))

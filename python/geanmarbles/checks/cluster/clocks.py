@@ -13,8 +13,9 @@ from pathlib import Path
 from geanmarbles.checks.cluster import nodes
 from geanmarbles.checks.cluster.clients import Load, Record
 from geanmarbles.checks.cluster.etcd import Witness
-from geanmarbles.checks.cluster.judged import Cases, judge_at_rest, must
+from geanmarbles.checks.cluster.judged import judge_at_rest
 from geanmarbles.checks.cluster.nodes import Cluster
+from geanmarbles.checks.judging import Cases, must
 from geanmarbles.checks.programs import executable
 
 # Runs a node to which each question for the time is answered by the time in so many days, or by any at all.

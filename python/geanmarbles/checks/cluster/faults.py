@@ -11,10 +11,12 @@ from contextlib import ExitStack, suppress
 from functools import partial
 from pathlib import Path
 from random import Random
+from typing import NamedTuple
 
 from geanmarbles.checks.cluster.clients import Load, Record
-from geanmarbles.checks.cluster.judged import Cases, judge_at_rest
+from geanmarbles.checks.cluster.judged import judge_at_rest
 from geanmarbles.checks.cluster.nodes import Cluster, Node
+from geanmarbles.checks.judging import Cases
 from geanmarbles.client.replies import Wrong
 
 # What undoes a fault, and what is said of it.
@@ -24,7 +26,16 @@ Fault = tuple[Callable[[], object], str]
 ROUNDS_OF_A_CLUSTER = 10
 # For how long a fault lasts, and what comes before and after it, at the most, in seconds.
 LASTS, BEFORE, AFTER = 2.0, 0.7, 0.5
-CLIENTS = 6
+# How many clients there are of each site, and how many nodes each site has.
+CLIENTS, NODES = 6, 3
+
+
+class Site(NamedTuple):
+    """A site in the cluster's etcd: its name, its nodes, and what clients have seen of it."""
+
+    name: str
+    nodes: Sequence[Node]
+    record: Record
 
 
 def children_of(pid: int) -> list[int]:
@@ -130,6 +141,7 @@ class Faults:
             lambda: self.stop_nodes(1),
             lambda: self.stop_nodes(1),
             lambda: self.kill_nodes(2),
+            lambda: self.kill_nodes(len(self.cluster.nodes)),
             self.kill_program,
             self.stop_program,
         ]
@@ -138,13 +150,14 @@ class Faults:
 
 
 class Rounds:
-    """All rounds, over clusters that each last for some of them."""
+    """All rounds, over clusters that each last for some of them. The site of the cluster's own nodes may have others
+    beside it in the same etcd."""
 
-    def __init__(self, program: str, count: int, seed: object) -> None:
-        self.program, self.count, self.seed = program, count, seed
+    def __init__(self, program: str, count: int, seed: object, others: Sequence[str] = ()) -> None:
+        self.program, self.count, self.seed, self.others = program, count, seed, others
         self.stack = ExitStack()
         self.cluster: Cluster | None = None
-        self.record = Record()
+        self.sites: list[Site] = []
         self.done: list[str] = []
         self.statuses: dict[str, int] = {}
         self.judged = 0
@@ -152,16 +165,24 @@ class Rounds:
     def next_cluster(self) -> Cluster:
         self.end_cluster()
         self.cluster = cluster = self.stack.enter_context(Cluster(self.program))
-        self.record = Record()
+        self.sites = [Site("site", list(cluster.nodes), Record())]
+        for name in self.others:
+            nodes = [cluster.new_node(f"{name}{at}", ("--name", name)) for at in range(NODES)]
+            self.sites.append(Site(name, nodes, Record()))
+            cluster.nodes += nodes
+            for node in nodes:
+                node.start()
+        cluster.settle()
         return cluster
 
     def end_cluster(self) -> None:
         """Ends the nodes one by one, which must leave no program, and then all."""
         cluster, self.cluster = self.cluster, None
         if cluster is not None:
-            self.judged += len(cluster.members.store.edits("site"))
-            for what, count in self.record.statuses.items():
-                self.statuses[what] = self.statuses.get(what, 0) + count
+            for site in self.sites:
+                self.judged += len(cluster.members.store.edits(site.name))
+                for what, count in site.record.statuses.items():
+                    self.statuses[what] = self.statuses.get(what, 0) + count
             cluster.end()
         self.stack.close()
 
@@ -173,7 +194,9 @@ class Rounds:
         random = Random(f"{self.seed}/{number}")
         faults, done = Faults(cluster, random), []
         try:
-            with Load(cluster.nodes, self.record, f"{self.seed}.{number}", CLIENTS):
+            with ExitStack() as loads:
+                for site in self.sites:
+                    loads.enter_context(Load(site.nodes, site.record, f"{self.seed}.{number}.{site.name}", CLIENTS))
                 time.sleep(random.uniform(0.05, BEFORE))
                 undone = []
                 for fault in faults.choose():
@@ -185,7 +208,8 @@ class Rounds:
                 for undo in undone:
                     undo()
                 time.sleep(random.uniform(0, AFTER))
-            judge_at_rest(cluster, self.record)
+            for site in self.sites:
+                judge_at_rest(cluster, site.record, partial(cluster.members.store.edits, site.name), site.nodes)
         except BaseException as fault:
             self.cluster = None
             self.stack.close()
@@ -197,16 +221,21 @@ class Rounds:
     def cases(self) -> Cases:
         try:
             for number in range(self.count):
-                yield f"round {number + 1} of faults, seed {self.seed}", partial(self.make, number)
+                yield f"round {number + 1} of faults{self.beside()}, seed {self.seed}", partial(self.make, number)
             yield "no program outlives its node", self.end_cluster
         finally:
             self.cluster = None
             self.stack.close()
-        self.tell()
+        if self.done:
+            self.tell()
+
+    def beside(self) -> str:
+        return f" beside {', '.join(self.others)}" if self.others else ""
 
     def tell(self) -> None:
         kinds = ", ".join(f"{what} {count}" for what, count in sorted(self.statuses.items()))
-        print(f"faults: {len(self.done)} in {self.count} rounds; {self.judged} edits in the histories; {kinds}")
+        told = f"{len(self.done)} in {self.count} rounds; {self.judged} edits in the histories"
+        print(f"faults{self.beside()}: {told}; {kinds}")
 
 
 def cases(arguments: argparse.Namespace) -> Cases:

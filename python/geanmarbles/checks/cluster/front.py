@@ -17,9 +17,9 @@ from functools import partial
 from geanmarbles.checks.cluster import attacks, slow
 from geanmarbles.checks.cluster.clients import DATE, Answer, joined, line_of
 from geanmarbles.checks.cluster.faults import children_of
-from geanmarbles.checks.cluster.judged import Cases, must
 from geanmarbles.checks.cluster.nodes import TOKEN, Cluster, Node
 from geanmarbles.checks.cluster.processes import wait_for
+from geanmarbles.checks.judging import Cases, must
 from geanmarbles.checks.programs import executable
 
 SECONDS = 60

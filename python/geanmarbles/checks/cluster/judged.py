@@ -3,50 +3,35 @@
 from __future__ import annotations
 
 import bisect
-import re
 import subprocess
 import time
-from collections.abc import Callable, Iterable, Sequence
-from typing import Any, NamedTuple
+from collections.abc import Callable, Sequence
+from typing import Any
 
 from geanmarbles.checks.cluster.clients import PATHS, Record, joined, line_of, name_of, page_of
 from geanmarbles.checks.cluster.etcd import Edit
 from geanmarbles.checks.cluster.history import violations_of
 from geanmarbles.checks.cluster.nodes import Cluster, Node
+from geanmarbles.checks.judging import Counted, counted_in, must
 from geanmarbles.client.replies import Wrong, shown, whole_replies
 
-# Checks by their names, with what judges each, which may return what it counts.
-Cases = Iterable[tuple[str | None, Callable[[], object]]]
 
 SECONDS = 120
 # How long edits may come once no client asks for any: a node tries for some seconds.
 REST_SECONDS = 40
 # The pages that all nodes must have alike at the end, beside those that clients read.
 ALIKE = (*PATHS, *(f"/?p={number}" for number in range(3, 40)), "/?paged=3")
-# The last line of the script.
-COUNTED = re.compile(r"(\d+) passed, (\d+) failed")
 # How many violations a message shows.
 SHOWN = 4
-
-
-class Skipped(Exception):
-    """What can't be tried here, with the reason."""
-
-
-class Counted(NamedTuple):
-    """How many checks passed and failed, of a check that is many."""
-
-    passed: int
-    failed: int
 
 
 def counted(output: str, status: int) -> tuple[list[str], Counted]:
     """What this script has said, run for a part alone: its lines but for the last, and what that one counts."""
     *lines, last = output.splitlines() or [""]
-    found = COUNTED.fullmatch(last)
+    found = counted_in(last)
     if not found:
         raise Wrong(f"it ended with status {status}, and last said {last!r}")
-    return [line for line in lines if not line.startswith("seed ")], Counted(int(found[1]), int(found[2]))
+    return [line for line in lines if not line.startswith("seed ")], found
 
 
 def get(path: str) -> bytes:
@@ -168,8 +153,3 @@ def judge_at_rest(
     nodes = nodes or cluster.nodes
     cluster.settle(nodes)
     return judge(cluster.program, read_history or (lambda: cluster.members.store.edits("site")), record, nodes)
-
-
-def must(holds: object, what: str) -> None:
-    if not holds:
-        raise Wrong(what)

@@ -18,8 +18,9 @@ from typing import Any
 
 from geanmarbles.checks.cluster.clients import DATE, Load, Record, joined, line_of
 from geanmarbles.checks.cluster.etcd import COUNT, Place
-from geanmarbles.checks.cluster.judged import Cases, Skipped, counted, judge_at_rest, must
+from geanmarbles.checks.cluster.judged import counted, judge_at_rest
 from geanmarbles.checks.cluster.nodes import Cluster
+from geanmarbles.checks.judging import Cases, Skipped, must
 from geanmarbles.client.replies import Wrong
 from geanmarbles.paths import TESTS, command
 

@@ -20,7 +20,7 @@ from typing import Any
 from unittest import mock
 
 from geanmarbles.checks.cluster import attacks
-from geanmarbles.checks.cluster.judged import Cases, must
+from geanmarbles.checks.judging import Cases, must
 from geanmarbles.client.program import Reply
 from geanmarbles.client.replies import Wrong
 from geanmarbles.cluster import news, service

@@ -1,4 +1,4 @@
-"""Nodes with a fault planted in them, each of which a check of a node's front has to notice.
+"""Nodes with a fault planted in them, each of which a check of a node's front, or of histories, has to notice.
 
 A fault is a piece of a source and what is there instead. It is planted in a copy of the package, whose node the check
 is run with. The self-test only sees that each piece is there; `tests/cluster/run --planted` runs the checks, which
@@ -15,7 +15,8 @@ from functools import partial
 from pathlib import Path
 from typing import NamedTuple
 
-from geanmarbles.checks.cluster.judged import Cases, counted, must
+from geanmarbles.checks.cluster.judged import counted
+from geanmarbles.checks.judging import Cases, must
 from geanmarbles.client.replies import Wrong
 from geanmarbles.paths import ROOT, command
 
@@ -34,7 +35,7 @@ class Planted(NamedTuple):
     check: str
 
 
-HANGS, SHOWN = "owes a reply", "names the tag"
+HANGS, SHOWN, LOADED, DIGEST = "owes a reply", "names the tag", "without a fault", "the same digest"
 FAULTS = (
     Planted(
         "the health of a node whose program hangs is good",
@@ -171,6 +172,88 @@ FAULTS = (
         "self.by_name |= self.read(self.path)",
         "sight",
         "on SIGHUP",
+    ),
+    Planted(
+        "a fresh page may be any",
+        "cluster/pages.py",
+        'headers.get("X-Site-Fresh") == "1", False',
+        "False, False",
+        "loads",
+        LOADED,
+    ),
+    Planted(
+        "the revision that a page is asked for counts for nothing",
+        "cluster/pages.py",
+        "            self.place = revision\n",
+        "            self.place = 0\n",
+        "loads",
+        LOADED,
+    ),
+    Planted(
+        "the cookie of an edit counts for nothing",
+        "cluster/pages.py",
+        "                self.place = max(self.place, int(value[2]))\n",
+        "                pass\n",
+        "loads",
+        LOADED,
+    ),
+    Planted(
+        "a page names the cluster's last edit",
+        "cluster/pages.py",
+        'self.told, about["X-Site-Revision"] = place, str(place)',
+        'self.told, about["X-Site-Revision"] = place, str(node.known.place)',
+        "loads",
+        LOADED,
+    ),
+    Planted(
+        "a request that is made again makes other edits",
+        "cluster/commands.py",
+        "    lines = lines_of_body(body)\n",
+        '    lines = lines_of_body(body)\n    key += __import__("os").urandom(8).hex()\n',
+        "loads",
+        LOADED,
+    ),
+    Planted(
+        "the lines of a request are made from the last to the first",
+        "cluster/commands.py",
+        "for number in range(1, len(request.lines) + 1):",
+        "for number in range(len(request.lines), 0, -1):",
+        "loads",
+        LOADED,
+    ),
+    Planted(
+        "an edit in some hundred has its reply and isn't made",
+        "cluster/commands.py",
+        "            made = node.history.append(request, number, node.last, LINE_SECONDS)\n",
+        '            if len(replies) == 0 and __import__("os").urandom(1) < b"\\x03":\n'
+        '                return Result(200, ["ok"] * len(request.lines), node.last.place)\n'
+        "            made = node.history.append(request, number, node.last, LINE_SECONDS)\n",
+        "loads",
+        LOADED,
+    ),
+    Planted(
+        "an edit has the revision before its own",
+        "cluster/history.py",
+        'return Made(int(answer["header"]["revision"]), None)',
+        'return Made(int(answer["header"]["revision"]) - 1, None)',
+        "loads",
+        LOADED,
+    ),
+    Planted(
+        "a node that begins with a snapshot begins its digest anew",
+        "cluster/replica.py",
+        "self.front = head.front()",
+        "self.front = NO_EDIT._replace(last=head.last)",
+        "snapshots",
+        DIGEST,
+    ),
+    Planted(
+        "the digest of a snapshot is that of its lines",
+        "cluster/snapshots.py",
+        '"digest": digest.hex()',
+        '"digest": hashlib.sha256(text).hexdigest()',
+        "snapshots",
+        DIGEST,
     ),
 )
 

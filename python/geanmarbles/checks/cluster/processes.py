@@ -43,6 +43,13 @@ def free_port(host: str = "127.0.0.1") -> int:
             return port
 
 
+def listens(port: int, host: str = "127.0.0.1") -> bool:
+    """Whether somebody takes connections at a port."""
+    with contextlib.suppress(OSError), socket.create_connection((host, port), SECONDS):
+        return True
+    return False
+
+
 def wait_for(holds: Callable[[], T], seconds: float, what: str, pause: float = 0.02) -> T:
     """Waits until something holds, and returns it; `what` says what was waited for."""
     until = time.monotonic() + seconds

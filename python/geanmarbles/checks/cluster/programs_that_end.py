@@ -15,9 +15,10 @@ from typing import Any
 
 from geanmarbles.checks.cluster.clients import Answer, Load, NoAnswer, Record, joined, line_of
 from geanmarbles.checks.cluster.faults import children_of
-from geanmarbles.checks.cluster.judged import Cases, judge_at_rest, must
+from geanmarbles.checks.cluster.judged import judge_at_rest
 from geanmarbles.checks.cluster.nodes import Cluster, Node
 from geanmarbles.checks.cluster.processes import wait_for
+from geanmarbles.checks.judging import Cases, must
 from geanmarbles.checks.programs import executable
 
 # Runs the program, and at an edit does what a file in the node's folder says, once: refuses it, ends, or ends once the

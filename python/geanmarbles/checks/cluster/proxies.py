@@ -27,12 +27,12 @@ from typing import NamedTuple, Self
 from geanmarbles.checks.cluster import attacks, planted
 from geanmarbles.checks.cluster.caches import keeps_promises
 from geanmarbles.checks.cluster.clients import DATE, Answer, ask, joined, line_of
-from geanmarbles.checks.cluster.judged import Cases, Skipped, must
 from geanmarbles.checks.cluster.nodes import TOKEN, Cluster, Node
 from geanmarbles.checks.cluster.processes import Process, Processes, free_port, wait_for
 from geanmarbles.checks.cluster.raw import asked
 from geanmarbles.checks.cluster.restarts import AROUND_SECONDS, Everywhere, Manager, Visitors, check_edits, restart
 from geanmarbles.checks.cluster.secured import Certificates
+from geanmarbles.checks.judging import Cases, Skipped, must
 from geanmarbles.client.program import Reply
 from geanmarbles.client.replies import Wrong
 from geanmarbles.paths import EXAMPLES

@@ -9,6 +9,7 @@ from __future__ import annotations
 
 import argparse
 import http.client
+import re
 import select
 import shutil
 import signal
@@ -26,11 +27,12 @@ from typing import Self
 
 from geanmarbles.checks.cluster.attacks import edits
 from geanmarbles.checks.cluster.clients import DATE, joined, line_of, name_of
-from geanmarbles.checks.cluster.judged import Cases, Skipped, must
 from geanmarbles.checks.cluster.nodes import TOKEN, Cluster, Node
 from geanmarbles.checks.cluster.processes import wait_for
 from geanmarbles.checks.cluster.raw import Raw
+from geanmarbles.checks.judging import Cases, Skipped, must
 from geanmarbles.paths import EXAMPLES
+from geanmarbles.web.pages import MOST
 
 # How many clients there are, and how long one waits for an answer.
 CLIENTS, SECONDS = 12, 30
@@ -397,8 +399,19 @@ def units(_: argparse.Namespace) -> None:
             must(ran.returncode == 0 and not said, f"{name}: {ran.stderr}")
 
 
+def bounds(_: argparse.Namespace) -> None:
+    """the unit of a node says when it is ready, has a watchdog, and limits on memory, tasks and files that it keeps"""
+    text = (EXAMPLES / "cluster" / "site-node.service").read_text(encoding="utf-8")
+    settings = dict(line.split("=", 1) for line in text.splitlines() if re.match(r"[A-Z]\w+=", line))
+    lacking = {"MemoryMax", "MemoryHigh", "WatchdogSec", "UMask", "TimeoutStopSec"} - set(settings)
+    must(settings["Type"] == "notify" and not lacking, f"it lacks {lacking}, or its type is {settings['Type']}")
+    for name in ("TasksMax", "LimitNOFILE"):
+        must(int(settings[name]) > MOST, f"{name} is {settings[name]}, with {MOST} connections")
+    must(int(settings["TimeoutStopSec"]) > ENDS, f"it is killed after {settings['TimeoutStopSec']} s")
+
+
 def cases(arguments: argparse.Namespace) -> Cases:
     yield "three nodes are started anew in turn under load, and no request is lost", partial(roll, arguments, False)
     yield "three nodes are killed in turn under load, and lost requests are seen", partial(roll, arguments, True)
-    for judged in (hand_over, ends_slowly, units):
+    for judged in (hand_over, ends_slowly, units, bounds):
         yield judged.__doc__, partial(judged, arguments)

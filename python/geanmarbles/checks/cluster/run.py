@@ -10,6 +10,7 @@ three nodes are started for each check, or for a few rounds. The parts, three at
 - steady: what a node takes and refuses, keys that are given again, what reads promise, and starts;
 - faults: N rounds, 12 if N is left out, in which SIGKILL ends, or SIGSTOP stops for some time, members, nodes and their
   programs at random moments under load;
+- loads: what clients see without a fault; and N rounds of faults over two sites of three nodes each in one etcd;
 - networks: members and nodes in network namespaces of their own, between which the network is cut, one way or both, and
   healed; that takes root, or user namespaces, and is otherwise skipped;
 - stores: an etcd that is full, and one that forgot: it was restored from an older snapshot, or its files were put back;
@@ -42,14 +43,12 @@ The last line is 'N passed, M failed', over the checks and rounds, and the exit 
 """
 
 import argparse
-import http.client
 import os
 import shutil
 import signal
 import subprocess
 import sys
 import time
-from collections.abc import Callable
 from concurrent.futures import Future, ThreadPoolExecutor, as_completed
 from functools import partial
 from itertools import chain
@@ -61,6 +60,7 @@ from geanmarbles.checks.cluster import (
     clocks,
     faults,
     front,
+    loads,
     networks,
     nodes,
     planted,
@@ -75,9 +75,8 @@ from geanmarbles.checks.cluster import (
     steady,
     stores,
 )
-from geanmarbles.checks.cluster.clients import NoAnswer
-from geanmarbles.checks.cluster.etcd import Unanswered
-from geanmarbles.checks.cluster.judged import Cases, Counted, Skipped, counted
+from geanmarbles.checks.cluster.judged import counted
+from geanmarbles.checks.judging import Cases, Check, Counts
 from geanmarbles.checks.programs import missing, parser_of
 from geanmarbles.client.replies import Wrong
 from geanmarbles.paths import command
@@ -88,6 +87,7 @@ PARTS = {
     "stores": stores,
     "networks": networks,
     "faults": faults,
+    "loads": loads,
     "programs": programs_that_end,
     "steady": steady,
     "front": front,
@@ -100,40 +100,25 @@ PARTS = {
 }
 # How many parts run at once, and how long one may take.
 TOGETHER, SECONDS = 3, 3600
-FAULTS = (Wrong, OSError, ValueError, LookupError, subprocess.SubprocessError, http.client.HTTPException)
 
 
-class Counts:
-    """How many checks passed and failed."""
+def told(cases: Cases) -> Cases:
+    """The same checks, each of which tells how long it took."""
 
-    def __init__(self, is_told: bool = False) -> None:
-        self.passed = self.failed = 0
-        self.is_told = is_told
-
-    def judge(self, name: str | None, judged: Callable[[], object]) -> None:
+    def timed(name: str | None, check: Check) -> object:
+        moment = time.monotonic()
         try:
-            found = judged()
-            passed, failed = found if isinstance(found, Counted) else (1, 0)
-            self.passed, self.failed = self.passed + passed, self.failed + failed
-        except Skipped as why:
-            print(f"skipped: {name}: {why}", flush=True)
-        except (*FAULTS, NoAnswer, Unanswered) as fault:
-            print(f"FAILED: {name}: {fault if isinstance(fault, Wrong) else repr(fault)}", flush=True)
-            self.failed += 1
+            return check()
+        finally:
+            print(f"  {name}: {time.monotonic() - moment:.1f} s", flush=True)
 
-    def judge_all(self, title: str, cases: Cases) -> None:
-        before, begin = self.passed + self.failed, time.monotonic()
-        try:
-            for name, judged in cases:
-                moment = time.monotonic()
-                self.judge(name, judged)
-                if self.is_told:
-                    print(f"  {name}: {time.monotonic() - moment:.1f} s", flush=True)
-        except (*FAULTS, NoAnswer, Unanswered) as fault:
-            print(f"FAILED: {title}: {fault!r}", flush=True)
-            self.failed += 1
-        took = time.monotonic() - begin
-        print(f"{title}: {self.passed + self.failed - before} checks in {took:.0f} s", flush=True)
+    return ((name, partial(timed, name, check)) for name, check in cases)
+
+
+def judge_part(counts: Counts, name: str, cases: Cases, is_told: bool) -> None:
+    begin = time.monotonic()
+    made = counts.judge_all(told(cases) if is_told else cases)
+    print(f"{name}: {made} checks in {time.monotonic() - begin:.0f} s", flush=True)
 
 
 def absolute(path: str) -> str:
@@ -216,11 +201,11 @@ def ended(*_: object) -> None:
 
 def main() -> int:
     arguments = read_arguments()
-    counts = Counts(arguments.verbose)
+    counts, verbose = Counts(), arguments.verbose
     signal.signal(signal.SIGTERM, ended)
     signal.signal(signal.SIGHUP, ended)
     if arguments.self_test:
-        counts.judge_all("self-test", chain(self_test.cases(), planted.cases(), planted_nodes.sources()))
+        judge_part(counts, "self-test", chain(self_test.cases(), planted.cases(), planted_nodes.sources()), verbose)
     elif lacking(arguments):
         print(f"FAILED: {lacking(arguments)}\n0 passed, 1 failed")
         return 1
@@ -230,11 +215,10 @@ def main() -> int:
         nodes.NODE = arguments.node
         print(f"seed {arguments.seed}", flush=True)
         if arguments.planted:
-            counts.judge_all("planted", planted_nodes.cases(arguments))
+            judge_part(counts, "planted", planted_nodes.cases(arguments), verbose)
         elif arguments.part:
-            cases = PARTS[arguments.part].cases(arguments)
-            counts.judge_all(arguments.part, (it for it in cases if arguments.check in (it[0] or "")))
+            cases = (it for it in PARTS[arguments.part].cases(arguments) if arguments.check in (it[0] or ""))
+            judge_part(counts, arguments.part, cases, verbose)
         else:
             Parts(arguments).judge(counts)
-    print(f"{counts.passed} passed, {counts.failed} failed")
-    return 1 if counts.failed else 0
+    return counts.end()

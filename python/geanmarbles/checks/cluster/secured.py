@@ -11,9 +11,10 @@ from pathlib import Path
 
 from geanmarbles.checks.cluster.clients import Load, Record, joined, line_of
 from geanmarbles.checks.cluster.etcd import Members
-from geanmarbles.checks.cluster.judged import Cases, Skipped, judge_at_rest, must
+from geanmarbles.checks.cluster.judged import judge_at_rest
 from geanmarbles.checks.cluster.nodes import Cluster
 from geanmarbles.checks.cluster.processes import wait_for
+from geanmarbles.checks.judging import Cases, Skipped, must
 
 # The user of the nodes, who may read and write the keys of one site; and etcd's own, who may do all.
 USER, PASSWORD, ROOT = "nodes", "a password of the test's own", "root:another password"

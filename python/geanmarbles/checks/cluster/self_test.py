@@ -10,7 +10,7 @@ from random import Random
 from typing import Any
 
 from geanmarbles.checks.cluster.history import Operation, Violation, asked_of, violations_of
-from geanmarbles.checks.cluster.judged import Cases
+from geanmarbles.checks.judging import Cases
 from geanmarbles.client.replies import Wrong
 from geanmarbles.paths import TESTS, command
 

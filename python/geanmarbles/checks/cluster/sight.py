@@ -12,16 +12,17 @@ import re
 import select
 import signal
 import time
+from collections import Counter
 from functools import partial
 from pathlib import Path
 from typing import Any
 
 from geanmarbles.checks.cluster.clients import DATE, Answer, NoAnswer, joined, line_of
 from geanmarbles.checks.cluster.etcd import un64
-from geanmarbles.checks.cluster.judged import Cases, Skipped, must
 from geanmarbles.checks.cluster.nodes import Cluster, Node
 from geanmarbles.checks.cluster.processes import free_port, wait_for
 from geanmarbles.checks.cluster.raw import asked
+from geanmarbles.checks.judging import Cases, Skipped, must
 from geanmarbles.client.program import pipe
 
 SECONDS = 20
@@ -82,9 +83,11 @@ class Seen:
         place = edit.revision()
         wanted = [("POST", 200, "ada", 3, place), ("GET", 200, None, None, place), ("GET", 200, None, None, place)]
         wanted += [("HEAD", 304, None, None, place), ("POST", 401, None, None, None), ("", 400, None, None, None)]
-        must(came == wanted, f"it tells {came}, wanted {wanted}")
-        must((told[1]["forwarded"], told[1]["client"]) == ("192.0.2.7, 10.0.0.1", "127.0.0.1"), f"it tells {told[1]}")
-        must(told[1]["bytes"] == len(page.body) and told[1]["path"] == '/?p=1&x="\u00e9"', f"it tells {told[1]}")
+        # A request is told once it was answered, so the next one may be told before it.
+        must(Counter(came) == Counter(wanted), f"it tells {came}, wanted {wanted}")
+        [sent_on] = [it for it in told if "forwarded" in it]
+        must((sent_on["forwarded"], sent_on["client"]) == ("192.0.2.7, 10.0.0.1", "127.0.0.1"), f"it tells {sent_on}")
+        must(sent_on["bytes"] == len(page.body) and sent_on["path"] == '/?p=1&x="\u00e9"', f"it tells {sent_on}")
         must(all(0 <= it["seconds"] < SECONDS and re.fullmatch(r"2\S+Z", it["time"]) for it in told), f"{told}")
         must("a+b/c=1" not in json.dumps(told), "it tells a token")
 

@@ -3,6 +3,7 @@
 from __future__ import annotations
 
 import argparse
+import hashlib
 import json
 import signal
 import subprocess
@@ -16,9 +17,10 @@ from geanmarbles.checks.cluster import nodes
 from geanmarbles.checks.cluster.clients import Answer, Load, Record, joined, line_of
 from geanmarbles.checks.cluster.etcd import Witness, un64
 from geanmarbles.checks.cluster.faults import children_of
-from geanmarbles.checks.cluster.judged import ALIKE, Cases, get, judge_at_rest, must, page_in, pages_of, replies_of
+from geanmarbles.checks.cluster.judged import ALIKE, get, judge_at_rest, page_in, pages_of, replies_of
 from geanmarbles.checks.cluster.nodes import Cluster, Node
 from geanmarbles.checks.cluster.processes import wait_for
+from geanmarbles.checks.judging import Cases, must
 from geanmarbles.checks.programs import executable
 from geanmarbles.client.replies import Wrong
 from geanmarbles.cluster.node import REMEMBER_LEAST
@@ -104,6 +106,31 @@ class Snapshots:
         self.load(1, [*self.nodes, late])
         self.judge([*self.nodes, late])
         late.process.end()
+
+    def has_a_digest(self) -> None:
+        """nodes at one revision have the same digest, that of all edits, also one that began with a snapshot"""
+        self.wait_for_head()
+        late = self.cluster.new_node("digested")
+        late.start()
+        self.load(0.5, [*self.nodes, late])
+        self.judge([*self.nodes, late])
+        digest, digests = hashlib.sha256().digest(), {}
+        for edit in self.witness.edits(self.cluster.members.store):
+            digest = hashlib.sha256(digest + edit.line).digest()
+            digests[edit.revision] = digest.hex()
+        for node in (*self.nodes, late):
+            said = wait_for(partial(self.health_at, node, edit.revision), SECONDS, f"{node.name} has all edits")
+            must(said["digest"] == digest.hex(), f"{node.name} says {said}, wanted {digest.hex()}")
+        heads = [json.loads(it.value) for it in self.witness.events if it.key == "snapshot/head"]
+        must(len(heads) > 0 and late.health()["snapshot"] > 0, "there is no snapshot")
+        for told in heads:
+            must(told["digest"] == digests[told["place"]], f"a snapshot says {told}, wanted {digests[told['place']]}")
+        late.process.end()
+
+    def health_at(self, node: Node, place: int) -> dict[str, Any]:
+        """What a node says of itself once it has applied an edit, or nothing."""
+        said = node.health()
+        return said if said.get("applied") == place else {}
 
     def stays_away(self, away: Callable[[Node], object], back: Callable[[Node], object]) -> None:
         """A node is away while the edits that it lacks are replaced by snapshots, and dropped by etcd."""
@@ -295,6 +322,7 @@ def cases(arguments: argparse.Namespace) -> Cases:
         for judged in (
             snapshots.shortens_the_history,
             snapshots.starts_from_a_snapshot,
+            snapshots.has_a_digest,
             snapshots.remembers_keys,
             snapshots.stops,
             snapshots.ends,

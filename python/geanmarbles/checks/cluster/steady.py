@@ -12,9 +12,10 @@ from typing import Any
 
 from geanmarbles.checks.cluster.clients import Answer, Editor, Load, NoAnswer, Record, joined, line_of
 from geanmarbles.checks.cluster.etcd import Edit
-from geanmarbles.checks.cluster.judged import Cases, judge_at_rest, must
+from geanmarbles.checks.cluster.judged import judge_at_rest
 from geanmarbles.checks.cluster.nodes import TOKEN, Cluster, Node
 from geanmarbles.checks.cluster.processes import wait_for
+from geanmarbles.checks.judging import Cases, must
 from geanmarbles.checks.programs import executable
 
 # For how long several clients edit and read.

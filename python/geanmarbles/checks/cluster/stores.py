@@ -10,9 +10,10 @@ from typing import Any
 
 from geanmarbles.checks.cluster.clients import DATE, Answer, Load, NoAnswer, Record, joined, line_of
 from geanmarbles.checks.cluster.etcd import Json, Unanswered, b64
-from geanmarbles.checks.cluster.judged import Cases, judge_at_rest, must
+from geanmarbles.checks.cluster.judged import judge_at_rest
 from geanmarbles.checks.cluster.nodes import Cluster, Node
 from geanmarbles.checks.cluster.processes import wait_for
+from geanmarbles.checks.judging import Cases, must
 from geanmarbles.client.replies import Wrong
 
 # How much etcd may keep, in bytes, and the size of what fills it up.

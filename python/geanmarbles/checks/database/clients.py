@@ -4,25 +4,23 @@ import contextlib
 import json
 import subprocess
 import threading
-from collections.abc import Callable, Iterable, Iterator, Sequence
+from collections.abc import Iterable, Iterator, Sequence
 from pathlib import Path
 from typing import Any, Self
 
+from geanmarbles.checks import judging
 from geanmarbles.checks.fuzz.values import command_of
 from geanmarbles.client.program import pipe
 from geanmarbles.client.replies import Wrong, read_reply, refusal_of, shown, whole_replies
 from geanmarbles.paths import TESTS
 
 HERE = TESTS / "database"
-# Checks by their names, with what judges each.
-Cases = Iterable[tuple[str | None, Callable[[], object]]]
+# What the checks here are, and how one says that it can't be made.
+Cases = judging.Cases
+Skipped = judging.Skipped
 SECONDS = 120
 EDITS = ("put", "edit", "delete", "option", "activate", "deactivate", "template", "import")
 DATE = "2024-05-01 10:00:00"
-
-
-class Skipped(Exception):
-    """What can't be tried here, with the reason."""
 
 
 def line_of(**keys: object) -> bytes:

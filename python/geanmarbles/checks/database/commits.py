@@ -28,10 +28,6 @@ def edit(number: int) -> bytes:
     return put(title=f"post {number}", content="x" * 700, n=number)
 
 
-# How many calls the look at a log makes before the program opens the file.
-LOOK = 4
-
-
 class Disk:
     """A disk that fails once, loaded before the C library."""
 
@@ -149,12 +145,11 @@ class Failing:
             same_pages(self.program, file, found, PATHS)
         return True
 
-    def all_of(self, tried: Callable[[int], bool], has_log: bool) -> int:
-        """Refuses the first call, then the second, and so on, until a run has made fewer. Where there is a log, the
-        first ones are of the look at it before the open: if that look fails, the open decides by itself."""
+    def all_of(self, tried: Callable[[int], bool]) -> int:
+        """Refuses the first call, then the second, and so on, until a run has made fewer."""
         for at in range(1, MOST_CALLS):
             try:
-                if not tried(at) and not (has_log and at <= LOOK):
+                if not tried(at):
                     return at - 1
             except Wrong as wrong:
                 raise Wrong(f"call {at}: {wrong}") from None
@@ -173,11 +168,11 @@ class Failing:
 
     def check(self, is_new: bool) -> None:
         # Each edit, and each chunk, is a commit of at least one write and two syncs.
-        if self.all_of(lambda at: self.served(at, is_new), not is_new) < 3 * (2 * WAITING + 1):
+        if self.all_of(lambda at: self.served(at, is_new)) < 3 * (2 * WAITING + 1):
             raise Wrong("fewer calls were refused than the commits make")
 
     def check_shortened(self) -> None:
-        if self.all_of(self.shortened, True) < 3:
+        if self.all_of(self.shortened) < 3:
             raise Wrong("fewer calls were refused than a commit makes")
 
 

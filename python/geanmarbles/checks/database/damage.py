@@ -93,6 +93,17 @@ def is_like_a_crash(whole: bytes, now: bytes) -> bool:
     return len(now) == start or now[start + GATE : start + GATE + 1] == bytes([shut])
 
 
+def check_refusal(copy: Path, said: str, written: bytes, before: tuple[bytes, bytes]) -> None:
+    """A start was refused by name and wrote nothing: FILE is as it was, and FILE-wal too if that is what is damaged."""
+    begin = f"site: {copy}"
+    is_named = said.startswith(begin) and said.count("\n") == 1
+    is_of_a_log = DAMAGED.fullmatch(said[len(begin) :]) is not None
+    if written or not is_named or not (is_of_a_log or said[len(begin) :].startswith(": ")):
+        raise Wrong(f"it wrote {shown(written)} and said {said!r}")
+    if copy.read_bytes() != before[0] or (is_of_a_log and log_of(copy).read_bytes() != before[1]):
+        raise Wrong("a file is another after a refused start")
+
+
 class Damaged:
     """A site in a file, of which copies are damaged."""
 
@@ -123,7 +134,11 @@ class Damaged:
             ran = run(self.program, b"", *over(copy))
             said = ran.stderr.decode(errors="replace")
             if ran.returncode == 1:
-                self.check_refusal(copy, how, said, ran.stdout, before)
+                try:
+                    check_refusal(copy, said, ran.stdout, before)
+                except Wrong as wrong:
+                    raise Wrong(f"{how}: {wrong}") from None
+                self.refused += 1
                 return
             check_end((ran.returncode, ran.stderr), 0, b"")
             found = history(copy)
@@ -139,16 +154,6 @@ class Damaged:
                 if len(found) < len(found_before):
                     raise Wrong(f"{how}: it finds {len(found)} lines, and SQLite {len(found_before)}")
             same_pages(self.program, copy, found, PATHS)
-
-    def check_refusal(self, copy: Path, how: str, said: str, written: bytes, before: tuple[bytes, bytes]) -> None:
-        begin = f"site: {copy}"
-        is_named = said.startswith(begin) and said.count("\n") == 1
-        is_of_a_log = DAMAGED.fullmatch(said[len(begin) :]) is not None
-        if written or not is_named or not (is_of_a_log or said[len(begin) :].startswith(": ")):
-            raise Wrong(f"{how}: it wrote {shown(written)} and said {said!r}")
-        if copy.read_bytes() != before[0] or (is_of_a_log and log_of(copy).read_bytes() != before[1]):
-            raise Wrong(f"{how}: a file is another after a refused start")
-        self.refused += 1
 
     def cases(self, change: Change, count: int) -> Cases:
         what = "FILE" if self.ends_well else "FILE-wal"

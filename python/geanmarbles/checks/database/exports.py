@@ -6,20 +6,17 @@ import tempfile
 from collections.abc import Iterable, Iterator, Sequence
 from functools import partial
 from pathlib import Path
-from random import Random
 from typing import Any
 
 from geanmarbles.checks.database.clients import Cases, get, is_edit, line_of, over, put, replies, run
-from geanmarbles.checks.database.files import check_equal, copied, history
+from geanmarbles.checks.database.files import check_equal, check_told, copied, history
+from geanmarbles.checks.database.lists import LISTS, SHORTER, random_lines
 from geanmarbles.checks.fuzz.checks import same
-from geanmarbles.checks.fuzz.lines import BY_TURNS, Lines
 from geanmarbles.checks.fuzz.sites import Stored, bared
-from geanmarbles.checks.fuzz.values import command_of
 from geanmarbles.client.replies import Wrong, shown
 from geanmarbles.paths import EXAMPLES, TESTS
 
 HERE = TESTS / "database"
-LISTS = 20
 # The longest line that the program reads, and how much of it a content can take besides the shortest command for it.
 LINE = 1_048_576
 CONTENT = 524_288
@@ -80,11 +77,6 @@ def all_ids_used() -> Iterator[bytes]:
     yield put(title="refused")
 
 
-def of_fuzz(number: int) -> list[bytes]:
-    lines = Lines(Random(f"export/{number}")).list()
-    return [it for it in lines if command_of(it).get("cmd") not in BY_TURNS]
-
-
 def asked(ids: Iterable[int]) -> list[bytes]:
     """Requests for every page that a site with posts of these IDs may have."""
     paths = ["/", "/?paged=2", "/x", "/?m=202405", "/?m=202404"]
@@ -106,8 +98,9 @@ def exported(program: str, file: Path, identity: bytes) -> list[bytes]:
     """The lines of an export, each of which can be given to the program; the files are as they were."""
     before = history(file)
     ran = run(program, b'{"cmd":"delete","id":1}\n', *over(file, "--export"))
-    if ran.returncode or ran.stderr or ran.stdout and not ran.stdout.endswith(b"\n"):
+    if ran.returncode or ran.stdout and not ran.stdout.endswith(b"\n"):
         raise Wrong(f"--export ended with status {ran.returncode} and says {shown(ran.stderr)}")
+    check_told(ran, file)
     check_equal(history(file), before)
     lines = ran.stdout.split(b"\n")[:-1]
     for line in lines:
@@ -160,7 +153,9 @@ def nothing(program: str) -> None:
     with tempfile.TemporaryDirectory() as folder:
         file = Path(folder, "site.db")
         ran = run(program, b"", *over(file, "--export"))
-        check_silent(ran)
+        check_told(ran, file)
+        if ran.stdout:
+            raise Wrong(f"the export of a new file is {shown(ran.stdout)}")
         replies(program, [], *over(file))
 
 
@@ -174,4 +169,5 @@ def cases(program: str) -> Cases:
     yield "an export of a thousand edits of one post", lambda: short(program, list(many_edits()), most=3)
     yield "an export of large texts", lambda: short(program, list(large_texts()))
     for number in range(1, LISTS + 1):
-        yield f"an export of list {number}", partial(short, program, of_fuzz(number))
+        check, lines = partial(short, program), random_lines(f"export/{number}")
+        yield f"an export of list {number}", partial(SHORTER.judge, f"export {number}", check, lines)

@@ -4,6 +4,7 @@ import contextlib
 import hashlib
 import shutil
 import sqlite3
+import subprocess
 import tempfile
 from collections.abc import Iterable, Iterator, Sequence
 from pathlib import Path
@@ -61,6 +62,19 @@ def digests_of(lines: Iterable[bytes]) -> Iterator[bytes]:
     for line in lines:
         digest = hashlib.sha256(digest + line).digest()
         yield digest
+
+
+def summary(lines: Sequence[bytes]) -> str:
+    """What the program says of a history of these lines, the first of which is no edit."""
+    digest = [hashlib.sha256(b"").digest(), *digests_of(lines)][-1]
+    return f"{max(len(lines) - 1, 0)} edits, digest {digest.hex()}"
+
+
+def check_told(ran: subprocess.CompletedProcess[bytes], file: Path) -> None:
+    """An export that went well, and says on standard error what the file has."""
+    told = f"site: {file}: {summary(history(file))}\n"
+    if (ran.returncode, ran.stderr) != (0, told.encode()):
+        raise Wrong(f"--export ended with status {ran.returncode} and says {shown(ran.stderr)}, wanted {told!r}")
 
 
 def seal(connection: sqlite3.Connection) -> None:

@@ -9,7 +9,6 @@ import tempfile
 from collections.abc import Callable, Sequence
 from functools import partial
 from pathlib import Path
-from random import Random
 
 from geanmarbles.checks.database.clients import (
     Cases,
@@ -28,14 +27,13 @@ from geanmarbles.checks.database.clients import (
     same_pages,
 )
 from geanmarbles.checks.database.files import check_equal, history
-from geanmarbles.checks.fuzz.lines import BY_TURNS, Lines
-from geanmarbles.checks.fuzz.values import command_of
+from geanmarbles.checks.database.lists import LISTS, SHORTER, random_lines
 from geanmarbles.client.replies import Wrong, shown
 from geanmarbles.paths import EXAMPLES, TESTS
 
 HERE = TESTS / "database"
-# Lists of tests/fuzz, and after how many lines of them the program is ended and started again.
-LISTS, LINES = 20, 10
+# After how many lines of a random list the program is ended and started again.
+LINES = 10
 # How much more memory many waiting pages may take than one: a megabyte waits, in memory that grows by doubling.
 HELD_BACK = 8 << 20
 PATHS = ("/", "/?p=1", "/?p=2", "/?page_id=2", "/?m=202405", "/?paged=2", "/?p=9", "/x")
@@ -312,11 +310,10 @@ def bad_arguments(program: str, file: Path) -> None:
         raise Wrong("a file was made")
 
 
-def restarted(program: str, file: Path, number: int) -> None:
+def restarted(program: str, file: Path, lines: Sequence[bytes]) -> None:
     """A list of tests/fuzz with a new start after each tenth line has the replies that it has without."""
-    lines = [it for it in Lines(Random(f"database/{number}")).list() if command_of(it).get("cmd") not in BY_TURNS]
     came: list[bytes] = []
-    for at in range(0, len(lines), LINES):
+    for at in range(0, max(1, len(lines)), LINES):
         came += replies(program, lines[at : at + LINES], *over(file))
     for line, reply, other in zip(lines, came, replies(program, lines), strict=True):
         if reply != other:
@@ -345,10 +342,12 @@ def cases(program: str) -> Cases:
     for check in checks:
         yield check.__doc__, partial(in_a_folder, check, program)
     for number in range(1, LISTS + 1):
-        yield f"list {number} with new starts", partial(in_a_folder, restarted, program, number)
+        lines = random_lines(f"database/{number}")
+        check_list = partial(in_a_folder, restarted, program)
+        yield f"list {number} with new starts", partial(SHORTER.judge, f"database {number}", check_list, lines)
 
 
-def in_a_folder(check: Callable[..., None], program: str, *more: int) -> None:
+def in_a_folder(check: Callable[..., None], program: str, *more: Sequence[bytes]) -> None:
     """Makes a check over a file that isn't there yet, in a folder of its own."""
     with tempfile.TemporaryDirectory() as folder:
         check(program, Path(folder, "site.db"), *more)

@@ -1,21 +1,37 @@
-"""Starts that are refused by name, with the database file as it was."""
+"""Starts that are refused by name, with the database file as it was; and histories, commits and exports that have many
+lines, none of which is refused for their number."""
 
 import json
 import os
 import shutil
+import subprocess
 import tempfile
-from collections.abc import Callable
+from collections.abc import Callable, Sequence
 from functools import partial
+from itertools import islice
 from pathlib import Path
 
-from geanmarbles.checks.database.clients import Cases, Client, check_end, over, put, replies, run
-from geanmarbles.checks.database.files import Statement, doctored, history, opened
+from geanmarbles.checks.database.clients import (
+    SECONDS,
+    Client,
+    check_end,
+    joined,
+    line_of,
+    over,
+    put,
+    replies,
+    run,
+)
+from geanmarbles.checks.database.disks import MOUNTED, may_mount
+from geanmarbles.checks.database.files import Statement, check_equal, check_told, digests_of, doctored, history, opened
+from geanmarbles.checks.judging import Cases, Skipped
 from geanmarbles.client.replies import Wrong, shown
 
 # Somebody who isn't root, for whom the system looks at a file's permissions.
 NOBODY = 65_534
 FIRST = "UPDATE command SET line = ? WHERE number = 1"
 LAST = "INSERT INTO command (line, digest) VALUES (?, x'')"
+LAST_SEALED = "INSERT INTO command (line, digest) VALUES (?, ?)"
 STRANGE = ("CREATE TABLE post (id INTEGER PRIMARY KEY)", "INSERT INTO post VALUES (1)")
 COMMAND = "CREATE TABLE command (number INTEGER PRIMARY KEY, line {}, digest BLOB NOT NULL) STRICT"
 ROW = "INSERT INTO command (line, digest) VALUES ('x', x'00')"
@@ -51,8 +67,8 @@ CHANGED: tuple[tuple[list[Statement], int], ...] = (
     ([("INSERT INTO command (line, digest) SELECT line, digest FROM command WHERE number = 2501", ())], 2_502),
     ([("UPDATE command SET digest = (SELECT digest FROM command WHERE number = 3) WHERE number = 2", ())], 2),
 )
-# A start alone, and with each option that is only for a file.
-WAYS: tuple[tuple[str, ...], ...] = ((), ("--export",), ("--compact",))
+# A start alone, and with each option that is only for a file; the last one makes none.
+WAYS: tuple[tuple[str, ...], ...] = ((), ("--export",), ("--compact",), ("--check",))
 NOT_A_LOG = "the database is not a log of commands"
 OTHER_PROGRAM = "the file was written by a program with other plugins or of another version.."
 CANNOT_OPEN = "the file cannot be opened"
@@ -68,6 +84,14 @@ WRONG_LINES = {
     b"": "1 BadCommand",
     b'{"site":1,"plugins":[]}': "1 BadCommand",
 }
+# Which lines of a history of 2,500 are wrong in turn: a start reads the first, and then 1,000 at a time.
+FAR_ON = (2, 1_000, 1_001, 1_002, 1_502, 2_001, 2_002, 2_500)
+# The shortest edit that is done, and how many bytes the program reads at a time.
+SHORTEST, READ = b'{"cmd":"edit","id":1}', 65_536
+# How many options a large site has; how many lines its history; and how many a run may read from its input.
+OPTIONS, MANY, MOST = 70_000, 1_000_100, 1_000_000
+# Fills a disk, and then runs a program over a new file on it.
+FILLED = 'head -c 1000000 /dev/zero > "$1/filler" 2>/dev/null; exec "$0" --database "$1/site.db"'
 # Lines that are done, but are no edits.
 NO_EDITS = (b'{"cmd":"get","path":"/"}', b'{"cmd":"begin","path":"/"}')
 
@@ -107,12 +131,19 @@ def made(program: str, folder: str) -> Path:
     return file
 
 
+# What is said of a file that another program has.
+IN_USE = "the file is in use: end the program that has it, or edit the site through that one"
+
+
 def refuses_a_second_program(program: str, folder: str) -> None:
-    """A second program on the same file is refused, and the first goes on."""
+    """A second program on the same file is refused, before the first has made an edit and after, and the first goes
+    on."""
     file = made(program, folder)
     with Client(program, *over(file)) as client:
+        client.ask(b"{}")
+        refuses_in_every_way(program, file, IN_USE)
         first = client.ask(put(title="V"))
-        refuses_in_every_way(program, file, "the file is in use")
+        refuses_in_every_way(program, file, IN_USE)
         if (first, client.ask(put(title="W"))) != (b"ok 3\n", b"ok 4\n"):
             raise Wrong("the first program doesn't go on")
         check_end(client.end(), 0, b"")
@@ -122,8 +153,11 @@ def refuses_a_second_program(program: str, folder: str) -> None:
 
 def refuses_what_it_cannot_open(program: str, folder: str) -> None:
     """Folders, files in folders that aren't there, the name of a database in memory, and files with a second name."""
-    for file in (Path(folder), Path(folder, "none", "site.db"), Path(":memory:")):
-        refuses_in_every_way(program, file, CANNOT_OPEN)
+    refuses_in_every_way(program, Path(folder), CANNOT_OPEN)
+    for file in (Path(folder, "none", "site.db"), Path(":memory:")):
+        for words in WAYS[:-1]:
+            refuses(program, file, CANNOT_OPEN, *words)
+        refuses(program, file, "there is no such file", *WAYS[-1])
     if os.listdir(folder):
         raise Wrong(f"it left {os.listdir(folder)}")
     file, link = made(program, folder), Path(folder, "link.db")
@@ -226,6 +260,96 @@ def refuses_wrong_lines(program: str, folder: str) -> None:
         copy.unlink()
 
 
+def refuses_wrong_lines_far_on(program: str, folder: str) -> None:
+    """A line of a long history is refused, or is no edit: its number counts all lines before it."""
+    file = Path(folder, "site.db")
+    replies(program, [put(title="T")], *over(file))
+    extended(file, [SHORTEST] * (max(FAR_ON) - 2))
+    wrong, reply = next(iter(WRONG_LINES.items()))
+    for number in FAR_ON:
+        change = "UPDATE command SET line = ? WHERE number = ?"
+        copy = doctored(file, [(change, (wrong.decode(), number))], folder)
+        refuses_in_every_way(program, copy, f"line {number} of the history is refused: {reply}")
+        copy.unlink()
+        copy = doctored(file, [(change, (NO_EDITS[0].decode(), number))], folder)
+        refuses(program, copy, f"line {number} of the history is not an edit")
+        copy.unlink()
+
+
+def extended(file: Path, lines: Sequence[bytes]) -> None:
+    """Appends lines to the history in a file, each with its digest."""
+    before = history(file)
+    sealed = zip(lines, islice(digests_of([*before, *lines]), len(before), None))
+    with opened(file) as connection:
+        connection.execute("BEGIN")
+        connection.executemany(LAST_SEALED, ((line.decode(), digest) for line, digest in sealed))
+        connection.execute("COMMIT")
+        connection.execute("PRAGMA wal_checkpoint(TRUNCATE)")
+
+
+def takes_many_lines(program: str, folder: str) -> None:
+    """A history of more lines than a run may read is carried out, and a wrong line at its end is named; the export of
+    many options has a line for each of them."""
+    file = Path(folder, "site.db")
+    replies(program, [put(title="T")], *over(file))
+    options = [line_of(cmd="option", name=f"o{it:05}", value="v") for it in range(OPTIONS)]
+    extended(file, [*options, *[SHORTEST] * (MANY - OPTIONS - 3), next(iter(WRONG_LINES))])
+    reply = next(iter(WRONG_LINES.values()))
+    refuses(program, file, f"line {MANY} of the history is refused: {reply}")
+    with opened(file) as connection:
+        connection.execute("DELETE FROM command WHERE number = ?", (MANY,))
+        connection.execute("PRAGMA wal_checkpoint(TRUNCATE)")
+    ran = run(program, b"", *over(file, "--export"))
+    check_told(ran, file)
+    lines = ran.stdout.splitlines()
+    check_equal(sorted(it for it in lines if b'"option"' in it), options)
+    ran = run(program, b"", *over(file, "--compact"))
+    check_end((ran.returncode, ran.stderr), 0, b"")
+    check_equal(history(file)[1:], lines)
+
+
+def takes_the_shortest_edits(program: str, folder: str) -> None:
+    """As many edits as can come in one read, which are one commit, all have their replies and are there."""
+    file = made(program, folder)
+    before = history(file)
+    edits = [SHORTEST] * (READ // (len(SHORTEST) + 1))
+    with tempfile.TemporaryFile() as given:
+        given.write(joined(edits))
+        given.seek(0)
+        ran = run(program, None, *over(file), stdin=given)
+    check_end((ran.returncode, ran.stderr), 0, b"")
+    if ran.stdout != b"ok\n" * len(edits):
+        raise Wrong(f"the replies are {shown(ran.stdout)}")
+    check_equal(history(file), [*before, *edits])
+
+
+def takes_a_million_lines(program: str, folder: str) -> None:
+    """One line too many ends a run, and the edits right before it, which came in the same read, have their replies and
+    are there."""
+    file = made(program, folder)
+    before = history(file)
+    edits = [put(title=f"late {it}") for it in range(5)]
+    with tempfile.TemporaryFile() as given:
+        given.write(b"{}\n" * (MOST - len(edits)) + joined([*edits, put(title="one too many")]))
+        given.seek(0)
+        ran = run(program, None, *over(file), stdin=given)
+    check_end((ran.returncode, ran.stderr), 1, b"site: too much input\n")
+    replied = ran.stdout.splitlines()[MOST - len(edits) :]
+    if replied != [b"ok %d" % it for it in range(3, 3 + len(edits))]:
+        raise Wrong(f"the last replies are {shown(b' '.join(replied))}")
+    check_equal(history(file), [*before, *edits])
+
+
+def refuses_on_a_full_disk(program: str, folder: str) -> None:
+    """A new file on a disk without room."""
+    space = may_mount()
+    if space is None:
+        raise Skipped("no disk of one's own can be mounted: that takes root, or user namespaces")
+    words = [*space, "sh", "-c", MOUNTED, "sh", "64k", folder, "sh", "-c", FILLED, program, folder]
+    ran = subprocess.run(words, input=b"", capture_output=True, timeout=SECONDS)
+    check_end((ran.returncode, ran.stderr), 1, f"site: {folder}/site.db: the disk is full\n".encode())
+
+
 def refuses_changed_lines(program: str, folder: str) -> None:
     """A history of which a line was changed, lost, moved or put in, or a digest: the first line that doesn't fit is
     named. One that was lost from the end isn't seen."""
@@ -252,7 +376,12 @@ def cases(program: str) -> Cases:
         refuses_other_forms,
         refuses_other_programs,
         refuses_wrong_lines,
+        refuses_wrong_lines_far_on,
         refuses_changed_lines,
+        refuses_on_a_full_disk,
+        takes_the_shortest_edits,
+        takes_a_million_lines,
+        takes_many_lines,
     )
     for check in checks:
         yield check.__doc__, partial(in_a_folder, check, program)

@@ -8,11 +8,12 @@ reads a copy of FILE and FILE-wal. The parts, in this order, or one of them with
 
 - keeping: edits are there after the end and a new start, the pages are those of a program in memory that is given the
   same lines, and the rows are exactly the program's first line and the edits that were done, byte for byte; random
-  lists of tests/fuzz with a new start after each tenth line have the replies that they have without;
+  lists of tests/fuzz with a new start after each tenth line have the replies that they have without; one that fails
+  is made shorter, and saved in out/fuzz;
 - refused: starts that are refused by name, with the database file as it was: a second program, files that can't be
   opened, that are no database or another one, another program's, and histories with a line that is refused;
 - exports: what --export prints rebuilds the site: pages, drafts, options, templates, the next ID; exported again it is
-  the same; --compact puts it in the place of the history;
+  the same; --compact puts it in the place of the history; random lists as in keeping;
 - readers: 200 edits in one write, and standard output closed, full, without a reader or never read: what the file then
   holds is what docs/FAILURES.md says;
 - commits: each write and each sync of the files refused once, in a run of its own: the next start finds the edits that
@@ -21,6 +22,13 @@ reads a copy of FILE and FILE-wal. The parts, in this order, or one of them with
   skipped;
 - damage: one byte of FILE-wal turned, 500 times, and of FILE; FILE-wal cut, 100 times, or overwritten: a start is
   refused by name and writes nothing, or has all of the history;
+- mixed: FILE of one moment and FILE-wal of another, of one site and of two: a start is refused, or has a site as it was
+  at a moment. That isn't the newer one of the two only if both are of one moment, if FILE-wal has no commit, or if it
+  is of a moment before FILE's, or of another site; how often is printed;
+- salvage: examples/salvage over files with a line that was changed, a page that was overwritten, a log that was turned
+  or cut, and over sound ones: a front of the edits is saved, what is left is told, and the files stay as they are;
+- check: --check and --export tell how many edits a file has, and their digest, as Python's hashlib finds it; files that
+  are refused are left as they are; and the mode of new files;
 - readme: the README's own example, with its `kill -9`;
 - kills: N rounds, 500 if N is left out, made within two minutes: SIGKILL at a random moment of serving a client that
   waits for its replies, or one that sends chunks, of a start, or of a --compact. Each time all edits that were
@@ -34,13 +42,14 @@ The last line is 'N passed, M failed', over the checks and rounds, and the exit 
 """
 
 import argparse
-import subprocess
-from collections.abc import Callable
 from types import ModuleType
 
 from geanmarbles.checks.database import (
     commits,
     damage,
+    damage_checked,
+    damage_mixed,
+    damage_salvaged,
     disks,
     exports,
     keeping,
@@ -50,9 +59,8 @@ from geanmarbles.checks.database import (
     refused,
     self_test,
 )
-from geanmarbles.checks.database.clients import Cases, Skipped
+from geanmarbles.checks.judging import Cases, Counts
 from geanmarbles.checks.programs import missing, parser_of
-from geanmarbles.client.replies import Wrong
 
 # (a module has its checks by `cases`)
 PARTS: dict[str, ModuleType] = {
@@ -63,37 +71,12 @@ PARTS: dict[str, ModuleType] = {
     "commits": commits,
     "disks": disks,
     "damage": damage,
+    "mixed": damage_mixed,
+    "salvage": damage_salvaged,
+    "check": damage_checked,
     "readme": readme,
     "kills": kills,
 }
-
-
-class Counts:
-    """How many checks passed and failed, and how many couldn't be made."""
-
-    def __init__(self) -> None:
-        self.passed = self.failed = self.skipped = 0
-
-    def judge(self, name: str | None, judged: Callable[[], object]) -> None:
-        try:
-            judged()
-            self.passed += 1
-        except Skipped as why:
-            print(f"skipped: {name}: {why}")
-            self.skipped += 1
-        except (Wrong, OSError, ValueError, LookupError, subprocess.SubprocessError) as fault:
-            print(f"FAILED: {name}: {fault if isinstance(fault, Wrong) else repr(fault)}", flush=True)
-            self.failed += 1
-
-    def judge_all(self, title: str, cases: Cases) -> None:
-        before = self.passed + self.failed
-        try:
-            for name, judged in cases:
-                self.judge(name, judged)
-        except (Wrong, OSError, subprocess.SubprocessError) as fault:
-            print(f"FAILED: {title}: {fault}")
-            self.failed += 1
-        print(f"{title}: {self.passed + self.failed - before} checks", flush=True)
 
 
 def cases_of(name: str, arguments: argparse.Namespace) -> Cases:
@@ -101,6 +84,10 @@ def cases_of(name: str, arguments: argparse.Namespace) -> Cases:
         return kills.Rounds(arguments.program, arguments.rounds).cases()
     found: Cases = PARTS[name].cases(arguments.program)
     return found
+
+
+def judge_part(counts: Counts, name: str, cases: Cases) -> None:
+    print(f"{name}: {counts.judge_all(cases)} checks", flush=True)
 
 
 def read_arguments() -> argparse.Namespace:
@@ -117,9 +104,8 @@ def main() -> int:
         print(f"FAILED: {missing(arguments.program)}\n0 passed, 1 failed")
         return 1
     if arguments.self_test:
-        counts.judge_all("self-test", self_test.cases(arguments.program))
+        judge_part(counts, "self-test", self_test.cases(arguments.program))
     else:
         for name in [arguments.part] if arguments.part else PARTS:
-            counts.judge_all(name, cases_of(name, arguments))
-    print(f"{counts.passed} passed, {counts.failed} failed")
-    return 1 if counts.failed else 0
+            judge_part(counts, name, cases_of(name, arguments))
+    return counts.end()

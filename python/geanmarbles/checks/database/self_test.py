@@ -8,7 +8,11 @@ from pathlib import Path
 from geanmarbles.checks.database import keeping, readers
 from geanmarbles.checks.database.clients import Cases, over, put, replies, same_pages
 from geanmarbles.checks.database.commits import check_found
+from geanmarbles.checks.database.damage_checked import check_tells
+from geanmarbles.checks.database.damage_mixed import Mixed, Site
 from geanmarbles.checks.database.files import Statement, check_after_a_crash, check_equal, doctored, history
+from geanmarbles.checks.database.lists import random_lines
+from geanmarbles.checks.fuzz.shorter import Shorter
 from geanmarbles.checks.programs import executable
 from geanmarbles.client.replies import Wrong
 from geanmarbles.paths import TESTS
@@ -49,6 +53,12 @@ head -n 150 >"$2.given" && exec {program} "$@" <"$2.given"
 """
 # Never lets the program know of a limit on calls.
 UNLIMITED = '#!/bin/sh\n[ "$3" != --calls ] || set -- "$1" "$2"\nexec {program} "$@"\n'
+# Looks at FILE without its log.
+LOSES = '#!/bin/sh\n[ "$1" != --database ] || rm -f "$2-wal"\nexec {program} "$@"\n'
+# Tells another digest than a file has.
+MISTELLS = '#!/bin/sh\n{program} "$@" | sed "s/digest ../digest xx/"\n'
+# Tells of another ID than the first post's in a file.
+MISCOUNTS = '#!/bin/sh\n[ "$1" = --database ] || exec {program} "$@"\n{program} "$@" | sed "s/^ok 1$/ok 9/"\n'
 # Histories after a commit of the last six edits has failed.
 AFTER_A_COMMIT: dict[str, list[Statement]] = {
     "half of a commit is there": [("DELETE FROM command WHERE number > ?", (10,))],
@@ -102,6 +112,35 @@ def otherwise(program: str, text: str, check: Callable[[str, Path], None]) -> No
         noticed(lambda: check(str(path), Path(folder, "site.db")))
 
 
+def is_made_shorter(program: str, folder: str) -> None:
+    """A random list that fails is saved as a shorter one that fails too."""
+    path, lines = executable(folder, "miscounts", MISCOUNTS.format(program=program)), random_lines("self-test")
+    check = partial(keeping.in_a_folder, keeping.restarted, str(path))
+    noticed(lambda: Shorter(Path(folder)).judge("miscounts", check, lines))
+    saved = Path(folder, "miscounts.jsonl").read_bytes().splitlines()
+    if len(saved) >= len(lines):
+        raise Wrong(f"all of {len(lines)} lines are left")
+    noticed(lambda: check(saved))
+
+
+def silently_older(program: str, folder: str) -> None:
+    """A start that is silent about commits which it has lost."""
+    site, path = Site(program, "self-test"), executable(folder, "loses", LOSES.format(program=program))
+    one = max(site.moments, key=lambda it: len(it.both()[1]))
+    Mixed(program, site, site).judge(one, one)
+    noticed(lambda: Mixed(str(path), site, site).judge(one, one))
+
+
+def mistold(program: str, folder: str) -> None:
+    """A digest that isn't that of the lines."""
+    path = executable(folder, "mistells", MISTELLS.format(program=program))
+    file = Path(folder, "mistold.db")
+    replies(program, EDITS, *over(file))
+    check_tells(program, file, history(file))
+    noticed(lambda: check_tells(str(path), file, history(file)))
+    noticed(lambda: check_tells(program, file, history(file)[:-1]))
+
+
 def check_commit(file: Path, identity: bytes) -> None:
     check_found(history(file), [identity, *EDITS[:BEFORE]], EDITS[BEFORE:6], EDITS[6:])
 
@@ -128,3 +167,6 @@ def cases(program: str) -> Cases:
         yield "pages without a limit", lambda: otherwise(program, UNLIMITED, keeping.takes_another_limit)
         yield "other pages", lambda: changed_pages(program, file)
         yield "a program that forgets an edit", lambda: forgetful(program, folder)
+        yield "a start that is silently older", lambda: silently_older(program, folder)
+        yield "a digest that isn't the file's", lambda: mistold(program, folder)
+        yield "a list that is made shorter", lambda: is_made_shorter(program, folder)

@@ -12,7 +12,6 @@ import os
 import random
 import re
 import shutil
-import socket
 import subprocess
 import tempfile
 import time
@@ -26,10 +25,12 @@ from urllib.parse import quote, unquote, urlsplit
 from geanmarbles.archive.check import file_of
 from geanmarbles.archive.html import harmless, shortened
 from geanmarbles.archive.search import file_number, words_in
+from geanmarbles.checks.cluster.processes import free_port, listens, wait_for
 from geanmarbles.checks.from_wordpress.access_checks import faults_of, faults_of_colours
 from geanmarbles.checks.from_wordpress.browser_checks import browser, check_in_browser
 from geanmarbles.checks.from_wordpress.page_lines import lines_of, outline_of
 from geanmarbles.checks.from_wordpress.text_cases import by_wordpress, cases
+from geanmarbles.checks.judging import must
 from geanmarbles.client.program import pipe
 from geanmarbles.client.replies import Wrong
 from geanmarbles.paths import EXAMPLES, TESTS
@@ -50,11 +51,6 @@ DEPARTURES = {
     ("Your name", "The form that was here is closed."),
     ("Your name", "Le formulaire qui se trouvait ici est fermé."),
 }
-
-
-def must(holds: object, what: str) -> None:
-    if not holds:
-        raise Wrong(what)
 
 
 class Recorded(NamedTuple):
@@ -592,12 +588,6 @@ http {{
 """
 
 
-def free_port() -> int:
-    with socket.socket() as free:
-        free.bind(("127.0.0.1", 0))
-        return int(free.getsockname()[1])
-
-
 def asked(port: int, path: str) -> tuple[int, str, str]:
     """The status, the kind and the target of what a server replies."""
     connection = http.client.HTTPConnection("127.0.0.1", port, timeout=SECONDS)
@@ -618,12 +608,8 @@ def served(archive: Archive, folder: Path) -> Iterator[int]:
     (folder / "nginx.conf").write_text(("user root;\n" if os.getuid() == 0 else "") + NGINX.format(folder=folder))
     with subprocess.Popen(["nginx", "-c", folder / "nginx.conf"], stderr=subprocess.PIPE) as server:
         try:
-            for _ in range(100):
-                with contextlib.suppress(OSError):
-                    socket.create_connection(("127.0.0.1", port)).close()
-                    break
-                must(server.poll() is None, f"nginx: {server.stderr.read()[-300:] if server.stderr else ''}")
-                time.sleep(0.1)
+            wait_for(lambda: server.poll() is not None or listens(port), SECONDS, "nginx listens")
+            must(server.poll() is None, f"nginx: {server.stderr.read()[-300:] if server.stderr else ''}")
             yield port
         finally:
             server.terminate()

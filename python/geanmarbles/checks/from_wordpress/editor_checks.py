@@ -13,7 +13,8 @@ from pathlib import Path
 from typing import Any
 
 from geanmarbles.checks.browse.browsing import Browse
-from geanmarbles.checks.from_wordpress.archive_checks import SECONDS, must
+from geanmarbles.checks.from_wordpress.archive_checks import SECONDS
+from geanmarbles.checks.judging import must
 from geanmarbles.paths import EXAMPLES
 
 EDITS = (

@@ -13,7 +13,7 @@ from datetime import datetime, timedelta
 from pathlib import Path
 from typing import Any, TextIO
 
-from geanmarbles.client.replies import Wrong
+from geanmarbles.checks.judging import must
 from geanmarbles.paths import ROOT
 
 PYTHON = ROOT / "python"
@@ -63,11 +63,6 @@ COMMENT = """<wp:comment><wp:comment_id>{number}</wp:comment_id><wp:comment_auth
 <wp:comment_approved>1</wp:comment_approved><wp:comment_parent>0</wp:comment_parent></wp:comment>
 """
 FILE = "<wp:attachment_url>https://made.example/wp-content/uploads/of-{number}.jpg</wp:attachment_url>"
-
-
-def must(holds: object, what: str) -> None:
-    if not holds:
-        raise Wrong(what)
 
 
 def posts(count: int) -> Iterator[dict[str, Any]]:

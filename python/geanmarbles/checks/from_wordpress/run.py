@@ -37,6 +37,7 @@ import shutil
 import subprocess
 import tempfile
 from collections.abc import Collection, Iterator
+from functools import partial
 from html import unescape
 from html.parser import HTMLParser
 from pathlib import Path
@@ -44,8 +45,9 @@ from typing import Any
 
 from geanmarbles.checks.from_wordpress import archive_checks, editor_checks, memory_checks
 from geanmarbles.checks.from_wordpress.browser_checks import browser
+from geanmarbles.checks.judging import Counts, must
 from geanmarbles.checks.programs import missing, parser_of
-from geanmarbles.client.replies import Wrong, whole_replies
+from geanmarbles.client.replies import whole_replies
 from geanmarbles.paths import ROOT, TESTS
 
 HERE = TESTS / "from_wordpress"
@@ -56,11 +58,6 @@ LINE_BYTES = 1_048_576
 IMPORT_POSTS = 10_000
 VOID_ELEMENTS = {"meta"}
 USED_ONCE = ["html", "head", "title", "body", "main"]
-
-
-def must(holds: object, what: str) -> None:
-    if not holds:
-        raise Wrong(what)
 
 
 def expanded(path: Path) -> bytes:
@@ -354,18 +351,12 @@ def main() -> int:
         print("there is no chromium here, so no page is opened in a browser")
     if not shutil.which("nginx"):
         print("there is no nginx here, so no archive is served by it")
-    passed = failed = skipped = 0
+    counts = Counts()
     if missing(program) and not arguments.without_program:
         print(f"FAILED: {missing(program)}")
     for name, check, *given in checks(program, arguments.wordpress if has_wordpress else None):
         if arguments.without_program and program in given:
-            skipped += 1
-            continue
-        try:
-            check(*given)
-            passed += 1
-        except (Wrong, OSError, ValueError, subprocess.SubprocessError) as error:
-            failed += 1
-            print(f"FAILED: {name}: {error}")
-    print(f"{passed} passed, {failed} failed" + (f", {skipped} skipped" if skipped else ""))
-    return 1 if failed else 0
+            counts.skipped += 1
+        else:
+            counts.judge(name, partial(check, *given))
+    return counts.end()

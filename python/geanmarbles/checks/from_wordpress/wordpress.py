@@ -15,13 +15,12 @@ import json
 import os
 import shutil
 import signal
-import socket
 import subprocess
-import time
 from collections.abc import Iterator
 from pathlib import Path
 from typing import Any
 
+from geanmarbles.checks.cluster.processes import free_port, listens, wait_for
 from geanmarbles.paths import TESTS
 
 HERE = TESTS / "from_wordpress"
@@ -124,11 +123,10 @@ class WordPress:
         words += [f"--pid-file={self.folder / 'sql.pid'}", "--innodb-flush-log-at-trx-commit=0"]
         log = (self.folder / "sql.log").open("wb")
         self.server = subprocess.Popen(words, stdout=log, stderr=log)
-        for _ in range(300):
-            if self.socket.exists():
-                return
-            time.sleep(0.1)
-        raise NotThere("MariaDB doesn't start")
+        try:
+            wait_for(self.socket.exists, 30, "MariaDB starts")
+        except TimeoutError as fault:
+            raise NotThere(str(fault)) from fault
 
     def configure(self, address: str = "") -> None:
         more = f"define('WP_HOME', '{address}'); define('WP_SITEURL', '{address}');" if address else ""
@@ -170,21 +168,14 @@ class WordPress:
 
     def statuses(self, paths: list[str], host: str) -> Iterator[tuple[str, int, str]]:
         """The status of each path, and where it leads if it is moved."""
-        with socket.socket() as free:
-            free.bind(("127.0.0.1", 0))
-            port = free.getsockname()[1]
+        port = free_port()
         words = ["php", "-S", f"127.0.0.1:{port}", "router.php"]
         env = {**os.environ, "PHP_CLI_SERVER_WORKERS": "2"}
         with subprocess.Popen(
             words, cwd=self.root, stdout=subprocess.DEVNULL, stderr=subprocess.DEVNULL, env=env, start_new_session=True
         ) as server:
             try:
-                for _ in range(100):
-                    try:
-                        socket.create_connection(("127.0.0.1", port)).close()
-                        break
-                    except OSError:
-                        time.sleep(0.1)
+                wait_for(lambda: listens(port), 30, "PHP listens")
                 for path in paths:
                     asked = http.client.HTTPConnection("127.0.0.1", port, timeout=60)
                     asked.request("GET", path, headers={"Host": host})

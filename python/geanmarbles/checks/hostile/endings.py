@@ -10,16 +10,15 @@ import signal
 import subprocess
 import tempfile
 import time
-from collections.abc import Callable, Iterator
 from functools import partial
 from typing import Any, NamedTuple
 
+from geanmarbles.checks.judging import Cases
 from geanmarbles.client.program import pipe
 from geanmarbles.client.replies import Wrong, read_replies, shown
 
 # How a run ended: its status, and what it says on standard error; and checks by their names.
 End = tuple[int, bytes]
-Cases = Iterator[tuple[str, Callable[[], None]]]
 
 SECONDS = 60
 LINE = b"{}\n"
@@ -305,7 +304,7 @@ def cases_over(program: str, site: Site) -> Cases:
 def cases(program: str) -> Cases:
     """Each run by its name, with what judges it."""
     for site in (EMPTY, OPEN):
-        yield from ((name + site.name, judged) for name, judged in cases_over(program, site))
+        yield from ((f"{name}{site.name}", judged) for name, judged in cases_over(program, site))
     for waits in (0.0, 0.001, 0.003, 0.01):
         name = f"SIGTERM {waits * 1000:.0f} ms into pages by turns"
         yield name, partial(signalled, program, OPEN, signal.SIGTERM, BUSY[0], waits, BUSY[1])

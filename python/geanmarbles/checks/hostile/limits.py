@@ -2,16 +2,17 @@
 
 import json
 import subprocess
+from bisect import bisect_left
 from collections import Counter
 from collections.abc import Callable, Iterable, Iterator, Sequence
 from functools import partial
 from typing import Any
 
+from geanmarbles.checks.judging import Cases
 from geanmarbles.client.replies import Wrong, read_replies, shown
 
 # A command; and checks by their names.
 Keys = dict[str, Any]
-Cases = Iterator[tuple[str, Callable[[], None]]]
 
 SECONDS = 60
 CALLS = 100_000
@@ -138,10 +139,8 @@ def whole(program: str, lines: Sequence[bytes], limit: str = "") -> list[bytes]:
 
 def smallest(works: Callable[[int], bool], low: int, high: int, step: int) -> int:
     """The smallest limit that works, to a step, between one that doesn't and one that does."""
-    while high - low > step:
-        middle = (low + high) // 2 // step * step
-        low, high = (low, middle) if works(middle) else (middle, high)
-    return high
+    too_small = bisect_left(range(low + step, high, step), True, key=works)
+    return min(low + (too_small + 1) * step, high)
 
 
 class Memory:

@@ -20,11 +20,9 @@ in tests/ends and tests/memory. The last line is 'N passed, M failed', over the 
 failed.
 """
 
-import subprocess
-
 from geanmarbles.checks.hostile import endings, limits
+from geanmarbles.checks.judging import Counts
 from geanmarbles.checks.programs import missing, parser_of
-from geanmarbles.client.replies import Wrong
 
 
 def main() -> int:
@@ -32,16 +30,8 @@ def main() -> int:
     if missing(program):
         print(f"FAILED: {missing(program)}\n0 passed, 1 failed")
         return 1
-    passed = failed = 0
+    counts = Counts()
     for part in (endings, limits):
-        before = passed + failed
-        for name, judged in part.cases(program):
-            try:
-                judged()
-                passed += 1
-            except (Wrong, OSError, subprocess.SubprocessError) as fault:
-                print(f"FAILED: {name}: {fault}")
-                failed += 1
-        print(f"{(part.__doc__ or '').splitlines()[0]} {passed + failed - before} runs or measurements")
-    print(f"{passed} passed, {failed} failed")
-    return 1 if failed else 0
+        made = counts.judge_all(part.cases(program))
+        print(f"{(part.__doc__ or '').splitlines()[0]} {made} runs or measurements", flush=True)
+    return counts.end()

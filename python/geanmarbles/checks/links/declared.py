@@ -38,6 +38,8 @@ class Declared:
         self.variants: dict[str, set[str]] = {}
         self.free: set[str] = set()
         self.definitions: set[str] = set()
+        # The names of its files of definitions and lemmas.
+        self.files: set[str] = set()
         self.foreign: set[str] = set(EVERYWHERE)
         # By the name of a function, and by that of its type and its own: the text from `fn NAME` to the body.
         self.contracts: dict[str, list[str]] = {}
@@ -45,7 +47,7 @@ class Declared:
             text = path.read_text(encoding="utf-8")
             self.read_contracts(text, self.read_source(text))
         for path in sorted(it for part in ("specs", "proofs") for it in (CRATES / crate / part).rglob("*.antt")):
-            self.definitions.add(path.stem)
+            self.files.add(path.stem)
             if path.is_relative_to(CRATES / crate / "specs"):
                 self.read_definitions(path.read_text(encoding="utf-8"))
 
@@ -103,9 +105,11 @@ class Declared:
         if root not in {*libraries(), "crate", "self", "super"}:
             self.foreign |= set(CAPITAL.findall(used))
 
+    def has_type(self, name: str) -> bool:
+        return name in self.types | self.definitions | self.foreign
+
     def has(self, name: str) -> bool:
-        here = self.types | self.definitions | self.foreign
-        return name in here or any(name in it for it in self.variants.values())
+        return self.has_type(name) or any(name in it for it in self.variants.values())
 
 
 @cache

@@ -29,6 +29,8 @@ from geanmarbles.repository.crates import below, read_crates
 MEMBER = re.compile(r"(?:\w+::)*(\w+)::(\w+)(?:\(.*\))?", re.S)
 TYPE = re.compile(r"&?(?:mut )?[A-Z]\w*[a-z]\w*(?:<.*>)?", re.S)
 TYPES = re.compile(r"\b[A-Z]\w*[a-z]\w*")
+# A name that a page calls a type: a variant of that name is none.
+CALLED_TYPE = re.compile(r"\b[Tt]ypes? `([A-Z]\w*[a-z]\w*)`")
 SOURCE = re.compile(r"(?:src/)?((?:\w+/)*\w+\.rt)")
 DEFINITIONS = re.compile(r"(?:(\w+)/)?((?:specs|proofs)/(?:\w+/)*\w+)(?:\.antt)?")
 SHOWN = re.compile(r"^```rust\n(.*?)^```", re.M | re.S)
@@ -57,11 +59,16 @@ def check_names(checks: Checks, page: Path, crates: set[str], users: set[str]) -
     """The names of a page that speaks of some crates; a crate's own definitions are carried by its users too."""
     has_types = page.is_relative_to(CRATES) or page.name in OF_THE_CODE
     everything, toolchain = declared(), set().union(*libraries().values()) - set(libraries())
+    # A crate's page names its own files without their folders; any page may say of a definition which file it is of.
+    files = everything[page.parent.name].files if page.parent.name in everything else set()
     for part, is_definition in blocks_of(page.read_text(encoding="utf-8")):
         quoted = QUOTED.findall(part)
         told = {name for name, library in OF_LIBRARY.findall(part) if library in toolchain}
         homes = crates | {it for it in quoted if it in everything}
         owners = homes | users if is_definition else homes
+        for name in CALLED_TYPE.findall(part) if has_types else ():
+            known = name in told | ELSEWHERE or any(everything[it].has_type(name) for it in homes)
+            checks.check(known, page, f"no type {name} {of(page)}")
         for name in quoted:
             member, is_type = MEMBER.fullmatch(name), TYPE.fullmatch(name)
             if member and member[1] in everything:
@@ -70,7 +77,8 @@ def check_names(checks: Checks, page: Path, crates: set[str], users: set[str]) -
             elif member and member[1][0].isupper() and not is_foreign(member[1], homes):
                 checks.check(has_member(owners, *member.groups()), page, f"no function {name} {of(page)}")
             for word in TYPES.findall(name) if is_type and has_types else ():
-                known = word in told | ELSEWHERE or any(everything[it].has(word) for it in homes)
+                known = word in told | ELSEWHERE | files or any(everything[it].has(word) for it in homes)
+                known = known or f"of `{word}`" in part and any(word in everything[it].files for it in homes)
                 checks.check(known, page, f"no type {word} {of(page)}")
 
 

@@ -45,6 +45,7 @@ SENTENCES = [
         "| What | Function | Clause |\n|---|---|---|\n| a | `Run::start` | `never_there` |",
         "no clause never_there of Run::start",
     ),
+    ("crates/site_program/DESIGN.md", "The type `Stored` has it.", f"no type Stored {HERE}"),
     ("docs/INDEX.md", "More.", "isn't what tools/index makes of the sources"),
     ("docs/THEOREM.md", "More.", "isn't what tools/index makes of the sources"),
     ("README.md", "\n" * 190, "it has not at most 190 lines"),
@@ -64,6 +65,26 @@ CHANGED = [
     ("tests/parts.txt", "test      tests/ends/run", "quick     tests/ends/run", "tests/ends/run is no part of ./test"),
     ("tests/README.md", "| [cost/run](cost/run)", "| [cost](cost/run)", "it has no row of cost/run"),
     ("test", "(tests/reach/run)", "(reach)", "it doesn't say what tests/reach/run is for"),
+    ("docs/BEHAVIOUR.md", "callbacks are registered. A", "callbacks are\nregistered. A", "line "),
+    ("docs/BEHAVIOUR.md", "| entry | a callback", "| group | a callback", "the glossary has group in 2 rows"),
+    (
+        "crates/template_parts/DESIGN.md",
+        "| the tables that loading left are shared",
+        "| its own: copies",
+        "0 places, and not one, for ^\\| registrations and tags",
+    ),
+    (
+        "crates/hook_machine/src/run.rt",
+        "and shares the options",
+        "and copies the options",
+        "0 places, and not one, for It borrows the plugins",
+    ),
+    (
+        "crates/bundled_plugins/src/rows.rt",
+        "a load list is copied for each page, and",
+        "a load list is carried out for each page, and",
+        "0 places, and not one, for a load list",
+    ),
     ("docs/ARCHITECTURE.md", "| [`byte_io`]", "| [`bytes_io`]", "isn't what tools/index makes of the sources"),
 ]
 

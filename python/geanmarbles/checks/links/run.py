@@ -27,6 +27,10 @@ docs/INDEX.md, docs/THEOREM.md and what is made in docs/ARCHITECTURE.md are what
 definition in THEOREM has a sentence. The functions that README.md names with clauses have them, and it has no more than
 190 lines. Each edit that docs/BEHAVIOUR.md names changes a function that the program reaches, or a law.
 
+No line of text is longer than 120 columns, and none ends early in the middle of a paragraph; the glossary has each word
+once. The sentences of claims.py, on how the code does something, and the lines of sources by which they are true are
+there.
+
 The times of CONTRIBUTING.md's table are those that other documents and scripts say, the figures of a bench those that
 README.md repeats, and README's numbers of lines, functions and wrong bodies about those of the sources; figures.py has
 the places.
@@ -49,8 +53,10 @@ from collections.abc import Iterable, Mapping, Sequence
 from pathlib import Path
 
 from geanmarbles.arguments import Parser
+from geanmarbles.checks.links.claims import check_claims
 from geanmarbles.checks.links.declared import contracts_of
 from geanmarbles.checks.links.figures import check_counted, check_figures, check_times
+from geanmarbles.checks.links.layout import check_glossary, check_layout
 from geanmarbles.checks.links.naming import check_naming
 from geanmarbles.checks.links.planted import self_test
 from geanmarbles.checks.links.reading import (
@@ -353,8 +359,13 @@ def pages() -> list[Path]:
 
 def check_all() -> tuple[int, int]:
     checks = Checks()
+    made = set(index.pages())
     for page in pages():
         check_links(checks, page)
+        if page not in made:
+            check_layout(checks, page)
+    check_glossary(checks)
+    check_claims(checks)
     check_naming(checks, pages())
     check_times(checks)
     check_figures(checks)

@@ -216,6 +216,9 @@ def served(*answers: bytes | None) -> tuple[Etcd, list[bytes]]:
                         if answer is None:
                             break
                         connection.sendall(b"HTTP/1.1 200 OK\r\nContent-Length: %d\r\n\r\n%s" % (len(answer), answer))
+                    if not left:
+                        # Whoever sees that this connection has ended gets no other one.
+                        listening.close()
 
     threading.Thread(target=serve, daemon=True).start()
     return Etcd([f"http://127.0.0.1:{listening.getsockname()[1]}"]), got

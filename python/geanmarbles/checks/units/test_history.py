@@ -1,5 +1,6 @@
 """The history of edits, over an etcd that is a dictionary with the versions of its keys."""
 
+import hashlib
 import json
 from random import Random
 from typing import NamedTuple
@@ -8,8 +9,21 @@ from geanmarbles.checks.units.drawn import each
 from geanmarbles.checks.units.test_etcd import raised
 from geanmarbles.cluster.commands import Request, request_of
 from geanmarbles.cluster.etcd import Etcd, Json, Refused, Unreachable, WentBack, decoded, encoded
-from geanmarbles.cluster.history import NONE, Gap, Head, History, Last, Made, OtherBody, put, sum_of
-from geanmarbles.cluster.snapshots import Turn, note_done
+from geanmarbles.cluster.history import (
+    NO_EDIT,
+    NONE,
+    Edit,
+    Front,
+    Gap,
+    Head,
+    History,
+    Last,
+    Made,
+    OtherBody,
+    put,
+    sum_of,
+)
+from geanmarbles.cluster.snapshots import Turn, front_of, note_done
 from geanmarbles.cluster.tokens import NAMELESS
 from geanmarbles.web.edit_bodies import Bad
 
@@ -257,6 +271,37 @@ def test_the_last_edit_and_the_head_are_of_one_moment() -> None:
     last = history.last()
     history.transaction([], [put(history.keys.head, head_text(last))])
     assert history.now() == (last, Head(last, "f", 1, "s", 3))
+
+
+def test_a_digest_is_of_all_edits_however_many_a_snapshot_has() -> None:
+    edits = [Edit(place, f"{place}/1", DELETE % place) for place in range(2, 9)]
+    fronts = [NO_EDIT]
+    for edit in edits:
+        fronts.append(fronts[-1].with_edit(edit))
+    wanted = hashlib.sha256(hashlib.sha256(hashlib.sha256().digest() + DELETE % 2).digest() + DELETE % 3).digest()
+    assert fronts[2] == Front(Last(3, "3/1", 2), wanted)
+    assert len({it.digest for it in fronts}) == len(fronts), "each edit makes another digest"
+    others = NO_EDIT.with_edit(edits[1]).with_edit(edits[0])
+    assert others.digest != fronts[2].digest, "so does another order"
+    # A node that begins with a snapshot goes on with its digest, by way of the text that etcd keeps.
+    _, history = histories()
+    told = json.loads(head_text(fronts[3].last)) | {"digest": (fronts[3].digest or b"").hex()}
+    history.transaction([], [put(history.keys.head, json.dumps(told).encode())])
+    head = history.head()
+    assert head and head.front() == front_of(head) == fronts[3]
+    front = head.front()
+    for edit in edits[3:]:
+        front = front.with_edit(edit)
+    assert front == fronts[-1]
+
+
+def test_an_older_snapshot_has_no_digest_and_the_next_one_begins_anew() -> None:
+    last, edit = Last(7, "b/1", 5), Edit(8, "c/1", PUT)
+    head = Head(last, "f", 1, sum_of(b"its lines"), 9)
+    assert head.front().with_edit(edit) == Front(Last(8, "c/1", 6), None)
+    digest = hashlib.sha256(hashlib.sha256(b"its lines").digest() + PUT).digest()
+    assert front_of(head).with_edit(edit) == Front(Last(8, "c/1", 6), digest)
+    assert front_of(None) == NO_EDIT
 
 
 def test_keys_are_listed_in_pieces_at_one_revision() -> None:

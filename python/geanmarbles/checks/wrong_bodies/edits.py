@@ -1,7 +1,9 @@
 """The edits: what each changes, and how far its change reaches."""
 
 import re
+from collections.abc import Callable, Iterable, Mapping, Set
 from pathlib import Path
+from typing import NamedTuple
 
 NAME = re.compile(r"[A-Za-z0-9_-][A-Za-z0-9_.-]*\.edit")
 FUNCTION = re.compile(r"(\s*)(?:pub(?:\([a-z]+\))? )?(?:const )?fn (\w+)")
@@ -14,6 +16,18 @@ DECLARATION = re.compile(r"(?:(?:pub|abbrev|unfoldable) )*([^\s()]+) :")
 ANSWERS = "Answers.antt"
 
 
+# The text of a file, by its path in the crate.
+Read = Callable[[str], str]
+
+
+class Fault(NamedTuple):
+    """An error in a function's proof: the file, the line, counted from 1, and what was said."""
+
+    file: str
+    line: int
+    said: str
+
+
 class BadEdit(Exception):
     """An edit that can't be applied, or that doesn't have the form that the head of the script states."""
 
@@ -21,21 +35,22 @@ class BadEdit(Exception):
 class Edit:
     """One wrong body: the function that it changes, and the texts that it replaces, as (file, old, new)."""
 
-    def __init__(self, crate, stem, function, pairs):
+    def __init__(self, crate: str, stem: str, function: str, pairs: list[tuple[str, str, str]]) -> None:
         self.crate = crate
         self.label = f"{crate}/{stem}"
         self.function = function
         self.pairs = pairs
         # Set by read_edits: the recursion that the function is part of, if any; the bodies in which the texts lie, each
-        # as its file and the line where its function begins; and whether all lies in bodies, one of them the function's.
-        self.cycle = None
-        self.bodies = set()
+        # as its file and the line where its function begins; and whether all lies in bodies, one of them that of the
+        # function.
+        self.cycle: str | None = None
+        self.bodies: set[tuple[str, int]] = set()
         self.in_bodies = True
         # The answers that failed, by proof file the names of their declarations, and what was said of the first.
-        self.aside = {}
-        self.misfit = None
+        self.aside: dict[str, set[str | None]] = {}
+        self.misfit: str | None = None
 
-    def applied(self, texts, read):
+    def applied(self, texts: Mapping[str, str], read: Read) -> dict[str, str] | None:
         """The texts with this edit made in them and its answers set aside, or None if an old text isn't exactly once in
         its file.
 
@@ -50,7 +65,7 @@ class Edit:
             changed[file] = without(changed[file] if file in changed else read(file), names)
         return changed
 
-    def set_aside(self, faults, texts, read):
+    def set_aside(self, faults: Iterable[Fault], texts: Mapping[str, str], read: Read) -> bool:
         """Sets aside the answers in which errors lie, and says whether any was set aside that wasn't before.
 
         texts and read give the files in which the errors were found, as at `applied`."""
@@ -63,9 +78,12 @@ class Edit:
         return self.aside != before
 
 
-def parsed(crate, path):
+def parsed(crate: str, path: Path) -> Edit:
     """The edit that a file holds."""
-    functions, file, old, pairs = [], None, None, []
+    functions: list[str] = []
+    pairs: list[tuple[str, str, str]] = []
+    file: str | None = None
+    old: str | None = None
     for line in path.read_text(encoding="utf-8").split("\n"):
         if line.startswith("function: "):
             functions.append(line[len("function: ") :].strip())
@@ -87,9 +105,9 @@ def parsed(crate, path):
     return Edit(crate, path.stem, functions[0], pairs)
 
 
-def declarations(text):
+def declarations(text: str) -> list[tuple[str | None, list[str]]]:
     """The declarations of a proof file, as pairs of a name and lines; what is above the first has no name."""
-    found = [(None, [])]
+    found: list[tuple[str | None, list[str]]] = [(None, [])]
     for line in text.split("\n"):
         begins = DECLARATION.match(line)
         if begins:
@@ -98,7 +116,7 @@ def declarations(text):
     return found
 
 
-def declared_at(text, line):
+def declared_at(text: str, line: int) -> str | None:
     """The name of the declaration that a line of a proof file is part of, counted from 1, or None above the first."""
     for name, lines in declarations(text):
         if line <= len(lines):
@@ -107,14 +125,14 @@ def declared_at(text, line):
     return None
 
 
-def without(text, names):
+def without(text: str, names: Set[str | None]) -> str:
     """A proof file without the declarations of these names, or without any if what is above them is to go."""
     if None in names:
         return ""
     return "\n".join(line for name, lines in declarations(text) if name not in names for line in lines)
 
 
-def function_around(text, at):
+def function_around(text: str, at: int) -> tuple[str, int, str | None] | None:
     """The function in whose body a place of a source lies, as its name, its line and its recursion, or None.
 
     It is the nearest one above, if its body has begun and not ended: rt fmt puts the brace that opens the body of a
@@ -135,7 +153,7 @@ def function_around(text, at):
     return None
 
 
-def cycle_above(lines, number):
+def cycle_above(lines: list[str], number: int) -> str | None:
     """The recursion that an attribute above a function names."""
     while number > 0 and re.match(r"\s*(#\[|///|//)", lines[number - 1]):
         number -= 1
@@ -145,7 +163,7 @@ def cycle_above(lines, number):
     return None
 
 
-def read_edits(crate, folder, path):
+def read_edits(crate: str, folder: str, path: Path) -> Edit:
     """The edit that a file holds, once it has been seen to apply."""
     if not NAME.fullmatch(path.name) or not path.is_file():
         raise BadEdit("an edit is a file whose name is of letters, digits, _, - and . and ends in .edit")
@@ -154,13 +172,14 @@ def read_edits(crate, folder, path):
     except (OSError, UnicodeDecodeError) as fault:
         raise BadEdit(f"it can't be read ({fault})") from fault
 
-    def read(file):
+    def read(file: str) -> str:
         try:
             return Path(folder, file).read_text(encoding="utf-8")
         except OSError as fault:
             raise BadEdit(f"there is no file {file}") from fault
 
-    texts, names = {}, set()
+    texts: dict[str, str] = {}
+    names: set[str] = set()
     for file, old, new in edit.pairs:
         text = texts[file] if file in texts else read(file)
         if text.count(old) != 1:

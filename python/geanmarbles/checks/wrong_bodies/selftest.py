@@ -2,11 +2,14 @@
 just when something that the refusal rests on has changed."""
 
 import tempfile
+from collections.abc import Callable, Iterable, Iterator, Mapping, Sequence
 from pathlib import Path
 
-from edits import read_edits
-from record import Record, try_and_record
-from rounds import Verdict
+from geanmarbles.checks.wrong_bodies.checks import Toolchain
+from geanmarbles.checks.wrong_bodies.edits import Edit, read_edits
+from geanmarbles.checks.wrong_bodies.record import Record, try_and_record
+from geanmarbles.checks.wrong_bodies.rounds import Verdict
+from geanmarbles.repository.toolchain import Crate
 
 FILES = {
     "crates.txt": "numbers:\nsample: numbers\n",
@@ -84,19 +87,29 @@ returns-then-follows-clause-less c =
 }
 
 # The name of each edit, what must be said of it, the function that it changes, and what becomes what.
-EDITS = [
+EDITS: list[tuple[str, str, str, dict[str, str]]] = [
     # A goal of another name, which holds: its answer names one that isn't there.
-    ("renames_a_local", "NOT REFUSED", "is_digit", {"    let some =": "    let any =", "    some && n": "    any && n"}),
+    (
+        "renames_a_local",
+        "NOT REFUSED",
+        "is_digit",
+        {"    let some =": "    let any =", "    some && n": "    any && n"},
+    ),
     ("is_let_through", "NOT REFUSED", "is_digit", {"    some && n < 10": "    some && n < 11"}),
     # A goal that has become trivial: its answer is of what the goal was.
     ("gives_up", "NOT REFUSED", "before", {"follows { Some(n - 1) }": "follows { None }"}),
     ("is_no_less", "refused by before, clause less: not proved: ", "before", {"{ Some(n - 1) }": "{ Some(n) }"}),
-    ("counts_two", "refused by after: not proved: `returns`", "after", {"    u16::from(n) + 1": "    u16::from(n) + 2"}),
+    (
+        "counts_two",
+        "refused by after: not proved: `returns`",
+        "after",
+        {"    u16::from(n) + 1": "    u16::from(n) + 2"},
+    ),
     ("means_the_same", "NOT REFUSED", "third_after", {"    1 + last": "    last + 1"}),
 ]
 
 
-def text_of(function, changes):
+def text_of(function: str, changes: Mapping[str, str]) -> str:
     """The text of an edit of src/lib.rt."""
     lines = [f"function: {function}", "file: src/lib.rt"]
     for old, new in changes.items():
@@ -104,7 +117,7 @@ def text_of(function, changes):
     return "\n".join(lines) + "\n"
 
 
-def sample_in(toolchain, room):
+def sample_in(toolchain: Toolchain, room: str) -> Crate:
     """The small crate, written below a folder, and its edits."""
     for path, text in FILES.items():
         file = Path(room, path)
@@ -118,11 +131,11 @@ def sample_in(toolchain, room):
     return crate
 
 
-def read(crate, stems):
+def read(crate: Crate, stems: Iterable[str]) -> list[Edit]:
     return [read_edits(crate.name, crate.folder, Path(crate.folder, "wrong-bodies", f"{it}.edit")) for it in stems]
 
 
-def tried(toolchain, crate, edits, record):
+def tried(toolchain: Toolchain, crate: Crate, edits: Sequence[Edit], record: Record) -> list[Verdict]:
     """The verdicts on those edits that the record lacks."""
     untried = record.lacks(crate, edits)
     if not untried:
@@ -132,7 +145,7 @@ def tried(toolchain, crate, edits, record):
         return try_and_record(toolchain, crate, edits, untried, kept, record)
 
 
-def verdicts_are_right(toolchain, crate, record):
+def verdicts_are_right(toolchain: Toolchain, crate: Crate, record: Record) -> Iterator[Verdict]:
     """Whether each edit gets the verdict that it must get, and the record has those that are refused."""
     edits = read(crate, [it[0] for it in EDITS])
     wanted = {f"sample/{stem}": said for stem, said, _, _ in EDITS}
@@ -145,26 +158,27 @@ def verdicts_are_right(toolchain, crate, record):
     yield Verdict(lacking == unrefused, "self-test: record", "has what was refused")
 
 
-def changed(path, old, new):
+def changed(path: Path, old: str, new: str) -> None:
     text = path.read_text(encoding="utf-8")
     if text.count(old) != 1:
         raise ValueError(f"{path} has the text {old!r} {text.count(old)} times")
     path.write_text(text.replace(old, new), encoding="utf-8")
 
 
-def changes_are_noticed(toolchain, crate, path):
+def changes_are_noticed(toolchain: Toolchain, crate: Crate, path: Path) -> Iterator[Verdict]:
     """Whether a refusal that the record at a path has isn't tried again, and is once something that it rests on has
     changed: a body of the crate, a contract of the library below, the edit itself or the toolchain's logic. Neither a
     body below nor the rest of the kit is anything that it rests on."""
     folder, below = Path(crate.folder), Path(crate.below()[0].folder)
-    kit = [toolchain.identity]
-    changes = [
+    edit, kit = folder / "wrong-bodies/counts_two.edit", [toolchain.identity]
+    other_kit = b"another-kit" + kit[0][kit[0].index(b" logic ") :]
+    changes: list[tuple[bool, str, Callable[[], object]]] = [
         (False, "and isn't tried again", lambda: None),
         (True, "after a change of another body", lambda: changed(folder / "src/lib.rt", "1 + last", "last + 1")),
         (False, "after a change of a body below", lambda: changed(below / "src/lib.rt", "1 + u32", "0 + 1 + u32")),
         (True, "after a change of a contract below", lambda: changed(below / "src/lib.rt", "≡ n + 1", "≡ 1 + n")),
-        (True, "after a change of the edit", lambda: changed(folder / "wrong-bodies/counts_two.edit", "(n) + 2", "(n) + 3")),
-        (False, "after a change of the kit alone", lambda: kit.append(b"another-kit" + kit[-1][kit[-1].index(b" logic ") :])),
+        (True, "after a change of the edit", lambda: changed(edit, "(n) + 2", "(n) + 3")),
+        (False, "after a change of the kit alone", lambda: kit.append(other_kit)),
         (True, "after a change of the logic", lambda: kit.append(b"another-kit logic 0")),
     ]
     for again, what, change in changes:
@@ -177,7 +191,7 @@ def changes_are_noticed(toolchain, crate, path):
         yield Verdict(well, "self-test: a refusal is recorded", f"{what}{', tried again' if again else ''}")
 
 
-def self_test(toolchain):
+def self_test(toolchain: Toolchain) -> Iterator[Verdict]:
     """Whether the runner's verdicts and its record are the right ones."""
     with tempfile.TemporaryDirectory(prefix="wrong-bodies-sample-") as room:
         path = Path(room, "refused.txt")

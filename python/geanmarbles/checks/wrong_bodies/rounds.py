@@ -1,10 +1,13 @@
 """Rounds: which edits share a check, and what each check shows of them."""
 
 import re
+from collections.abc import Iterable, Sequence
 from pathlib import Path
 from typing import NamedTuple
 
-from checks import NoFunction, Rejected
+from geanmarbles.checks.wrong_bodies.checks import NoFunction, Rejected, Said, Toolchain
+from geanmarbles.checks.wrong_bodies.edits import Edit
+from geanmarbles.repository.toolchain import Crate
 
 # How often an edit is tried in company before it is tried alone, not counted what only sets answers aside.
 TRIES = 2
@@ -19,27 +22,27 @@ class Verdict(NamedTuple):
     label: str
     said: str
 
-    def __str__(self):
+    def __str__(self) -> str:
         return f"{'' if self.refused else 'FAILED: '}{self.label}: {self.said}"
 
 
 class Round:
     """Edits of a crate that can share one check, and the texts with all of them made."""
 
-    def __init__(self, crate):
+    def __init__(self, crate: Crate) -> None:
         self.crate = crate
-        self.edits = []
-        self.texts = {}
+        self.edits: list[Edit] = []
+        self.texts: dict[str, str] = {}
 
-    def read(self, file):
+    def read(self, file: str) -> str:
         return Path(self.crate.folder, file).read_text(encoding="utf-8")
 
     @staticmethod
-    def collide(one, other):
+    def collide(one: Edit, other: Edit) -> bool:
         in_one_recursion = one.cycle is not None and one.cycle == other.cycle
         return one.function == other.function or in_one_recursion or not one.bodies.isdisjoint(other.bodies)
 
-    def takes(self, edit):
+    def takes(self, edit: Edit) -> bool:
         """Adds an edit, if it changes a function, bodies and a recursion of its own and its texts are still there."""
         if any(self.collide(it, edit) for it in self.edits):
             return False
@@ -51,14 +54,14 @@ class Round:
         return True
 
 
-def round_of(crate, edits):
+def round_of(crate: Crate, edits: Iterable[Edit]) -> Round:
     made = Round(crate)
     for edit in edits:
         made.takes(edit)
     return made
 
 
-def try_round(toolchain, made, kept):
+def try_round(toolchain: Toolchain, made: Round, kept: str) -> list[tuple[Edit, Said | Rejected]]:
     """What a check of a round says of its edits, as pairs of an edit and what was said, halved if it can't be read."""
     try:
         said = toolchain.check(made.crate, made.texts, [it.function for it in made.edits], kept)
@@ -67,7 +70,9 @@ def try_round(toolchain, made, kept):
         named = [it for it in made.edits if isinstance(fault, NoFunction) and it.function == str(fault)]
         if named:
             others = round_of(made.crate, [it for it in made.edits if it not in named])
-            found = [(it, Rejected(f"the crate has no function {fault}")) for it in named]
+            found: list[tuple[Edit, Said | Rejected]] = [
+                (it, Rejected(f"the crate has no function {fault}")) for it in named
+            ]
             return found + (try_round(toolchain, others, kept) if others.edits else [])
         if len(made.edits) == 1:
             return [(made.edits[0], fault)]
@@ -76,17 +81,17 @@ def try_round(toolchain, made, kept):
         return [pair for it in halves for pair in try_round(toolchain, it, kept)]
 
 
-def refusal(edit, goals):
+def refusal(edit: Edit, goals: Sequence[str]) -> str:
     """What is said of an edit that goals refuse: with the names of the clauses that they are of, if there are any,
     and with what was said of the first answer that was set aside."""
     clauses = sorted({it for goal in goals for it in CLAUSE.findall(goal)})
     by = f"{edit.function}, clause{'s' * (len(clauses) > 1)} {', '.join(clauses)}" if clauses else edit.function
     named = ", ".join(f"`{it}`" for it in goals)
-    aside = f"; the answer that was set aside: {edit.misfit[:160]}" if edit.aside else ""
+    aside = f"; the answer that was set aside: {edit.misfit[:160]}" if edit.misfit else ""
     return f"refused by {by}: not proved: {named}{aside}"
 
 
-def judged(edit, said):
+def judged(edit: Edit, said: Said | Rejected) -> Verdict | None:
     """An edit's verdict by what a check said, or None if that doesn't show one.
 
     An edit is refused by the goals that the prover tried by itself and did not prove. An answer that fails shows
@@ -101,12 +106,14 @@ def judged(edit, said):
     return Verdict(True, edit.label, refusal(edit, goals)) if goals else None
 
 
-def not_shown(edit, said):
+def not_shown(edit: Edit, said: Said) -> Verdict:
     why = "; ".join(" ".join(it.said.split())[:200] for it in said.faults(edit)) or said.verdict(edit)
-    return Verdict(False, edit.label, f"NOT SHOWN: {edit.function} is not proved, but by no goal of its contract: {why}")
+    return Verdict(
+        False, edit.label, f"NOT SHOWN: {edit.function} is not proved, but by no goal of its contract: {why}"
+    )
 
 
-def try_edits(toolchain, crate, edits, kept):
+def try_edits(toolchain: Toolchain, crate: Crate, edits: Sequence[Edit], kept: str) -> list[Verdict]:
     """Tries a crate's edits, in as few rounds as show them all. The answers of an edit's function that fail are set
     aside for the next round, where the prover tries their goals by itself."""
     verdicts, tries = [], {it.label: 0 for it in edits}
@@ -117,7 +124,11 @@ def try_edits(toolchain, crate, edits, kept):
         for edit, said in try_round(toolchain, made, kept):
             (left if edit in left else alone).remove(edit)
             verdict = judged(edit, said)
-            if verdict is None and not edit.set_aside(said.faults(edit), made.texts, made.read):
+            if (
+                verdict is None
+                and isinstance(said, Said)
+                and not edit.set_aside(said.faults(edit), made.texts, made.read)
+            ):
                 tries[edit.label] += 1
                 verdict = not_shown(edit, said) if len(made.edits) == 1 else None
             if verdict:

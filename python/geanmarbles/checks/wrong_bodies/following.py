@@ -3,6 +3,7 @@
 import re
 import threading
 import time
+from pathlib import Path
 
 # A crate is kept if an earlier run on this machine proved the same files.
 PROVED = re.compile(r"^rt: (\w+) (proved|is kept|NOT PROVED)\b", re.M)
@@ -13,11 +14,11 @@ ENDED = re.compile(r"^rt ci has ended$", re.M)
 class Log:
     """The output of `rt ci` in a file, to which it may still be writing."""
 
-    def __init__(self, path):
+    def __init__(self, path: Path) -> None:
         self.path = path
         self.lock = threading.Lock()
 
-    def state(self):
+    def state(self) -> tuple[dict[str, bool], bool]:
         """Whether each crate that is spoken of was proved, and whether the run has ended."""
         with self.lock:
             try:
@@ -26,7 +27,7 @@ class Log:
                 text = ""
         return {name: word != "NOT PROVED" for name, word in PROVED.findall(text)}, bool(ENDED.search(text))
 
-    def wait_for(self, names):
+    def wait_for(self, names: list[str]) -> str | None:
         """Waits until all these crates are proved. The result names the first that failed, or is None."""
         while True:
             proved, ended = self.state()

@@ -10,6 +10,7 @@ functions."""
 import functools
 import hashlib
 import re
+from collections.abc import Iterable, Iterator
 from pathlib import Path
 
 from geanmarbles.repository.crates import SOURCES
@@ -35,18 +36,21 @@ CLAUSES = {"ghost", "requires", "ensures"}
 CLOSED_BY = {"{": "}", "(": ")", "[": "]"}
 
 
-def tokens_of(text):
+def tokens_of(text: str) -> list[tuple[str, int]]:
     """The words and signs of a source, each as its text and its place; texts and comments are left out."""
-    at, found = 0, []
+    at = 0
+    found: list[tuple[str, int]] = []
     while at < len(text):
         token = TOKEN.match(text, at)
+        # (any character is a sign)
+        assert token is not None
         if token["word"] or token["sign"]:
             found.append((token[0], at))
         at = end_of_comment(text, at) if token["comment"] else token.end()
     return found
 
 
-def end_of_comment(text, at):
+def end_of_comment(text: str, at: int) -> int:
     """The end of a comment between `/*` and `*/`, in which others may lie."""
     depth = 0
     for mark in re.compile(r"/\*|\*/").finditer(text, at):
@@ -59,19 +63,19 @@ def end_of_comment(text, at):
 class Outline:
     """A source without the bodies that no crate above can see."""
 
-    def __init__(self, text):
+    def __init__(self, text: str) -> None:
         self.text = text
         self.tokens = tokens_of(text)
         # The places of what is cut, from the first sign within a body's braces to the brace that closes it.
-        self.cuts = []
+        self.cuts: list[tuple[int, int]] = []
         at = 0
         while at < len(self.tokens):
             at = self.past_item(at)
 
-    def word(self, at):
+    def word(self, at: int) -> str:
         return self.tokens[at][0] if at < len(self.tokens) else ""
 
-    def closed(self, at):
+    def closed(self, at: int) -> int:
         """Past the bracket that closes the one at a place."""
         opens, depth = self.word(at), 0
         while at < len(self.tokens):
@@ -82,7 +86,7 @@ class Outline:
                 break
         return at
 
-    def opening(self, at):
+    def opening(self, at: int) -> int:
         """The next `{` or `;` that lies in no other bracket and in no clause: a body begins there, or what has none
         ends."""
         in_clause = False
@@ -94,7 +98,7 @@ class Outline:
             at = self.closed(at) if word in CLOSED_BY else at + 1
         return at
 
-    def past_item(self, at):
+    def past_item(self, at: int) -> int:
         """Past a function or what else keeps its bodies, or one word."""
         word = self.word(at)
         is_function = word == "fn" and re.match(r"\w", self.word(at + 1)) is not None
@@ -108,8 +112,9 @@ class Outline:
             self.cuts.append((self.tokens[opens][1] + 1, self.tokens[ends - 1][1]))
         return ends
 
-    def __str__(self):
-        kept, at = [], 0
+    def __str__(self) -> str:
+        at = 0
+        kept: list[str] = []
         for begins, ends in self.cuts:
             kept.append(self.text[at:begins])
             at = ends
@@ -117,32 +122,38 @@ class Outline:
 
 
 @functools.cache
-def outline_of(text):
+def outline_of(text: str) -> str:
     """A source's outline. Each crate above asks for it, so it's kept."""
     return str(Outline(text))
 
 
-def without_layout(text, suffix):
-    """A source or proof without what `rt fmt` may change: white space outside texts, the last comma of arguments, and in
-    specs and proofs the last semicolon of a record."""
+def without_layout(text: str, suffix: str) -> str:
+    """A source or proof without what `rt fmt` may change: white space outside texts, the last comma of arguments, and
+    in specs and proofs the last semicolon of a record."""
     last = r",(?=[)])" if suffix == ".rt" else r",(?=[)])|;(?=})"
     return re.sub(last, "", SPACE.sub(lambda found: found[1] or "", text))
 
 
-def sum_of_sources(folder):
+def files_of(folder: str) -> Iterator[tuple[Path, str]]:
+    """A crate's sources, specs and proofs, with their texts."""
+    for path in sorted(it for part in SOURCES for it in Path(folder, part).rglob("*") if it.is_file()):
+        yield path, path.read_text(encoding="utf-8")
+
+
+def sum_of_texts(folder: str, texts: Iterable[tuple[Path, str]]) -> str:
+    """A sum of texts of files below a folder, their layout aside."""
+    found = hashlib.sha256()
+    for path, text in texts:
+        found.update(f"{path.relative_to(folder)}\0{without_layout(text, path.suffix)}\0".encode())
+    return found.hexdigest()
+
+
+def sum_of_sources(folder: str) -> str:
     """A sum of a crate's sources, specs and proofs, their layout aside."""
-    found = hashlib.sha256()
-    for path in sorted(it for part in SOURCES for it in Path(folder, part).rglob("*") if it.is_file()):
-        found.update(f"{path.relative_to(folder)}\0{without_layout(path.read_text(encoding='utf-8'), path.suffix)}\0".encode())
-    return found.hexdigest()
+    return sum_of_texts(folder, files_of(folder))
 
 
-def sum_of_exports(folder):
+def sum_of_exports(folder: str) -> str:
     """A sum of what a library in a folder gives to the crates that stand on it, layout aside."""
-    found = hashlib.sha256()
-    for path in sorted(it for part in SOURCES for it in Path(folder, part).rglob("*") if it.is_file()):
-        if path.name not in OF_FUNCTIONS:
-            text = path.read_text(encoding="utf-8")
-            given = outline_of(text) if path.suffix == ".rt" else text
-            found.update(f"{path.relative_to(folder)}\0{without_layout(given, path.suffix)}\0".encode())
-    return found.hexdigest()
+    given = ((path, text) for path, text in files_of(folder) if path.name not in OF_FUNCTIONS)
+    return sum_of_texts(folder, ((path, outline_of(text) if path.suffix == ".rt" else text) for path, text in given))

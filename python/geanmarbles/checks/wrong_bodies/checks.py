@@ -5,10 +5,12 @@ import re
 import shutil
 import subprocess
 import tempfile
-from typing import NamedTuple
+from collections.abc import Iterable, Mapping, Sequence
+from pathlib import Path
 
-from repository import locked
-from toolchain import ToolchainFault, load
+from geanmarbles.checks.wrong_bodies.edits import Edit, Fault
+from geanmarbles.repository.crates import locked
+from geanmarbles.repository.toolchain import Crate, ToolchainFault, load
 
 # A function's verdict, as `fn hook_changes::kept::Text::new: not proved`.
 VERDICT = re.compile(r"^fn ([\w:+]+): (.*)$", re.M)
@@ -29,34 +31,26 @@ class NoFunction(Rejected):
     """The crate has no function of the name that an edit says it changes."""
 
 
-class Fault(NamedTuple):
-    """An error in a function's proof: the file, the line, counted from 1, and what was said."""
-
-    file: str
-    line: int
-    said: str
-
-
 class Said:
     """What a check reported: the verdict on each function, and the errors in what is written of its proof."""
 
-    def __init__(self, text):
-        self.verdicts = dict(VERDICT.findall(text))
-        self.errors = {}
+    def __init__(self, text: str) -> None:
+        self.verdicts: dict[str, str] = dict(VERDICT.findall(text))
+        self.errors: dict[str, list[Fault]] = {}
         for file, folder, line, error in ERROR.findall(text):
             self.errors.setdefault(folder.replace("/", "::"), []).append(Fault(file, int(line), error))
 
-    def verdict(self, edit):
+    def verdict(self, edit: Edit) -> str | None:
         return self.verdicts.get(f"{edit.crate}::{edit.function}")
 
-    def goals(self, edit):
+    def goals(self, edit: Edit) -> list[str]:
         """The names of the changed function's goals that `search` tried and did not prove.
 
         A goal that is answered isn't among them: where the answer fails, that tells nothing of the goal."""
         unproved = UNPROVED.match(self.verdict(edit) or "")
         return re.findall("`([^`]*)`", unproved[1]) if unproved else []
 
-    def faults(self, edit):
+    def faults(self, edit: Edit) -> list[Fault]:
         """The errors in the changed function's proof; of a recursion, which has one proof, those of all of it."""
         if edit.cycle is not None:
             return [it for folder, of in self.errors.items() if folder.endswith(f"+{edit.cycle}") for it in of]
@@ -66,27 +60,27 @@ class Said:
 class Toolchain:
     """The prover, called as `rt must-fail` calls it."""
 
-    def __init__(self):
+    def __init__(self) -> None:
         self.rtlib = load().rtlib
         self.guard = self.rtlib.guarded()
         with open(os.path.join(self.rtlib.KIT, "KIT-ID"), "rb") as file:
-            self.identity = file.read()
+            self.identity: bytes = file.read()
         # How many checks each crate had, and their seconds of a processor.
-        self.spent = {}
+        self.spent: dict[str, tuple[int, float]] = {}
 
-    def crates(self, root):
+    def crates(self, root: str | Path) -> list[Crate]:
         """The repository's crates, those below before those above."""
         return sorted(self.rtlib.crates_below(str(root)), key=lambda it: len(it.below()))
 
-    def build_below(self, crate):
+    def build_below(self, crate: Crate) -> None:
         """Builds the libraries below a crate if they have changed, one at a time: other crates stand on them too."""
         for library in crate.below():
-            with locked(library.folder), tempfile.TemporaryFile("w+", errors="replace") as library.out:
+            with locked(Path(library.folder)), tempfile.TemporaryFile("w+", errors="replace") as library.out:
                 if library.build_rlib(["--jobs", "1"], anew=False):
                     library.out.seek(0)
                     raise ToolchainFault(f"its library {library.name} isn't proved:\n{library.out.read()}")
 
-    def check(self, crate, texts, functions, kept):
+    def check(self, crate: Crate, texts: Mapping[str, str], functions: Iterable[str], kept: str) -> Said:
         """Checks these functions of a copy of the crate, with these texts in place of its own, over what kept holds."""
         with tempfile.TemporaryDirectory(prefix="wrong-body-") as room:
             for part in self.rtlib.PARTS:
@@ -106,10 +100,17 @@ class Toolchain:
             raise NoFunction(missing[1]) if missing else Rejected(first_error(said))
         return Said(said)
 
-    def run(self, name, words, folder):
+    def run(self, name: str, words: Sequence[str], folder: str) -> str:
         """What the prover says, on either stream; its seconds are counted to the crate's."""
-        how = {"stdin": subprocess.DEVNULL, "stdout": subprocess.PIPE, "stderr": subprocess.STDOUT}
-        child = subprocess.Popen([*self.guard, self.rtlib.RATTLE, *words], cwd=folder, errors="replace", **how)
+        child = subprocess.Popen(
+            [*self.guard, self.rtlib.RATTLE, *words],
+            cwd=folder,
+            errors="replace",
+            stdin=subprocess.DEVNULL,
+            stdout=subprocess.PIPE,
+            stderr=subprocess.STDOUT,
+        )
+        assert child.stdout is not None
         with child.stdout:
             said = child.stdout.read()
         _, status, usage = os.wait4(child.pid, 0)
@@ -119,6 +120,6 @@ class Toolchain:
         return said
 
 
-def first_error(text):
+def first_error(text: str) -> str:
     lines = [it for it in text.split("\n") if re.search(r"\berror[:\[]", it)] or text.strip().split("\n")[-1:]
     return lines[0][:200]

@@ -1,0 +1,136 @@
+"""How wrong bodies are read and judged, and what the sums in their record are made of, without the prover."""
+
+import tempfile
+from pathlib import Path
+
+from geanmarbles.checks.units.test_etcd import raised
+from geanmarbles.checks.wrong_bodies.checks import Rejected, Said
+from geanmarbles.checks.wrong_bodies.edits import BadEdit, Edit, declared_at, function_around, read_edits, without
+from geanmarbles.checks.wrong_bodies.exports import outline_of, sum_of_exports, sum_of_sources
+from geanmarbles.checks.wrong_bodies.record import HERE, JUDGES, Record, logic_of
+from geanmarbles.checks.wrong_bodies.rounds import Verdict, judged
+
+SOURCE = """\
+/// The number after another.
+pub fn after(n: u16) -> u32
+    ensures { result ≡ n + 1 }
+{
+    1 + u32::from(n) // "}"
+}
+
+pub const fn two() -> u32 {
+    2
+}
+
+trait Twice {
+    fn twice(&self) -> u32 {
+        2
+    }
+}
+"""
+ANSWERS = """\
+use Rattle.sample.proofs.after.Goals as goal
+
+pub returns : goal.returns
+returns c = search
+
+pub start : goal.start
+start c = search
+"""
+# What a check says of three functions.
+SAYS = """\
+fn sample::after: no proof: expected answers in proofs/after; `search` did not prove `returns`, `returns-clause-less`
+fn sample::before: proved
+fn sample::other: no proof: it calls `after`
+./proofs/other/Answers.antt:4:1: error: names `gone`
+  that isn't there
+logic=proved functions=3
+"""
+
+
+def edit_of(function: str) -> Edit:
+    return Edit("sample", "an_edit", function, [("src/lib.rt", "1 +", "2 +")])
+
+
+def made(folder: str, **texts: str) -> str:
+    """A crate's folder, with these sources of functions' proofs and its own."""
+    for name, text in texts.items():
+        path = Path(folder, *name.split("__")).with_suffix(".antt" if name.startswith("proofs") else ".rt")
+        path.parent.mkdir(parents=True, exist_ok=True)
+        path.write_text(text, encoding="utf-8")
+    return folder
+
+
+def test_an_outline_has_no_bodies_but_those_that_can_be_seen() -> None:
+    outline = outline_of(SOURCE)
+    assert "u32::from" not in outline and "ensures { result ≡ n + 1 }" in outline
+    assert outline.count("        2\n") == 1 and "two() -> u32 {\n    2\n}" in outline
+
+
+def test_sums_change_with_what_is_read() -> None:
+    """Neither layout nor, above a library, its bodies and the proofs of its functions change a sum; a contract does."""
+    sums = []
+    for source, answers in (
+        (SOURCE, ANSWERS),
+        (SOURCE.replace("    1 +", "        1 +"), ANSWERS),
+        (SOURCE.replace("1 +", "2 +"), ANSWERS),
+        (SOURCE, ANSWERS.replace("search", "rules")),
+        (SOURCE.replace("n + 1", "n + 2"), ANSWERS),
+    ):
+        with tempfile.TemporaryDirectory() as folder:
+            made(folder, src__lib=source, proofs__after__Answers=answers)
+            sums.append((sum_of_sources(folder), sum_of_exports(folder)))
+    own, given = zip(*sums)
+    assert own[0] == own[1] and len(set(own)) == 4
+    assert given[0] == given[1] == given[2] == given[3] != given[4]
+
+
+def test_a_place_is_in_the_body_that_is_around_it() -> None:
+    assert function_around(SOURCE, SOURCE.index("1 + u32")) == ("after", 1, None)
+    assert function_around(SOURCE, SOURCE.index("n + 1")) is None
+    assert function_around(SOURCE, SOURCE.index("trait")) is None
+    cycle = "#[cycle(walk)]\n" + SOURCE.partition("\n")[2]
+    assert function_around(cycle, cycle.index("1 + u32")) == ("after", 1, "walk")
+
+
+def test_an_answer_is_set_aside_with_all_its_lines() -> None:
+    assert [declared_at(ANSWERS, it) for it in (1, 3, 4, 6)] == [None, "returns", "returns", "start"]
+    assert "goal.returns" not in without(ANSWERS, {"returns"}) and "goal.start" in without(ANSWERS, {"returns"})
+    assert without(ANSWERS, {None, "returns"}) == ""
+
+
+def test_an_edit_is_refused_by_goals_of_its_own_function_alone() -> None:
+    said = Said(SAYS)
+    refused = judged(edit_of("after"), said)
+    by = "refused by after, clause less: not proved: `returns`, `returns-clause-less`"
+    assert refused == Verdict(True, "sample/an_edit", by)
+    proved = judged(edit_of("before"), said)
+    assert proved is not None and not proved.refused and proved.said.startswith("NOT REFUSED")
+    # A function that isn't proved for what it calls, or for an answer that fails, shows nothing.
+    assert judged(edit_of("other"), said) is None
+    assert [it.line for it in said.faults(edit_of("other"))] == [4]
+    for bad in (judged(edit_of("nowhere"), said), judged(edit_of("after"), Rejected("it doesn't compile"))):
+        assert bad is not None and not bad.refused and bad.said.startswith("BAD EDIT")
+
+
+def test_an_edit_has_to_apply() -> None:
+    head = "function: after\nfile: src/lib.rt\n"
+    with tempfile.TemporaryDirectory() as folder:
+        made(folder, src__lib=SOURCE)
+        path = Path(folder, "it.edit")
+        path.write_text(f"{head}old: 1 + u32\nnew: 2 + u32\n", encoding="utf-8")
+        edit = read_edits("sample", folder, path)
+        assert (edit.label, edit.in_bodies, edit.bodies) == ("sample/it", True, {("src/lib.rt", 1)})
+        path.write_text(f"{head}old: n + 1\nnew: n + 2\n", encoding="utf-8")
+        assert not read_edits("sample", folder, path).in_bodies
+        for text in ("", head, f"{head}old: 2\nnew: 3\n", f"{head}old: nowhere\nnew: 3\n", f"{head}new: 3\n"):
+            path.write_text(text, encoding="utf-8")
+            raised(BadEdit, lambda: read_edits("sample", folder, path))
+
+
+def test_a_sum_has_the_logic_and_what_judges() -> None:
+    """Two kits of one logic share a record; of another logic, or judged otherwise, no refusal is known."""
+    assert logic_of(b"rattle-kit-1 logic abc\n") == logic_of(b"rattle-kit-2 logic abc") == b"abc"
+    with tempfile.TemporaryDirectory() as folder:
+        one, other = (Record(Path(folder, "refused.txt"), it) for it in (b"kit logic abc", b"kit logic abd"))
+    assert one.tools[1] == [(HERE / it).read_bytes() for it in JUDGES] and one.tools != other.tools

@@ -1,0 +1,1 @@
+"""The wrong bodies of the crates, each of which the prover must refuse."""
