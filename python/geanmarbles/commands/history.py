@@ -22,7 +22,7 @@ from typing import Any
 from geanmarbles.arguments import Parser
 from geanmarbles.client.program import add_program_option
 from geanmarbles.output import quiet_output
-from geanmarbles.supervisor.kept import NotKept, end_with, touched
+from geanmarbles.supervisor.kept import NotKept, touched
 from geanmarbles.supervisor.served import history_of
 
 FIELDS = ("kind", "status", "date", "title")
@@ -60,7 +60,7 @@ def main() -> int:
     try:
         found = versions(history_of(arguments.program, arguments.site, arguments.token_file), arguments.number)
     except (NotKept, OSError, ValueError) as fault:
-        end_with("history", fault)
+        sys.exit(f"history: {fault}")
     if not found:
         sys.exit(f"history: {arguments.site} has had no post or page with the ID {arguments.number}")
     content = ""

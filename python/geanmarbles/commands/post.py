@@ -34,7 +34,7 @@ from geanmarbles.archive.store import NotRead, Post, Store, line_of, read_store
 from geanmarbles.arguments import Parser
 from geanmarbles.client.program import add_program_option, check_program
 from geanmarbles.output import quiet_output
-from geanmarbles.supervisor.kept import NotKept, carried_out, check_site, end_with
+from geanmarbles.supervisor.kept import NotKept, carried_out, check_site
 from geanmarbles.supervisor.served import edited, history_at, is_address, token_in
 
 # How a file of lines begins; a site in a file has no such byte there.
@@ -155,6 +155,6 @@ def main() -> int:
     try:
         said = done(arguments)
     except (NotKept, NotRead, OSError, ValueError) as fault:
-        end_with("post", fault)
+        sys.exit(f"post: {fault}")
     sys.stdout.write(said)
     return 0

@@ -14,12 +14,13 @@ The exit status is 0, 1 if a file can't be read or written, and 2 if the argumen
 """
 
 import argparse
+import sys
 from pathlib import Path
 
 from geanmarbles.arguments import Parser
 from geanmarbles.client.program import add_program_option, check_program
 from geanmarbles.output import quiet_output
-from geanmarbles.supervisor.kept import NotKept, carried_out, end_with
+from geanmarbles.supervisor.kept import NotKept, carried_out
 from geanmarbles.supervisor.served import history_of
 
 SHOWN = 120
@@ -58,7 +59,7 @@ def main() -> int:
     try:
         left = undone(arguments)
     except (NotKept, OSError, ValueError) as fault:
-        end_with("undo", fault)
+        sys.exit(f"undo: {fault}")
     for line in left:
         shown = line.decode()
         print(shown if len(shown) <= SHOWN else f"{shown[:SHOWN]} .. ({len(line):,} bytes)")

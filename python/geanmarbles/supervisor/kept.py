@@ -6,11 +6,10 @@ import json
 import shutil
 import sqlite3
 import subprocess
-import sys
 import tempfile
 from collections.abc import Iterator
 from pathlib import Path
-from typing import Any, NoReturn
+from typing import Any
 
 from geanmarbles.client.program import Ended, NoReply, Program
 
@@ -71,9 +70,3 @@ def touched(line: bytes) -> Iterator[tuple[int, dict[str, Any]]]:
         yield from ((it["id"], {"cmd": "import", **it}) for it in command["site"].get("posts", []))
     elif command["cmd"] == "put":
         yield 0, command
-
-
-def end_with(name: str, fault: Exception) -> NoReturn:
-    """Ends a script with a reason."""
-    is_served = "the file is in use" in str(fault)
-    sys.exit(f"{name}: {fault}{'; a site that is served is read and edited through what serves it' * is_served}")

@@ -210,7 +210,10 @@ def check_browsed(program: Path) -> None:
             must(kept.run("post", *site, "get", "1") == post, "through browse the post is another")
             must(kept.run("history", *site, "1") == versions, "through browse there are other versions")
             said = kept.post("list", status=1)
-            must("in use; a site that is served is read and edited through" in said, f"of the file it says {said!r}")
+            must(
+                "in use: end the program that has it, or edit the site through that one" in said,
+                f"of the file it says {said!r}",
+            )
             edited = kept.file("title: Corn\n\ny\n")
             must(kept.run("post", *site, "set", "1", edited) == "", "an edit says something")
             must(b"<h2>Corn</h2>y" in browse.ask("/?p=1").body, "the page isn't the one after the edit")
