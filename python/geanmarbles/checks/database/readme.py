@@ -50,7 +50,7 @@ def tried(program: str) -> None:
         try:
             for command, shows in shown_commands():
                 # Nobody types so fast that a killed program still has its file.
-                waits = "; wait $! 2>/dev/null" if command.startswith("kill") else ""
+                waits = "; wait $! 2>/dev/null" if "kill -9" in command else ""
                 typed.write(f"{command}{waits}\n".encode())
                 typed.flush()
                 shown += shows
