@@ -15,9 +15,11 @@ pub record Shape : Type 0 where
   pub load : List Change
   pub callbacks : List ℕ
 
+-- a plugin as contracts see it: its name, its load list and its callbacks' numbers
 abbrev pub shape_of : {S : Type 0} → (S → ℕ) → Plugin S → Shape
 shape_of number plugin = record { name = plugin.name; load = plugin.load; callbacks = map number plugin.callbacks }
 
+-- the same for all plugins
 abbrev pub shapes_of : {S : Type 0} → (S → ℕ) → Plugins S → List Shape
 shapes_of number plugins = map (shape_of number) plugins.list
 
@@ -33,6 +35,7 @@ comes_before s t = is_lt (slice_cmp nat_cmp s.name t.name)
 abbrev pub by_name : List Shape → List Shape
 by_name shapes = in_order comes_before shapes
 
+-- whether a plugin has a callback
 abbrev pub has_callback : ℕ → Shape → Bool
 has_callback callback shape = list_any (λ c. c == callback) shape.callbacks
 

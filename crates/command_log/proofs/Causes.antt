@@ -65,6 +65,7 @@ caused_longer first old new last P Q own low high limit fault.NotText h = own fa
 caused_longer first old new last P Q own low high limit fault.Store h = own fault.Store h
 caused_longer first old new last P Q own low high limit (fault.Altered n) h = own (fault.Altered n) h
 caused_longer first old new last P Q own low high limit (fault.DamagedTail m n) h = own (fault.DamagedTail m n) h
+caused_longer first old new last P Q own low high limit fault.OlderLog h = own fault.OlderLog h
 
 -- a commit
 pub commit_fault : (old new : State) → IsTrue old.is_open → (P : Own) (e : Error) → old.in_transaction ≡ true → FailsToCommit old new e

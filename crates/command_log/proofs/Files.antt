@@ -1,5 +1,5 @@
 -- What an open of files finds: the rows ascend, and the lines are those of the database that the files held.
-use Rattle.std.proofs.Common.{◌≡◌, ◌⊎◌, inl, inr, true, ℕ, List, sym, ap, ap₂, subst, ◌∙◌, lit≤}
+use Rattle.std.proofs.Common.{◌≡◌, ◌⊎◌, inl, inr, true, ℕ, List, sym, ap, ap₂, subst, ◌∙◌, lit≤, length}
 use Rattle.std.proofs.Math.Logic.{∥∥₁_elim}
 use Rattle.std.specs.Prelude.{IsTrue, Bool, not, ◌&&◌, refl}
 use Rattle.sqlite_disk.specs.declared.Disk.{Ghosts}
@@ -23,7 +23,7 @@ use Rattle.sqlite.specs.Held.{Held, state}
 use Rattle.sqlite.specs.Files.{over_files, file_state, image_of, Finds, IsOpened, AreFoundIn}
 use Rattle.sqlite.specs.WalReads.{AreClean, IsClean, OnlyReads}
 use Rattle.log_tails.specs.declared.tail.Tail.{Tail}
-use Rattle.log_tails.specs.Tails.{IsTailOf}
+use Rattle.log_tails.specs.Tails.{IsTailOf, Outgrows}
 use Rattle.sqlite_disk.specs.declared.Files.{Files}
 use Rattle.sqlite.specs.Start.{FindsIn}
 use Rattle.command_log.specs.Table.{IsOther, log_schema}
@@ -32,7 +32,7 @@ use Rattle.sqlite.specs.State.{HasCleanDisk, Survives}
 use Rattle.sqlite_store.specs.Laws.{shut_if_dirty_at}
 use Rattle.command_log.specs.Lines.{IsRising, IsOrderly, HoldsLines, IsOpen, IsIdle, lines_of}
 use Rattle.command_log.proofs.States.{ShutsIfDirty, clean_of}
-use Rattle.command_log.specs.Found.{FindsLines, ReadsLines, RefusesOther, IsCutShort, EndsWhole}
+use Rattle.command_log.specs.Found.{FindsLines, ReadsLines, RefusesOther, IsCutShort, EndsWhole, CoversFile}
 use Rattle.sqlite.specs.declared.error.Error.{Error}
 use Rattle.sqlite.specs.declared.error.Error.TheVariants.{SqliteFailure, SqlInputError, InvalidParameterCount, ExecuteReturnedResults, InvalidQuery}
 use Rattle.sqlite.specs.declared.error.Error.TheVariants.{MultipleStatement, QueryReturnedNoRows, InvalidColumnIndex, InvalidColumnType}
@@ -41,7 +41,7 @@ use Rattle.sqlite.specs.declared.error.ErrorCode.TheVariants as code
 use Rattle.sqlite.specs.Opening.{is_open_error}
 use Rattle.command_log.specs.declared.fault.LogFault.{LogFault}
 use Rattle.command_log.specs.declared.fault.LogFault.TheVariants.{NotALog, OutOfMemory, Busy, CannotOpen, Damaged, DiskFull, Disk, TooBig, NumbersUsedUp}
-use Rattle.command_log.specs.declared.fault.LogFault.TheVariants.{Shut, NotText, Altered, DamagedTail, Interrupted, Store}
+use Rattle.command_log.specs.declared.fault.LogFault.TheVariants.{Shut, NotText, Altered, DamagedTail, OlderLog, Interrupted, Store}
 use Rattle.command_log.specs.Faults.{fault_of, IsPlain}
 
 module _ (size : ℕ) (wanted : List Wanted) (pages : PageMap) (ours : IsOurs size true wanted pages) (sound : IsSound log_schema (file_trees size wanted pages))
@@ -188,6 +188,8 @@ refuses_over {D} {g} c image found f other none = (c, other (fault_in none), fou
 pub not_cut : {D : Type 0} (g : Ghosts D) (image : Image) (f : LogFault) → (f ≡ NotALog) ⊎ IsPlain f → IsCutShort {D = D} {g = g} image (Err f)
 not_cut g image (DamagedTail commits following) (inl other) = absurd (let e = other in cc)
 not_cut g image (DamagedTail commits following) (inr plain) = absurd plain
+not_cut g image OlderLog (inl other) = absurd (let e = other in cc)
+not_cut g image OlderLog (inr plain) = absurd plain
 not_cut g image NotALog h = tt
 not_cut g image OutOfMemory h = tt
 not_cut g image Busy h = tt
@@ -220,11 +222,25 @@ ends_whole g image files tail is no_damage clean = record {
     then_true true h = refl
     then_true false h = absurd (true≢false h)
 
--- what an open of files finds, said of what they held before a look at the log
-pub finds_in : {D : Type 0} {g : Ghosts D} (c : Held (FileStore D g)) (before after : Files D) → OnlyReads g before.log after.log → after.db ≡ before.db
+-- and of the length of the database file
+pub covers_file : {D : Type 0} (g : Ghosts D) (image : Image) (files : Files D) (tail : Tail) (longer : Bool) → (IsClean g files.log → IsTailOf image.log tail)
+    → (IsClean g files.db → (IsTrue longer → Outgrows (length image.db) tail) × (Outgrows (length image.db) tail → IsTrue longer))
+    → longer ≡ false → AreClean g files.log files.db → CoversFile image
+covers_file g image files tail longer is tells shorter clean = record {
+  tail = tail;
+  is = is (both (g.is_clean files.log) (g.is_clean files.db) clean).0;
+  covers = λ outgrown. true≢false (sym ((tells (both (g.is_clean files.log) (g.is_clean files.db) clean).1).1 outgrown) ∙ shorter);
+}
+  where
+    both : (a b : Bool) → IsTrue (a && b) → IsTrue a × IsTrue b
+    both true b h = (refl, h)
+    both false b h = absurd (true≢false (sym h))
+
+-- what an open of files finds, said of what they held before a look at them
+pub finds_in : {D : Type 0} {g : Ghosts D} (c : Held (FileStore D g)) (before after : Files D) → OnlyReads g before.log after.log → OnlyReads g before.db after.db
     → Finds after c → FindsIn (image_of g before) (file_state c)
 finds_in {D} {g} c before after log db finds =
-    subst (λ i. FindsIn i (file_state c)) (ap₂ images log.seen (ap g.seen db)) (record { holds = finds.holds; reads = finds.reads })
+    subst (λ i. FindsIn i (file_state c)) (ap₂ images log.seen db.seen) (record { holds = finds.holds; reads = finds.reads })
   where
     images : List ℕ → List ℕ → Image
     images l d = record { log = l; db = d }

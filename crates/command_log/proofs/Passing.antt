@@ -35,6 +35,7 @@ module _ {S : Type 0} (g : Ghosts S) (old : Held S) (table : IsTabled g old) (be
   stops end fault.Interrupted ends tested = absurd ends
   stops end fault.NotALog ends tested = absurd ends
   stops end (fault.DamagedTail m n) ends tested = absurd ends
+  stops end fault.OlderLog ends tested = absurd ends
   stops end fault.Busy ends tested = absurd ends
   stops end fault.CannotOpen ends tested = absurd ends
   stops end fault.TooBig ends tested = absurd ends

@@ -157,6 +157,7 @@ module _ {S : Type 0} (g : Ghosts S) (old mid : Held S) (digest : List ℕ) (lin
       (i, low, subst (λ z. fits_i64 z ≡ false) same h.2)
   more_stops line there puts fault.NotALog h = h
   more_stops line there puts (fault.DamagedTail m n) h = h
+  more_stops line there puts fault.OlderLog h = h
   more_stops line there puts fault.OutOfMemory h = h
   more_stops line there puts fault.Busy h = h
   more_stops line there puts fault.CannotOpen h = h

@@ -37,6 +37,7 @@ fault_of _ = fault.Store
 abbrev pub IsPlain : LogFault → Type 0
 IsPlain fault.NotALog = ⊥
 IsPlain (fault.DamagedTail commits following) = ⊥
+IsPlain fault.OlderLog = ⊥
 IsPlain _ = ⊤
 
 -- Why a call failed on a log that was open, by what it met between two states. `Own` says when the faults of the call

@@ -1,7 +1,7 @@
 -- What an open of files finds.
-use Rattle.std.specs.Prelude.{◌≡◌, ℕ, List, [], Result, Err, IsErrOf, IsTrue}
+use Rattle.std.specs.Prelude.{◌≡◌, ℕ, List, [], Result, Err, IsErrOf, IsTrue, length}
 use Rattle.log_tails.specs.declared.tail.Tail.{Tail}
-use Rattle.log_tails.specs.Tails.{IsTailOf}
+use Rattle.log_tails.specs.Tails.{IsTailOf, Outgrows}
 use Rattle.sqlite.specs.Recovery.{Image}
 use Rattle.sqlite.specs.Tree.{Trees}
 use Rattle.sqlite.specs.Effect.{Database, IsDatabase}
@@ -9,14 +9,14 @@ use Rattle.sqlite.specs.Files.{HoldsDatabase, AreFoundIn, file_state, image_of}
 use Rattle.sqlite.specs.WalFiles.{outcomes}
 use Rattle.sqlite_disk.specs.declared.Disk.{Ghosts}
 use Rattle.sqlite_disk.specs.declared.Files.{Files}
-use Rattle.sqlite.specs.WalReads.{IsClean}
+use Rattle.sqlite.specs.WalReads.{IsClean, OnlyReads}
 use Rattle.sqlite_store.specs.declared.store.FileStore.{FileStore}
 use Rattle.sqlite_store.specs.FileStore as store
 use Rattle.sqlite.specs.Held.{Held}
 use Rattle.sqlite.specs.State.{HasCleanDisk}
 use Rattle.sqlite.specs.Start.{FindsIn}
 use Rattle.command_log.specs.declared.fault.LogFault.{LogFault}
-use Rattle.command_log.specs.declared.fault.LogFault.TheVariants.{NotALog, DamagedTail}
+use Rattle.command_log.specs.declared.fault.LogFault.TheVariants.{NotALog, DamagedTail, OlderLog}
 use Rattle.command_log.specs.Table.{IsOther}
 use Rattle.sqlite.specs.Files.{over_files}
 use Rattle.command_log.specs.Lines.{HasLines, HoldsLines, IsOpen, lines_of}
@@ -34,6 +34,18 @@ pub record EndsDamaged (image : Image) (commits following : ℕ) : Type 0 where
   pub damaged : ¬ IsTrue tail.is_whole
   pub count : commits ≡ tail.commits
   pub left : following ≡ tail.following
+
+-- the last commit in the log leaves the database at least as long as its file is
+pub record CoversFile (image : Image) : Type 0 where
+  pub tail : Tail
+  pub is : IsTailOf image.log tail
+  pub covers : ¬ Outgrows (length image.db) tail
+
+-- and here it leaves it shorter
+pub record IsOutgrown (image : Image) : Type 0 where
+  pub tail : Tail
+  pub is : IsTailOf image.log tail
+  pub longer : Outgrows (length image.db) tail
 
 -- the lines are those of the database that the files held, or none if it held nothing
 abbrev pub FindsLines : Image → List (List ℕ) → Type 0
@@ -56,15 +68,24 @@ FindsOnly image lines = (found : List (List ℕ)) → FindsLines image found →
 abbrev pub FindsOnlyAlone : Image → List (List ℕ) → Type 0
 FindsOnlyAlone image lines = FindsOnly image lines × FindsOnly (record image { log = [] }) lines
 
+-- what reads alone leave of a file that held these bytes
+pub record IsLeftByReads {D : Type 0} (g : Ghosts D) (bytes : List ℕ) (file : D) : Type 0 where
+  pub before : D
+  pub held : g.seen before ≡ bytes
+  pub reads : OnlyReads g before file
+
 module _ {D : Type 0} {g : Ghosts D} where
   -- an open is refused as no log only if it found a database whose schema is neither the log's nor empty
   abbrev pub RefusesOther : Image → Result (Held (FileStore D g)) LogFault → Type 0
   RefusesOther image result =
       IsErrOf result NotALog → (c : Held (FileStore D g)) × IsOther (file_state c).now.schema × (HasCleanDisk (file_state c) → FindsIn image (file_state c))
 
-  -- files are refused for the end of the log only if it was read, with an honest disk, to be what no crash leaves
+  -- files are refused for the end of the log only if it was read, with an honest disk, to be what no crash leaves, and for an
+  -- older log only if both were
   abbrev pub IsCutShort : Image → Result (Held (FileStore D g)) LogFault → Type 0
-  IsCutShort image (Err (DamagedTail commits following)) = (log : D) × (IsClean g log → EndsDamaged image commits following)
+  IsCutShort image (Err (DamagedTail commits following)) = (log : D) × IsLeftByReads g image.log log × (IsClean g log → EndsDamaged image commits following)
+  IsCutShort image (Err OlderLog) =
+      (log db : D) × IsLeftByReads g image.log log × IsLeftByReads g image.db db × (IsClean g log → IsClean g db → IsOutgrown image)
   IsCutShort image _ = Unit {0}
 
   -- Whatever a crash at this moment leaves of the files, the lines of a log that an open of them finds are these.

@@ -8,11 +8,11 @@ ghost use Rattle.sqlite_std_file.specs.File.{file_is_usable, IsFresh};
 ghost use Rattle.command_log.specs.Lines.{IsOpen, lines_of};
 ghost use Rattle.command_log.specs.Found.{FindsLines, ReadsLines, RefusesOther};
 ghost use Rattle.command_log.specs.Faults.{IsPlain};
-ghost use Rattle.command_log.specs.Found.{EndsWhole, IsCutShort};
+ghost use Rattle.command_log.specs.Found.{CoversFile, EndsWhole, IsCutShort};
 
 use crate::fault::LogFault;
 use crate::log::CommandLog;
-use log_tails::tail_of;
+use log_tails::{outgrows, tail_of};
 use sqlite::{Connection, FileFrom, FileStore, Start};
 use sqlite_disk::{Disk, Files};
 use sqlite_pager::Options;
@@ -36,6 +36,7 @@ impl<S: Start> CommandLog<FileStore<FileFrom<S>>> {
         ensures read { IfOk result (λ log. IsOpen over_files log
             → ReadsLines (image_at S.Start) (lines_of over_files log)) }
         ensures whole { IfOk result (λ log. IsOpen over_files log → EndsWhole (image_at S.Start)) }
+        ensures covers { IfOk result (λ log. IsOpen over_files log → CoversFile (image_at S.Start)) }
         ensures cut { IsCutShort (image_at S.Start) result }
         ensures other { RefusesOther (image_at S.Start) result }
 
@@ -90,7 +91,8 @@ fn options(rt: &HostRuntime) -> Result<Options, LogFault>
 impl<D: Disk + Drop> CommandLog<FileStore<D>> {
     /// Takes the log in a database file and SQLite's log beside it, or makes one in files that hold
     /// nothing. A log beside the file that ends otherwise than a crash leaves it is refused as
-    /// [`DamagedTail`](LogFault::DamagedTail), and then nothing is written.
+    /// [`DamagedTail`](LogFault::DamagedTail), and one that leaves the database shorter than the
+    /// file is as [`OlderLog`](LogFault::OlderLog). Then nothing is written.
     pub fn open_files(
         alloc: Global,
         mut files: Files<D>,
@@ -103,10 +105,12 @@ impl<D: Disk + Drop> CommandLog<FileStore<D>> {
         ensures read { IfOk result (λ log. IsOpen over_files log
             → ReadsLines (image_of D.Disk files) (lines_of over_files log)) }
 
-        // What follows the last commit is what a crash leaves. Files are refused for that only if it
-        // is something else.
+        // What follows the last commit is what a crash leaves, and the file is no longer than that
+        // commit leaves it. Files are refused for that only if it isn't so.
         ensures whole { IfOk result (λ log. IsOpen over_files log
             → EndsWhole (image_of D.Disk files)) }
+        ensures covers { IfOk result (λ log. IsOpen over_files log
+            → CoversFile (image_of D.Disk files)) }
         ensures cut { IsCutShort (image_of D.Disk files) result }
         ensures other { RefusesOther (image_of D.Disk files) result }
         ensures opened { IfOk result (λ log. HasCleanDisk (state over_files log)
@@ -118,6 +122,10 @@ impl<D: Disk + Drop> CommandLog<FileStore<D>> {
                 commits: tail.commits,
                 following: tail.following,
             });
+        }
+        let is_older = outgrows(&mut files.db, tail)?;
+        if is_older {
+            return Err(LogFault::OlderLog);
         }
         let conn = match Connection::open_files(alloc, files, options) {
             Ok(conn) => conn,

@@ -34,12 +34,15 @@ use Rattle.hook_meaning.specs.Trace.{Trace, Done, Refused, Turn, and_then, work_
 abbrev pub Invocation : Type 0
 Invocation = World → ℕ → Call → Trace Text
 
+-- the last text, or the empty text if there is none
 abbrev pub last_or_empty : List Text → Text
 last_or_empty xs = unwrap_or (slice_get xs (length xs - 1)) []
 
+-- the texts without the last one
 abbrev pub without_last : List Text → List Text
 without_last xs = take (length xs - 1) xs
 
+-- the first text, or the empty text if there is none
 abbrev pub first_or_empty : List Text → Text
 first_or_empty [] = []
 first_or_empty (x ∷ xs) = x
@@ -109,6 +112,7 @@ action_pass invocation world hook args =
 abbrev pub text_at : Text → Span → Text
 text_at text span = slice_range text span.start span.end
 
+-- a bracket, if it is there
 abbrev pub bracket : Bool → ℕ → Text
 bracket there byte = if there then byte ∷ [] else []
 
@@ -156,10 +160,12 @@ pieces_pass invocation text world so_far (p ∷ ps) =
 unfoldable pub shortcodes_pass : Invocation → World → Text → Trace Text
 shortcodes_pass invocation world text = pieces_pass invocation text world [] (pieces_of (live (map (λ p. p.0) world.tags) text) text)
 
+-- a number as an answer, or false if there is none
 abbrev pub number_or_false : Option ℤ → Answer
 number_or_false None = answer.Flag false
 number_or_false (Some number) = answer.Number number
 
+-- a text as an answer, or false if there is none
 abbrev pub text_or_false : Option Text → Answer
 text_or_false None = answer.Flag false
 text_or_false (Some text) = answer.Text text
@@ -196,6 +202,7 @@ pub record Engine : Type 0 where
   pub says : ℕ → Call → Reply
   pub plugins : List Shape
 
+-- the reply that prints, changes and asks nothing, and answers the empty text
 abbrev pub silence : Reply
 silence = record { changes = []; echo = []; next = next.Answer [] }
 
@@ -240,12 +247,14 @@ module _ (engine : Engine) where
   abbrev pub from_priority : PassKind → Text → List Text → World → Text → Option ℤ → Trace Text
   from_priority kind hook args world value next = priorities_pass invoke kind hook args world.calls world value next
 
-  -- what `apply_filters`, `do_action` and `do_shortcode` mean
+  -- the meaning of `apply_filters`
   unfoldable pub filtered : World → Text → Text → List Text → Trace Text
   filtered world hook value args = filter_pass invoke world hook value args
 
+  -- the meaning of `do_action`
   unfoldable pub acted : World → Text → List Text → Trace (Unit {0})
   acted world hook args = and_then (action_pass invoke world hook args) (λ later nothing. Done later tt)
 
+  -- the meaning of `do_shortcode`
   unfoldable pub replaced : World → Text → Trace Text
   replaced world text = shortcodes_pass invoke world text

@@ -27,10 +27,12 @@ abbrev pub work_if : {A : Type 0} → Bool → (World → Trace A) → (World �
 work_if true first second world = first world
 work_if false first second world = second world
 
+-- how work ends: with a result in its last world, or by a fault
 pub data Outcome (A : Type 0) : Type 0 where
   Ended : World → A → Outcome A
   Fault : RunFault → Outcome A
 
+-- the end of a trace
 abbrev pub outcome_of : {A : Type 0} → Trace A → Outcome A
 outcome_of (Done world x) = Ended world x
 outcome_of (Refused fault) = Fault fault

@@ -9,6 +9,7 @@ use Rattle.callback_store.specs.Shape.{Shape, is_held_by, by_name}
 use Rattle.hook_registry.specs.Named.{set_value, remove_value}
 use Rattle.hook_registry.specs.Table.{Table, add, remove, remove_all}
 
+-- the state of a running request
 pub record World : Type 0 where
   -- the registrations of each hook, and the handler of each tag
   pub table : Table

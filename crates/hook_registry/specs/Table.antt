@@ -13,9 +13,11 @@ use Rattle.hook_registry.specs.Named.{value_of, set_value}
 abbrev pub Table : Type 0
 Table = List (List ℕ × List Registration)
 
+-- the registrations of a hook
 abbrev pub registrations : Table → List ℕ → List Registration
 registrations table hook = unwrap_or (value_of table hook) []
 
+-- whether a registration is at a priority
 abbrev pub is_at : ℤ → Registration → Bool
 is_at priority r = int_eq r.priority priority
 
@@ -32,6 +34,7 @@ with_added (r ∷ rs) new =
     else if int_lt new.priority r.priority then new ∷ r ∷ rs
     else r ∷ with_added rs new
 
+-- the table with one more registration
 abbrev pub add : Table → List ℕ → Registration → Table
 add table hook new = set_value table hook (with_added (registrations table hook) new)
 
@@ -40,9 +43,11 @@ abbrev pub keeping : (Registration → Bool) → Table → List ℕ → Table
 keeping passes [] hook = []
 keeping passes (p ∷ ps) hook = if bytes_eq hook p.0 then (p.0, filter passes p.1) ∷ ps else p ∷ keeping passes ps hook
 
+-- the table without the registration of a callback at a priority
 abbrev pub remove : Table → List ℕ → ℤ → ℕ → Table
 remove table hook priority callback = keeping (λ r. not (is_of priority callback r)) table hook
 
+-- whether a registration has another priority than the given one, if one is given
 abbrev pub is_other : Option ℤ → Registration → Bool
 is_other None r = not true
 is_other (Some priority) r = not (is_at priority r)
@@ -51,6 +56,7 @@ is_other (Some priority) r = not (is_at priority r)
 abbrev pub remove_all : Table → List ℕ → Option ℤ → Table
 remove_all table hook priority = keeping (is_other priority) table hook
 
+-- the part of a registration that a pass needs
 abbrev pub entry_of : Registration → Entry
 entry_of r = record { callback = r.callback; accepted = r.accepted }
 
@@ -62,10 +68,12 @@ group table hook priority = map entry_of (filter (is_at priority) (registrations
 abbrev pub least : List ℤ → Option ℤ
 least xs = reduce int_min xs
 
+-- whether a registration has a larger priority than the given one, if one is given
 abbrev pub is_above : Option ℤ → Registration → Bool
 is_above None r = true
 is_above (Some other) r = int_lt other r.priority
 
+-- the smallest priority of the registrations that pass a test
 abbrev pub least_priority : (Registration → Bool) → List Registration → Option ℤ
 least_priority passes rs = least (map (λ r. r.priority) (filter passes rs))
 

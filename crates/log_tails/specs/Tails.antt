@@ -1,5 +1,5 @@
 -- Where the commits of a log end, and what a crash leaves after them.
-use Rattle.std.specs.Prelude.{◌≡◌, ◌≢◌, ◌⊎◌, ◌↔◌, ℕ, zero, suc, ◌+◌, ◌-◌, ◌<◌, ◌≤◌, ◌==◌, if◌then◌else◌, IsTrue, List, length, slice_index}
+use Rattle.std.specs.Prelude.{◌≡◌, ◌≢◌, ◌⊎◌, ◌↔◌, ℕ, zero, suc, ◌+◌, ◌-◌, ◌*◌, ◌<◌, ◌≤◌, ◌==◌, if◌then◌else◌, IsTrue, List, length, slice_index}
 use Rattle.sqlite_wal.specs.Format.{be32, IsSigned, commit_size}
 use Rattle.sqlite_wal.specs.Recovery.{frame_at, header, frame, Replays}
 use Rattle.log_tails.specs.declared.tail.Tail.{Tail}
@@ -16,6 +16,10 @@ commit_in page_size log i = if commit_size (frame page_size log i) == 0 then 0 e
 unfoldable pub commits_in : ℕ → List ℕ → ℕ → ℕ
 commits_in page_size log zero = 0
 commits_in page_size log (suc i) = commits_in page_size log i + commit_in page_size log i
+
+-- how large the database is after the first k frames, the last of which ends a commit
+abbrev pub size_after : ℕ → List ℕ → ℕ → ℕ
+size_after page_size log k = if k == 0 then 0 else commit_size (frame page_size log (k - 1)) * page_size
 
 -- The gate after the first k frames, the first byte of the salt of the next one, is shut.
 pub record IsShutAfter (page_size : ℕ) (log : List ℕ) (k : ℕ) : Type 0 where
@@ -36,6 +40,7 @@ pub record IsUnread (log : List ℕ) (tail : Tail) : Type 0 where
   pub commits : tail.commits ≡ 0
   pub bytes : tail.bytes ≡ 0
   pub following : tail.following ≡ length log
+  pub database : tail.database ≡ 0
   pub whole : IsTrue tail.is_whole ↔ IsBegun log
 
 -- recovery takes these frames, and the rest of the file follows
@@ -48,11 +53,16 @@ pub record IsRead (log : List ℕ) (tail : Tail) : Type 0 where
   pub commits : tail.commits ≡ commits_in page_size log frames
   pub bytes : tail.bytes ≡ frame_at page_size frames
   pub following : tail.following ≡ length log - tail.bytes
+  pub database : tail.database ≡ size_after page_size log frames
   pub whole : IsTrue tail.is_whole ↔ IsWhole page_size log frames
 
 -- what is found of a log
 abbrev pub IsTailOf : List ℕ → Tail → Type 0
 IsTailOf log tail = IsUnread log tail ⊎ IsRead log tail
+
+-- a database file of this length is longer than the last commit in the log leaves it
+abbrev pub Outgrows : ℕ → Tail → Type 0
+Outgrows size tail = (0 < tail.commits) × (tail.database < size)
 
 -- it is whole, and its commits are those of the first k frames of this log
 pub record IsCommittedTo (page_size : ℕ) (log : List ℕ) (k : ℕ) (tail : Tail) : Type 0 where

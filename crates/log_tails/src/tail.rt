@@ -4,7 +4,15 @@ ghost use Rattle.sqlite_wal.specs.Format.{be32, IsSigned, commit_size};
 ghost use Rattle.sqlite_wal.specs.PageSize.{bytes_of};
 ghost use Rattle.sqlite_wal.specs.Reads.{IsClean, OnlyReads};
 ghost use Rattle.sqlite_wal.specs.Recovery.{frame_at, frame, header, Replays};
-ghost use Rattle.log_tails.specs.Tails.{shut_by, commits_in, IsWhole, IsRead, IsTailOf};
+ghost use Rattle.log_tails.specs.Tails.{
+  shut_by,
+  commits_in,
+  size_after,
+  IsWhole,
+  IsRead,
+  IsTailOf,
+  Outgrows,
+};
 
 use crate::bytes::{frame_offset, get_be32, is_signed, other_than};
 use sqlite_disk::Disk;
@@ -36,6 +44,8 @@ pub struct Tail {
     pub bytes: usize,
     /// How many bytes follow.
     pub following: usize,
+    /// How many bytes the last of them leaves the database with, or 0 if there is none.
+    pub database: usize,
     /// Whether what follows is what a crash may leave there.
     pub is_whole: bool,
 }
@@ -65,17 +75,31 @@ pub fn tail_of<D: Disk>(alloc: Global, log: &mut D) -> Result<Tail, Error>
     }
 }
 
+/// Returns whether a database file is longer than the last commit in its log leaves it. A file is
+/// never made shorter, so such a log is older than the file, or another file's.
+pub fn outgrows<D: Disk>(db: &mut D, tail: Tail) -> Result<bool, Error>
+    requires { IsTrue (D.Disk.is_usable db.old) }
+    ensures longer { IfOk result (λ it. IsClean D.Disk db.new
+        → (IsTrue it ↔ Outgrows (length (D.Disk.seen db.old)) tail)) }
+    ensures same { OnlyReads D.Disk db.old db.new }
+{
+    let len = db.len()?;
+    Ok(tail.commits > 0 && len > tail.database)
+}
+
 /// Returns the end of a log of which no frame is read.
 fn unread(following: usize, is_whole: bool) -> Tail
     ensures commits { result.commits ≡ 0 }
     ensures bytes { result.bytes ≡ 0 }
     ensures following { result.following ≡ following }
+    ensures database { result.database ≡ 0 }
     ensures whole { result.is_whole ≡ is_whole }
 {
     Tail {
         commits: 0,
         bytes: 0,
         following,
+        database: 0,
         is_whole,
     }
 }
@@ -100,11 +124,13 @@ fn tail_under<D: Disk>(
     let frames = frames_of(alloc, log, size)?;
     let commits = commits_of(log, size.bytes(), frames)?;
     let is_whole = ends_whole(log, size.bytes(), frames, len, head[SALT])?;
+    let database = size_of(log, size.bytes(), frames)?;
     let bytes = frame_offset(size.bytes(), frames);
     Ok(Tail {
         commits,
         bytes,
         following: len.saturating_sub(bytes),
+        database,
         is_whole,
     })
 }
@@ -151,9 +177,36 @@ fn ends_commit<D: Disk>(log: &mut D, page_size: usize, i: usize) -> io::Result<b
         → (IsTrue ends ↔ commit_size (frame page_size (D.Disk.seen log.old) i) ≢ 0)) }
     ensures same { OnlyReads D.Disk log.old log.new }
 {
+    Ok(pages_of(log, page_size, i)? != 0)
+}
+
+/// Returns how many bytes the database has after the first frames, the last of which ends a commit.
+fn size_of<D: Disk>(log: &mut D, page_size: usize, frames: usize) -> io::Result<usize>
+    requires usable { IsTrue (D.Disk.is_usable log.old) }
+    requires size { page_size ≤ 65536 }
+    requires few { frames ≤ 0xffff_fffe }
+    ensures size { IfOk result (λ size. IsClean D.Disk log.new
+        → size ≡ size_after page_size (D.Disk.seen log.old) frames) }
+    ensures same { OnlyReads D.Disk log.old log.new }
+{
+    if frames == 0 {
+        return Ok(0);
+    }
+    Ok(pages_of(log, page_size, frames - 1)? as usize * page_size)
+}
+
+/// Returns how many pages the database has after a frame, if that ends a commit, or else 0.
+fn pages_of<D: Disk>(log: &mut D, page_size: usize, i: usize) -> io::Result<u32>
+    requires usable { IsTrue (D.Disk.is_usable log.old) }
+    requires size { page_size ≤ 65536 }
+    requires few { i ≤ 0xffff_fffe }
+    ensures pages { IfOk result (λ pages. IsClean D.Disk log.new
+        → pages ≡ commit_size (frame page_size (D.Disk.seen log.old) i)) }
+    ensures same { OnlyReads D.Disk log.old log.new }
+{
     let mut field = [0; 4];
     log.read_at(frame_offset(page_size, i) + SIZE, &mut field)?;
-    Ok(get_be32(&field, 0) != 0)
+    Ok(get_be32(&field, 0))
 }
 
 /// Returns whether nothing follows the first frames, or a gate that is shut.

@@ -21,5 +21,6 @@ entity b =
     else (if b == 39 then codes "&#039;"
     else b ∷ []))))
 
+-- a text with `& < > " '` as entities
 abbrev pub html_escaped : List ℕ → List ℕ
 html_escaped text = flat_map entity text

@@ -7,6 +7,9 @@
 
 mod line;
 mod log;
+mod paths;
+#[cfg(test)]
+mod tests;
 mod told;
 mod values;
 mod watch;

@@ -1,7 +1,7 @@
-//! Whoever is told of the invocations of pages.
+//! Observers of the invocations of pages.
 use crate::told::{PageEnd, PageName, Told};
 
-/// Whoever is told of the invocations of a site's pages. What it does with that changes no page.
+/// An observer of the invocations of a site's pages. Nothing that it does changes a page.
 pub trait Watch: Drop {
     /// Returns whether anything is to be told. If it is, pages are printed turn by turn.
     fn is_on(&self) -> bool;
@@ -16,7 +16,7 @@ pub trait Watch: Drop {
     fn ended(&mut self, page: PageName<'_>, end: PageEnd, invocations: u32);
 }
 
-/// Nobody, who is told nothing.
+/// The observer that does nothing, for pages that nobody watches.
 #[derive(Clone, Copy)]
 pub struct Unwatched;
 

@@ -51,9 +51,11 @@ published_with kind id posts = published_of_kind kind (option_to_list (post_with
 abbrev pub showing : FoundKind → List Post → Found
 showing kind posts = record { kind = kind; posts = posts; status = 200 }
 
+-- the result if nothing is found: no posts, and status 404
 abbrev pub nothing : Found
 nothing = record { kind = NotFound; posts = []; status = 404 }
 
+-- these posts, or the result for nothing if there are none
 abbrev pub unless_empty : FoundKind → List Post → Found
 unless_empty kind [] = nothing
 unless_empty kind (p ∷ ps) = showing kind (p ∷ ps)

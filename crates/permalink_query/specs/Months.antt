@@ -9,6 +9,7 @@ use Rattle.permalink_query.specs.Numbers.{is_within}
 abbrev pub is_month : (year month : ℕ) → Bool
 is_month year month = is_within 1 9999 year && is_within 1 12 month
 
+-- a number from 0 to 99 in two digits
 abbrev pub two_digits : ℕ → Text
 two_digits n = (48 + n / 10) ∷ (48 + n % 10) ∷ []
 

@@ -9,6 +9,7 @@ use Rattle.permalink_query.specs.Numbers.{whole_number, year_and_month}
 use Rattle.permalink_query.specs.declared.query.Query.{Query}
 use Rattle.permalink_query.specs.declared.query.Query.TheVariants.{Front, Single, Page, Month, Nothing}
 
+-- whether a byte is `?`
 abbrev pub is_question_mark : ℕ → Bool
 is_question_mark b = b == 63
 

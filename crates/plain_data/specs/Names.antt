@@ -17,6 +17,7 @@ is_hook_name text = has_name_length text
 abbrev pub is_tag_name : List ℕ → Bool
 is_tag_name text = has_name_length text && list_all is_name_byte text
 
+-- the name of one of the engine's own hooks
 abbrev pub core_name : CoreHook → List ℕ
 core_name hook.PluginsLoaded = codes "plugins_loaded"
 core_name hook.Init = codes "init"

@@ -15,12 +15,14 @@ use Rattle.post_tables.specs.Rows.{by_bytes}
 abbrev pub newest : Post → Post → Ordering
 newest a b = ordering_then (by_bytes b.date a.date) (nat_cmp b.id a.id)
 
+-- whether two kinds are the same
 abbrev pub is_kind : PostKind → PostKind → Bool
 is_kind OfPost OfPost = true
 is_kind OfPost OfPage = false
 is_kind OfPage OfPost = false
 is_kind OfPage OfPage = true
 
+-- whether a status is `publish`
 abbrev pub is_published : PostStatus → Bool
 is_published Publish = true
 is_published Draft = false

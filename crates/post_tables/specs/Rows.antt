@@ -23,16 +23,19 @@ use Rattle.sqlite.specs.declared.error.Error.TheVariants.{SqliteFailure}
 use Rattle.sqlite.specs.declared.error.ErrorCode.TheVariants as code
 use Rattle.plain_data.specs.Texts.{Text}
 
+-- the order of texts by their bytes
 abbrev pub by_bytes : Text → Text → Ordering
 by_bytes = slice_cmp nat_cmp
 
--- texts under names, and names alone, both in the order of the names' bytes
+-- texts under names, in the order of the names' bytes
 abbrev pub Named : Type 0
 Named = FinMap by_bytes Text
 
+-- a set of names, in that order
 abbrev pub Names : Type 0
 Names = FinSet by_bytes
 
+-- all that a site stores
 pub record Rows : Type 0 where
   -- posts and pages, by ascending ID
   pub posts : List Post
@@ -86,6 +89,7 @@ pub record PostEdit : Type 0 where
 abbrev pub edit_by : Option PostStatus → Option (Bor Text) → Option (Bor Text) → Option (Bor Text) → PostEdit
 edit_by status title content date = record { status = status; title = option_copied title; content = option_copied content; date = option_copied date }
 
+-- a post after an edit: fields that aren't given stay
 abbrev pub edited_post : PostEdit → Post → Post
 edited_post e q = record q {
   status = unwrap_or e.status q.status;
@@ -95,6 +99,7 @@ edited_post e q = record q {
       unwrap_or e.date q.date;
 }
 
+-- the posts after an edit of the one with an ID
 abbrev pub edited_posts : ℕ → PostEdit → List Post → List Post
 edited_posts id e = map (λ q. if q.id == id then edited_post e q else q)
 
@@ -117,10 +122,12 @@ abbrev pub with_posts : List Post → List Post → List Post
 with_posts [] stored = stored
 with_posts (p ∷ ps) stored = with_posts ps (with_post p stored)
 
+-- the largest of a number and the IDs of some posts
 abbrev pub largest_of : List Post → ℕ → ℕ
 largest_of [] n = n
 largest_of (p ∷ ps) n = largest_of ps (max n p.id)
 
+-- the rows with these posts added
 abbrev pub with_all : List Post → Rows → Rows
 with_all ps s = record s { posts = with_posts ps s.posts; largest = largest_of ps s.largest }
 
@@ -134,19 +141,24 @@ abbrev pub set_all : List (Text × Text) → Named → Named
 set_all [] texts = texts
 set_all (p ∷ ps) texts = set_all ps (insert texts p.0 p.1)
 
+-- the set with these names added
 abbrev pub put_all : List Text → Names → Names
 put_all [] names = names
 put_all (n ∷ ns) names = put_all ns (insert names n tt)
 
+-- the rows with these options set
 abbrev pub with_options : List (Text × Text) → Rows → Rows
 with_options pairs s = record s { options = set_all pairs s.options }
 
+-- the rows with these templates set
 abbrev pub with_templates : List (Text × Text) → Rows → Rows
 with_templates pairs s = record s { templates = set_all pairs s.templates }
 
+-- the rows with these plugins active
 abbrev pub with_active : List Text → Rows → Rows
 with_active names s = record s { active = put_all names s.active }
 
+-- the rows with all records of a site file
 abbrev pub with_records : SiteRecords → Rows → Rows
 with_records r s = with_active r.active (with_templates r.templates (with_options r.options (with_all r.posts s)))
 

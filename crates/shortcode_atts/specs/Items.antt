@@ -115,5 +115,6 @@ unfoldable pub items_within : ℕ → List ℕ → List Item
 items_within zero cs = []
 items_within (suc n) cs = option_map_or (λ it. it ∷ items_within n it.rest) (item_at (skip_white cs)) []
 
+-- the items of an attribute text
 abbrev pub items_of : List ℕ → List Item
 items_of cs = items_within (length cs) cs

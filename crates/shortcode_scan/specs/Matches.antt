@@ -12,6 +12,7 @@ use Rattle.shortcode_scan.specs.declared.matches.Core.{Core}
 use Rattle.shortcode_scan.specs.declared.Piece.{Piece}
 use Rattle.shortcode_scan.specs.declared.Piece.TheVariants.{Match}
 
+-- the span from one place to another
 abbrev pub span : ℕ → ℕ → Span
 span start end = record { start = start; end = end }
 

@@ -14,11 +14,12 @@ abbrev pub whole_of : Piece → Span
 whole_of (Plain s) = s
 whole_of (Match whole name atts content opening closing) = whole
 
--- where a piece begins, and where it ends
+-- the place where a piece begins
 abbrev pub start_of : Piece → ℕ
 start_of (Plain s) = s.start
 start_of (Match whole name atts content opening closing) = whole.start
 
+-- the place where a piece ends
 abbrev pub end_of : Piece → ℕ
 end_of (Plain s) = s.end
 end_of (Match whole name atts content opening closing) = whole.end

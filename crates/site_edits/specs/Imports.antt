@@ -13,6 +13,7 @@ use Rattle.site_import.specs.declared.fault.ImportFault.TheVariants as fault
 use Rattle.site_replies.specs.declared.reply.Refusal.TheVariants.{BadImport, BadDate, BadTemplate, TooLarge, OutOfMemory, UnknownPlugin, DuplicateId}
 use Rattle.site_replies.specs.Reply.{ReplyData, done, refused}
 
+-- the refusal for a fault of a site file
 abbrev pub import_refusal : ImportFault → ReplyData
 import_refusal (fault.BadImport place) = refused BadImport
 import_refusal (fault.BadDate place) = refused BadDate
@@ -20,6 +21,7 @@ import_refusal (fault.BadTemplate place) = refused BadTemplate
 import_refusal (fault.TooLarge place) = refused TooLarge
 import_refusal fault.OutOfMemory = refused OutOfMemory
 
+-- whether the plugins have all of these names
 abbrev pub are_known : List Shape → List Text → Bool
 are_known plugins names = list_all (λ name. is_some (load_of plugins name)) names
 

@@ -13,6 +13,7 @@ use Rattle.template_trees.specs.declared.tree.Template.{Template}
 use Rattle.site_replies.specs.declared.reply.Refusal.TheVariants.{BadTemplate, TooLarge, OutOfMemory}
 use Rattle.site_replies.specs.Reply.{ReplyData, done, refused}
 
+-- the refusal for a fault of a template
 abbrev pub template_refusal : TemplateFault → ReplyData
 template_refusal fault.BadTemplate = refused BadTemplate
 template_refusal fault.TooLarge = refused TooLarge

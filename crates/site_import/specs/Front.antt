@@ -15,6 +15,7 @@ shown_named tree name =
     if bytes_eq name (codes "posts") then Some Posts
     else (if bytes_eq name (codes "page") then option_map Page (id_at (codes "page") tree) else None)
 
+-- the part of a site file that says what the front shows
 abbrev pub shown_in : Data → Option FrontShown
 shown_in tree = option_and_then (shown_named tree) (text_at (codes "show") tree)
 

@@ -25,13 +25,13 @@ pub(crate) fn serve_file<S: Stated>(
     path: &str,
     trace: bool,
 ) -> ExitCode {
-    let mut reader = Reading::new(rt.reader());
+    let reader = Reading::new(rt.reader());
     let sink = Writing::new(io::writer(rt));
     if trace {
         let mut log = PageTrace::new(rt.alloc(), Writing::new(rt.stderr()));
-        serve_path(rt, path, site, identity, &mut reader, sink, &mut log)
+        serve_path(rt, path, site, identity, reader, sink, &mut log)
     } else {
-        serve_path(rt, path, site, identity, &mut reader, sink, &mut Unwatched)
+        serve_path(rt, path, site, identity, reader, sink, &mut Unwatched)
     }
 }
 

@@ -20,6 +20,7 @@ use Rattle.template_parts.specs.declared.settings.Settings.{Settings}
 use Rattle.site_replies.specs.declared.reply.Refusal.TheVariants.{TooManyCalls, TooDeep, OutOfMemory}
 use Rattle.site_replies.specs.Reply.{ReplyData, refused, page}
 
+-- the refusal for a fault of a run
 abbrev pub refusal_of : RunFault → ReplyData
 refusal_of fault.TooManyCalls = refused TooManyCalls
 refusal_of fault.TooDeep = refused TooDeep

@@ -15,6 +15,7 @@ no_pages = None ∷ None ∷ None ∷ None ∷ None ∷ None ∷ None ∷ None �
 abbrev pub page_in : ℕ → Places → Option Opened
 page_in place pages = slice_index_or pages place None
 
+-- a site: its rows, and the pages in its eight places
 pub record State : Type 0 where
   pub rows : Rows
   pub pages : Places
@@ -26,6 +27,7 @@ empty_under limit = record { rows = record no_rows { step_limit = limit }; pages
 abbrev pub empty_site : State
 empty_site = empty_under None
 
+-- the site with another page in a place
 abbrev pub with_page : State → ℕ → Option Opened → State
 with_page site place page = record site { pages = slice_set site.pages place page }
 

@@ -51,7 +51,7 @@ impl<'p, S: Stated> Commands for Site<'p, S> {
 }
 
 impl<'p, S: Stated> Site<'p, S> {
-    ghost use Rattle.std.specs.Prelude.{◌++◌, ℕ, List, Some, IfErr, IfSome};
+    ghost use Rattle.std.specs.Prelude.{◌≢◌, ◌++◌, ℕ, List, Some, Err, IfErr, IfSome};
     ghost use Rattle.byte_io.specs.Journal.{IsFront};
     ghost use Rattle.site_serving.specs.Lines.{lines_of};
     ghost use Rattle.site_program.specs.Journaled.{IsNoted, KeepsAhead};
@@ -103,8 +103,10 @@ impl<'p, S: Stated> Site<'p, S> {
         ensures kept { OnOk result (IsNoted W.Journal (steps_of S.says S.number (setup_of self.old))
             (state_of S.says S.number self.old) (R.remaining reader.old) writer.old writer.new
             (state_of S.says S.number self.new)) }
-        ensures settled { OnOk result (IsSettled W.Journal writer.old
-            → IsSettled W.Journal writer.new) }
+
+        // Unless a write failed, nothing waits in the journal afterwards if nothing did before.
+        ensures settled { result ≢ Err ServeFault.Write → IsSettled W.Journal writer.old
+            → IsSettled W.Journal writer.new }
 
         // At any return what was written is a front of what was taken, and the log is not older.
         ensures front { IsFront (W.written writer.old) (W.contents writer.old)

@@ -1,5 +1,5 @@
 -- Lemmas on letting out what waits after a chunk.
-use Rattle.std.proofs.Common.{◌≡◌, ◌≢◌, ◌⊎◌, inl, inr, ℕ, Bool, List, [], Result, Ok, Err, refl, sym, subst}
+use Rattle.std.proofs.Common.{◌≡◌, ◌≢◌, ◌⊎◌, inl, inr, ℕ, Bool, List, [], Result, Ok, Err, refl, sym, subst, ap}
 use Rattle.std.specs.Prelude.{IfErr, OnOk, IsErrOf}
 use Rattle.byte_io.specs.Journal.{Grows}
 use Rattle.byte_io.specs.declared.journal.Journal.{Ghosts}
@@ -73,3 +73,22 @@ module _ {J : Type 0} (g : Ghosts J) (keeps : Replied → Bool) {X : Type 0} (re
       let h = halts (λ e. absurd (cc)) in Fails-let_out g keeps replies site after limit left stretch h.0 a b c h.1 some out same
   chunk_fails site after limit left stretch held a b c (Err fault_of.OutOfMemory) records fails halts kept some out same =
       let h = halts (λ e. absurd (cc)) in Fails-let_out g keeps replies site after limit left stretch h.0 a b c h.1 some out same
+
+  -- the journal stays open while the lines of a chunk are carried out
+  opened_after : (site after : X) (limit left : ℕ) (stretch held : List ℕ) (a b : J) (taken : Result (Unit {0}) ServeFault)
+      → OnOk taken (Records g keeps replies site limit stretch a b after left held)
+      → IfErr taken (λ e. e ≢ fault_of.Write → Halts g keeps replies site limit stretch a b after left e)
+      → taken ≢ Err fault_of.Write → g.is_open a → g.is_open b
+  opened_after site after limit left stretch held a b (Ok x) records halts other up = records.stays up
+  opened_after site after limit left stretch held a b (Err e) records halts other up = (halts (λ is. other (ap Err is))).1.stays up
+
+  pub chunk_settled : (site after : X) (limit left : ℕ) (stretch held : List ℕ) (a b c : J) (taken result : Result (Unit {0}) ServeFault)
+      → (result ≡ taken) ⊎ (result ≡ Err fault_of.Write) → OnOk taken (Records g keeps replies site limit stretch a b after left held)
+      → IfErr taken (λ e. e ≢ fault_of.Write → Halts g keeps replies site limit stretch a b after left e)
+      → (g.is_open b → result ≢ Err fault_of.Write → IsSettled g c) → result ≢ Err fault_of.Write → IsSettled g a → IsSettled g c
+  chunk_settled site after limit left stretch held a b c taken result which records halts settled other start =
+      elim which [
+        | inl e ↦ settled (opened_after site after limit left stretch held a b taken records halts
+            (subst (λ r. r ≢ Err fault_of.Write) e other) start.opened) other
+        | inr e ↦ absurd (other e)
+      ]

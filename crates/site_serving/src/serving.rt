@@ -99,8 +99,10 @@ pub fn serve<C: Commands, R: Source, W: Journal, V: Watch>(
     ensures kept { OnOk result (IsNoted W.Journal C.keeps (C.replies (C.fixed commands.old))
         (C.state commands.old) (R.remaining reader.old) writer.old writer.new
         (C.state commands.new)) }
-    ensures settled { OnOk result (IsSettled W.Journal writer.old
-        → IsSettled W.Journal writer.new) }
+
+    // Unless a write failed, nothing waits in the journal afterwards if nothing did before.
+    ensures settled { result ≢ Err ServeFault.Write → IsSettled W.Journal writer.old
+        → IsSettled W.Journal writer.new }
 
     // At any return what was written is a front of what was taken, and the log is not older.
     ensures front { IsFront (W.written writer.old) (W.contents writer.old)
@@ -160,8 +162,8 @@ fn take_chunk<C: Commands, W: Journal, V: Watch>(
     ensures halts { IfErr result (λ e. e ≢ ServeFault.Write
         → HaltsBy C.Commands W.Journal commands.old left.old
         (held.old.items ++ chunk.now) writer.old writer.new commands.new left.new e) }
-    ensures settled { OnOk result (IsSettled W.Journal writer.old
-        → IsSettled W.Journal writer.new) }
+    ensures settled { result ≢ Err ServeFault.Write → IsSettled W.Journal writer.old
+        → IsSettled W.Journal writer.new }
     ensures failed { W.has_failed writer.new ≡ is_write result }
     ensures fixed { C.fixed commands.new ≡ C.fixed commands.old }
 {
@@ -195,7 +197,8 @@ fn take_lines<C: Commands, W: Journal, V: Watch>(
     ensures halts { IfErr result (λ e. e ≢ ServeFault.Write
         → HaltsBy C.Commands W.Journal commands.old left.old
         (held.old.items ++ chunk.now) writer.old writer.new commands.new left.new e) }
-    ensures idle { left.new ≡ left.old → OnOk result (writer.new ≡ writer.old) }
+    ensures idle { left.new ≡ left.old → result ≢ Err ServeFault.Write
+        → writer.new ≡ writer.old }
     ensures failed { W.has_failed writer.new ≡ is_write result }
     ensures fixed { C.fixed commands.new ≡ C.fixed commands.old }
 {

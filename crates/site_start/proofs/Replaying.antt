@@ -1,11 +1,11 @@
 -- Lines that were carried out, and those that are left.
-use Rattle.std.proofs.Common.{◌≡◌, ℕ, ◌+◌, ◌∙◌, List, [], ◌∷◌, ◌++◌, refl, sym, ap, map, take, drop, append_assoc, append-nil, take-append-drop, length, ◌<◌}
-use Rattle.std.proofs.Common.{Bool, get_or, subst, true, suc, arith, ◌≤◌, Result, Ok, Err}
+use Rattle.std.proofs.Common.{◌≡◌, ℕ, ◌+◌, ◌∙◌, List, [], ◌∷◌, ◌++◌, refl, sym, ap, map, take, drop, append-nil, length, ◌<◌}
+use Rattle.std.proofs.Common.{Bool, get_or, subst, true, suc, inl, arith, ◌≤◌, Result, Ok, Err}
 use Rattle.std.specs.Prelude.{OnOk, OnErr}
 use Rattle.std.proofs.lemmas.List.{take_more, map-append}
 use Rattle.std.proofs.lemmas.List.Elements.{All-append, All-cons, All-nil}
 use Rattle.sqlite.specs.Held.{Held, state}
-use Rattle.sqlite.specs.State.{HasCleanDisk, Survives}
+use Rattle.sqlite.specs.State.{State, HasCleanDisk, Survives}
 use Rattle.sqlite.specs.Store.{Ghosts}
 use Rattle.sqlite.specs.Tree.{Trees}
 use Rattle.command_log.specs.Lines.{IsOpen}
@@ -37,19 +37,6 @@ module _ {S : Type 0} (steps : S → List ℕ → S × ReplyData) where
   one_more f first mid new lines i line inside is before done =
       done ∙ ap (λ site. (steps site (f line)).0) before ∙ sym (state_after-append steps first (map f (take i lines)) (f line ∷ []))
       ∙ ap (state_after steps first) (sym (texts_more f lines i line inside is))
-
-  -- a batch more was carried out
-  pub batch_more : (edits : List ℕ → Bool) (first mid new : S) (lines before left batch next : List (List ℕ)) (limit : ℕ) → lines ≡ before ++ left → mid
-      ≡ state_after steps first before
-      → AreEdits edits before → batch ≡ take limit left → next ≡ drop limit left → new ≡ state_after steps mid batch → AreEdits edits batch
-      → (done : List (List ℕ)) × (lines ≡ done ++ next) × (new ≡ state_after steps first done) × AreEdits edits done
-  batch_more edits first mid new lines before left batch next limit whole made early took rest did late =
-      let cut : left ≡ batch ++ next = sym (take-append-drop limit left) ∙ ap (λ b. b ++ drop limit left) (sym took) ∙ ap (λ n. batch ++ n) (sym rest) in (
-        before ++ batch,
-        whole ∙ ap (λ l. before ++ l) cut ∙ sym (append_assoc before batch next),
-        did ∙ ap (λ site. state_after steps site batch) made ∙ sym (state_after-append steps first before batch),
-        All-append (λ text. edits text ≡ true) before batch early late,
-      )
 
 -- an empty batch is the last one
 pub nothing_left : {X : Type 0} (f : X → List ℕ) (items : List X) (whole lines left : List (List ℕ)) (n : ℕ) → whole ≡ lines ++ left
@@ -98,3 +85,14 @@ module _ {S : Type 0} (g : Ghosts S) where
       → (HasCleanDisk (state g mid) → (state g mid).committed ≡ (state g first).committed) → Survives (state g mid) (state g new) Commits
       → (IsOpen g new → (state g new).committed ≡ (state g mid).committed) → IsOpen g new → (state g new).committed ≡ (state g first).committed
   same_then law first mid new Commits before s now up = now up ∙ before (clean_before mid new Commits s (clean_of g law new up))
+
+-- what stays as it is survives
+pub survives_same : (s : State) → Survives s s (λ _. ⊥)
+survives_same s = record {
+  clean = omega arith;
+  shield = λ shielded. shielded;
+  counts = omega arith;
+  limit = refl;
+  closes = λ clean up. inl up;
+  crash = λ clean db left. inl left;
+}

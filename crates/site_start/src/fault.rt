@@ -34,12 +34,15 @@ pub enum StartFault {
 }
 
 impl StartFault {
-    ghost use Rattle.std.specs.Prelude.{◌≢◌};
+    ghost use Rattle.std.specs.Prelude.{◌≢◌, ℕ};
+    ghost use Rattle.site_replies.specs.Reply as reply;
+    ghost use Rattle.site_start.specs.Started.{IsNumber, Tells};
     ghost use Rattle.site_start.specs.declared.fault.StartFault.TheVariants.{OtherProgram};
 
     /// Makes the fault of a line that is refused.
     pub(crate) fn refused(line: u64, refusal: Refusal) -> Self
-        ensures { result ≢ OtherProgram }
+        ensures other { result ≢ OtherProgram }
+        ensures told { (n : ℕ) → IsNumber n line → Tells n (reply.refused refusal) result }
     {
         StartFault::Refused {
             line,

@@ -1,15 +1,19 @@
 //! Making a site anew by the lines of its log.
 ghost use Rattle.std.specs.Prelude.{◌≡◌, ◌≢◌, ℕ, List, ◌∷◌, ◌++◌, []};
-ghost use Rattle.std.specs.Prelude.{IfErr, IfOk, IfSome, OnOk, OnErr};
+ghost use Rattle.std.specs.Prelude.{IfErr, IfNone, IfOk, IfSome, OnOk, OnErr};
 ghost use Rattle.sqlite.specs.Files.{over_files};
 ghost use Rattle.sqlite.specs.Held.{state};
 ghost use Rattle.sqlite.specs.State.{HasCleanDisk, Survives};
 ghost use Rattle.sqlite.specs.WalFiles.{image_at};
+ghost use Rattle.command_log.specs.Faults.{IsCaused, Unstorable};
 ghost use Rattle.command_log.specs.Found.{Finds};
-ghost use Rattle.command_log.specs.Lines.{IsOpen, IsAppended, KeepsLines, MayHold, lines_of};
+ghost use Rattle.command_log.specs.Lines.{IsOpen, IsAppended, KeepsLines, MayHold};
+ghost use Rattle.command_log.specs.Lines.{lines_of, rows_of};
+ghost use Rattle.command_log.specs.declared.fault.LogFault.{LogFault};
 ghost use Rattle.site_serving.specs.Served.{state_after};
-ghost use Rattle.site_start.specs.Started.{HasEdits, IsLeftBy, IsOfAnother, IsTakenOver};
-ghost use Rattle.site_start.specs.declared.fault.StartFault.TheVariants.{OtherProgram};
+ghost use Rattle.site_start.specs.Started.{HasEdits, IsLeftBy, IsOfAnother, IsOpenFault};
+ghost use Rattle.site_start.specs.Started.{IsStartFault, IsTakenOver, Untaken};
+ghost use Rattle.site_start.specs.declared.fault.StartFault.TheVariants.{Log, OtherProgram};
 
 use crate::fault::StartFault;
 use crate::replay::{introduce, replay};
@@ -53,6 +57,13 @@ pub fn open_site<C: Commands, S: Start>(
     // After a fault the log has the lines that the files held.
     ensures err { IfErr result (λ e. IfSome e.1 (λ log. IsOpen over_files log
         → Finds (image_at S.Start) (lines_of over_files log))) }
+
+    // It comes as a start from them names it. Without a log it is a fault of the open.
+    ensures cause { IfErr result (λ e. IfSome e.1 (λ log. HasCleanDisk (state over_files log)
+        → IsOpenFault (C.steps (C.fixed site.old)) (C.replies (C.fixed site.old)) C.keeps
+        (image_at S.Start) (C.state site.old) identity.now log e.0)) }
+    ensures unopened { IfErr result
+        (λ e. IfNone e.1 ((fault : LogFault) × (e.0 ≡ Log fault))) }
 
     // A crash then leaves these lines, or the identity alone if there was none.
     ensures survives { IfErr result (λ e. IfSome e.1 (λ log. (lines : List (List ℕ))
@@ -98,6 +109,14 @@ pub fn start<C: Commands, S: Alter>(
         → IfErr result (λ fault. fault ≡ OtherProgram
         → IsOfAnother identity.now (lines_of S.Store log.old)) }
 
+    // Each fault has its cause: what the log met, another first line, or the first line by number
+    // that isn't done.
+    ensures cause { HasCleanDisk (state S.Store log.new) → IsOpen S.Store log.old
+        → IfErr result (IsStartFault (C.steps (C.fixed site.old)) (C.replies (C.fixed site.old))
+        C.keeps (IsCaused (state S.Store log.old) (state S.Store log.new)
+        (Untaken identity.now (lines_of S.Store log.old))) (C.state site.old) identity.now
+        (lines_of S.Store log.old)) }
+
     // After a fault the log has the lines that it had.
     ensures err { IsOpen S.Store log.new
         → OnErr result (lines_of S.Store log.new ≡ lines_of S.Store log.old) }
@@ -133,6 +152,10 @@ fn append_first<S: Alter>(
         → OnErr result (lines_of S.Store log.new ≡ lines_of S.Store log.old) }
     ensures opened { HasCleanDisk (state S.Store log.new) → OnOk result (IsOpen S.Store log.new) }
     ensures fault { IfErr result (λ fault. fault ≢ OtherProgram) }
+    ensures cause { HasCleanDisk (state S.Store log.new) → IsOpen S.Store log.old
+        → IfErr result (λ fault. (met : LogFault) × (fault ≡ Log met)
+        × IsCaused (state S.Store log.old) (state S.Store log.new)
+        (Unstorable (rows_of S.Store log.old) (line.now ∷ [])) met) }
     ensures survives { Survives (state S.Store log.old) (state S.Store log.new)
         (IsAppended S.Store log.old (line.now ∷ [])) }
 {

@@ -1,11 +1,16 @@
 //! Carrying out the lines of a log once more.
-ghost use Rattle.std.specs.Prelude.{◌≡◌, ◌≢◌, map, true, IfErr, IfOk, OnOk};
+ghost use Rattle.std.specs.Prelude.{◌≡◌, ◌≢◌, ◌⊎◌, ◌+◌, ℕ, length, map, true};
+ghost use Rattle.std.specs.Prelude.{IfErr, IfOk, OnOk};
 ghost use Rattle.std.specs.String.{string_bytes};
 ghost use Rattle.sqlite.specs.Held.{state};
 ghost use Rattle.sqlite.specs.State.{HasCleanDisk, Survives};
+ghost use Rattle.command_log.specs.Faults.{IsCaused};
 ghost use Rattle.command_log.specs.Lines.{IsOpen, lines_left};
+ghost use Rattle.site_replies.specs.Reply.{refused};
+ghost use Rattle.site_replies.specs.declared.reply.Refusal.TheVariants.{BadCommand};
 ghost use Rattle.site_serving.specs.Served.{state_after};
-ghost use Rattle.site_start.specs.Started.{AreEdits};
+ghost use Rattle.site_start.specs.Started.{AreDone, AreEdits, IsDone, IsNumber, IsReplayFault};
+ghost use Rattle.site_start.specs.Started.{StopsAmong, StopsAt, Unread};
 ghost use Rattle.site_start.specs.declared.fault.StartFault.TheVariants.{OtherProgram};
 
 use crate::fault::StartFault;
@@ -29,14 +34,22 @@ pub(crate) fn introduce<C: Commands>(
         ≡ (C.steps (C.fixed site.old) (C.state site.old) line.now).0) }
     ensures same { OnOk result (line.now ≡ identity.now) }
     ensures other { IfErr result (λ fault. fault ≡ OtherProgram → line.now ≢ identity.now) }
+
+    // A line that is the identity stops by any other reply than that it is no command.
+    ensures cause { IfErr result (λ fault. ((fault ≡ OtherProgram) × (line.now ≢ identity.now))
+        ⊎ ((line.now ≡ identity.now) × StopsAt (C.steps (C.fixed site.old))
+        (C.replies (C.fixed site.old)) C.keeps (C.state site.old) 1 line.now
+        (λ reply. reply ≡ refused BadCommand) fault)) }
     ensures fixed { C.fixed site.new ≡ C.fixed site.old }
 {
     if line != identity {
         return Err(StartFault::OtherProgram);
     }
     match site.carry_out(line.as_bytes(), &mut Unwatched).reply {
-        SiteReply::Refused(Refusal::BadCommand) => Ok(()),
-        SiteReply::Refused(refusal) => Err(StartFault::refused(1, refusal)),
+        SiteReply::Refused(refusal) => match refusal {
+            Refusal::BadCommand => Ok(()),
+            _ => Err(StartFault::refused(1, refusal)),
+        },
         _ => Err(StartFault::NotAnEdit { line: 1 }),
     }
 }
@@ -46,7 +59,12 @@ fn redo<C: Commands>(site: &mut C, number: u64, line: &str) -> Result<(), StartF
     ensures done { OnOk result (C.state site.new
         ≡ (C.steps (C.fixed site.old) (C.state site.old) line.now).0) }
     ensures edit { OnOk result (C.edits line.now ≡ true) }
+    ensures kept { OnOk result (IsDone C.keeps line.now
+        (C.steps (C.fixed site.old) (C.state site.old) line.now).1) }
     ensures fault { IfErr result (λ fault. fault ≢ OtherProgram) }
+    ensures cause { (n : ℕ) → IsNumber n number → IfErr result
+        (StopsAt (C.steps (C.fixed site.old)) (C.replies (C.fixed site.old)) C.keeps
+        (C.state site.old) n line.now (IsDone C.keeps line.now)) }
     ensures fixed { C.fixed site.new ≡ C.fixed site.old }
 {
     let replied = site.carry_out(line.as_bytes(), &mut Unwatched);
@@ -68,7 +86,14 @@ pub(crate) fn redo_all<C: Commands>(
         (C.state site.old)
         (map string_bytes lines.now)) }
     ensures edits { OnOk result (AreEdits C.edits (map string_bytes lines.now)) }
+    ensures kept { OnOk result (AreDone (C.steps (C.fixed site.old)) C.keeps (C.state site.old)
+        (map string_bytes lines.now)) }
+    ensures counted { (n : ℕ) → IsNumber n count.old
+        → OnOk result (IsNumber (n + length lines.now) count.new) }
     ensures fault { IfErr result (λ fault. fault ≢ OtherProgram) }
+    ensures cause { (n : ℕ) → IsNumber n count.old → IfErr result
+        (StopsAmong (C.steps (C.fixed site.old)) (C.replies (C.fixed site.old)) C.keeps
+        (C.state site.old) n (map string_bytes lines.now)) }
     ensures fixed { C.fixed site.new ≡ C.fixed site.old }
 {
     for line in lines {
@@ -92,6 +117,11 @@ pub(crate) fn replay<C: Commands, S: Alter>(
     ensures edits { HasCleanDisk (state S.Store log.new) → OnOk result
         (AreEdits C.edits (lines_left S.Store log.old first)) }
     ensures fault { IfErr result (λ fault. fault ≢ OtherProgram) }
+    ensures cause { HasCleanDisk (state S.Store log.new) → IsOpen S.Store log.old
+        → IfErr result (IsReplayFault (C.steps (C.fixed site.old)) (C.replies (C.fixed site.old))
+        C.keeps (IsCaused (state S.Store log.old) (state S.Store log.new)
+        (Unread 1 (lines_left S.Store log.old first))) (C.state site.old)
+        (lines_left S.Store log.old first)) }
     ensures fixed { C.fixed site.new ≡ C.fixed site.old }
     ensures opened { HasCleanDisk (state S.Store log.new) → OnOk result (IsOpen S.Store log.new) }
     ensures same { IsOpen S.Store log.new
@@ -109,5 +139,5 @@ pub(crate) fn replay<C: Commands, S: Alter>(
         redo_all(site, &mut count, &batch.lines)?;
         place = batch.next;
     }
-    Err(StartFault::Log(LogFault::Damaged))
+    Err(StartFault::Log(LogFault::NumbersUsedUp))
 }

@@ -14,13 +14,15 @@ use Rattle.template_trees.specs.declared.tree.Template.{Template}
 abbrev pub Texts : Type 0
 Texts = List (Text × Text)
 
--- the options, the templates and the names of the active plugins, as a request finds them
+-- the stored options, by name
 abbrev pub options_of : Rows → Texts
 options_of rows = entries rows.options
 
+-- the stored templates, by name
 abbrev pub templates_of : Rows → Texts
 templates_of rows = entries rows.templates
 
+-- the active names
 abbrev pub active_of : Rows → List Text
 active_of rows = keys rows.active
 

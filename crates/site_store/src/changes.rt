@@ -135,7 +135,7 @@ impl SiteStore {
     }
 }
 
-/// Returns whether it depends on this option what paths find. No other option changes that.
+/// Returns whether this option affects what paths find. No other option does.
 fn decides_what_is_found(name: &str) -> bool
     ensures { result ≡ decides_what_is_found name.now }
 {

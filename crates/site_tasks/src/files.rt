@@ -8,6 +8,7 @@ ghost use Rattle.sqlite.specs.Recovery.{Image};
 ghost use Rattle.sqlite.specs.View.{IsClean};
 ghost use Rattle.sqlite.specs.WalFiles.{image_at};
 
+use crate::file_ids::WhileThere;
 use crate::status::{failed, failed_at, not_started};
 use byte_io::Source;
 use command_log::{CommandLog, LogFault};
@@ -20,6 +21,9 @@ use sqlite::{FileFrom, FileStore, Start, Wary};
 use sqlite_disk::Disk;
 use std::alloc::Global;
 use std::process::ExitCode;
+
+/// Why serving ends before the input if the file was removed or replaced.
+const FILE_IS_GONE: &str = "the file or its log was removed or replaced while it was in use";
 
 /// What is left of a file and of the client's end after the file was served.
 #[derive(Drop)]
@@ -124,22 +128,29 @@ pub fn serve_file<C: Commands, S: Start, R: Source, W: Steady + Drop, V: Watch>(
 
 /// Serves a file as [`serve_file`] does, and returns the program's exit status. What was committed is
 /// then copied into the database file, which has the history by itself from then on. If the disk has
-/// no room for that, the file and its log have it together, as before.
+/// no room for that, the file and its log have it together, as before. Serving ends once the file or
+/// its log is removed or replaced.
 ///
 /// A line on standard error says why a start was refused, or why serving ended before the input.
-pub fn serve_path<C: Commands, R: Source, W: Steady + Drop, V: Watch>(
+pub fn serve_path<C: Commands, R: Source + Drop, W: Steady + Drop, V: Watch>(
     rt: &HostRuntime,
     path: &str,
     site: &mut C,
     identity: &str,
-    reader: &mut R,
+    reader: R,
     sink: W,
     watch: &mut V,
 ) -> ExitCode
-    requires reader { R.has_failed reader.old ≡ false }
     requires sink { W.has_failed sink ≡ false }
 {
-    match serve_file(rt, path, Wary, site, identity, reader, sink, watch) {
+    let Ok(mut reader) = WhileThere::new(rt, path, reader) else {
+        return failed(rt, ServeFault::OutOfMemory);
+    };
+    let served = serve_file(rt, path, Wary, site, identity, &mut reader, sink, watch);
+    if reader.is_gone() {
+        return failed_at(rt, path, FILE_IS_GONE);
+    }
+    match served {
         Ok(served) => finish(rt, served),
         Err((fault, _files)) => not_started(rt, path, fault),
     }

@@ -15,18 +15,21 @@ pub fn export<C: Commands>(rt: &HostRuntime, site: &mut C, identity: &str, path:
         Ok(log) => log,
         Err((fault, _log)) => return not_started(rt, path, fault),
     };
-    match site.short_history() {
-        Ok(lines) if print_lines(rt, &lines).is_err() => failed(rt, ServeFault::Write),
-        Ok(_) => match summary_of(&mut log) {
-            Ok(summary) => {
-                let _ = eprintln!(rt; "site: {path}: {summary}");
-                ExitCode::SUCCESS
-            }
-            Err(fault) => failed_at(rt, path, fault),
-        },
-        Err(Refusal::OutOfMemory) => failed(rt, "out of memory"),
-        Err(_) => failed(rt, "store failed"),
+    let lines = match site.short_history() {
+        Ok(lines) => lines,
+        Err(Refusal::OutOfMemory) => return failed(rt, "out of memory"),
+        Err(_) => return failed(rt, "store failed"),
+    };
+    // Nothing is printed of a history that cannot be counted.
+    let summary = match summary_of(&mut log) {
+        Ok(summary) => summary,
+        Err(fault) => return failed_at(rt, path, fault),
+    };
+    if print_lines(rt, &lines).is_err() {
+        return failed(rt, ServeFault::Write);
     }
+    let _ = eprintln!(rt; "site: {path}: {summary}");
+    ExitCode::SUCCESS
 }
 
 /// Writes lines to standard output.

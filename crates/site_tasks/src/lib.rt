@@ -5,6 +5,7 @@
 //! failed. What carries out the lines is any [`Commands`](site_serving::Commands).
 #![tactic(auto)]
 
+mod file_ids;
 mod files;
 mod history;
 mod status;

@@ -17,13 +17,17 @@ pub(crate) fn failed_at(rt: &HostRuntime, what: &str, fault: impl Display + Drop
 }
 
 /// Says on standard error why a site was not started from a file. A log beside the file that is
-/// damaged is named: it is that file which has to be kept as it is.
+/// damaged or does not belong to it is named: it is that file which has to be kept as it is.
 pub(crate) fn not_started(rt: &HostRuntime, path: &str, fault: StartFault) -> ExitCode {
     match fault {
         StartFault::Log(LogFault::DamagedTail { commits, following }) => {
             let _ = eprintln!(rt;
                 "site: {path}-wal is damaged after commit {commits}; {following} bytes follow"
             );
+            ExitCode::from(1)
+        }
+        StartFault::Log(LogFault::OlderLog) => {
+            let _ = eprintln!(rt; "site: {path}-wal is older than {path}, or another file's");
             ExitCode::from(1)
         }
         fault => failed_at(rt, path, fault),

@@ -27,6 +27,7 @@ use Rattle.template_parts.specs.declared.moves.Stop.TheVariants as stop
 use Rattle.template_parts.specs.Pages.{Work, Placed, print_text, each, item_pass, placed_pass, page_pass}
 use Rattle.template_parts.specs.Places.{item_at, post_at, items_left}
 
+-- a value as it is printed: unchanged, or escaped
 abbrev pub shown_as : Shown → Text → Text
 shown_as shown.Plain text = text
 shown_as shown.HtmlEscaped text = html_escaped text

@@ -90,6 +90,7 @@ module _ (engine : Engine) (settings : Settings) where
   tag_pass post world tag.WpHead = action_pass world (codes "wp_head")
   tag_pass post world tag.WpFooter = action_pass world (codes "wp_footer")
 
+  -- the printing of an item: a text, a tag or an action
   unfoldable pub item_pass : Option Post → World → Item → Work
   item_pass post world (item.Text text) = print_text world text
   item_pass post world (item.Tag tag) = tag_pass post world tag
@@ -124,10 +125,12 @@ module _ (settings : Settings) where
   part_items part.Footer = item.Action (codes "get_footer") ∷ stored_part_items settings.footer
   part_items part.Content = stored_part_items settings.content
 
+  -- the items of an element: itself, or those of a part
   abbrev pub element_items : Element → List Item
   element_items (element.Item item) = item ∷ []
   element_items (element.Part part) = part_items part
 
+  -- the items of a list of elements
   abbrev pub elements_items : List Element → List Item
   elements_items elements = flat_map element_items elements
 
@@ -136,6 +139,7 @@ module _ (settings : Settings) where
   loop_items body otherwise [] = over None (elements_items otherwise)
   loop_items body otherwise (post ∷ posts) = flat_map (λ p. over (Some p) (elements_items body)) (post ∷ posts)
 
+  -- the items of a node: those of an element, or of a loop over the posts
   abbrev pub node_items : List Post → Node → List Placed
   node_items posts (node.Element element) = over None (element_items element)
   node_items posts (node.Loop body otherwise) = loop_items body otherwise posts

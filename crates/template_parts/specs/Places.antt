@@ -22,28 +22,34 @@ use Rattle.template_parts.specs.declared.place.ItemPlace.TheVariants as place
 use Rattle.template_parts.specs.declared.steps.Step.{Step}
 use Rattle.template_parts.specs.Pages.{Placed, over}
 
+-- the item that an element is, if it isn't a part
 abbrev pub element_item : Element → Option Item
 element_item (element.Item item) = Some item
 element_item (element.Part part) = None
 
+-- the item that a node is, if it isn't a part or a loop
 abbrev pub node_item : Node → Option Item
 node_item (node.Element element) = element_item element
 node_item (node.Loop body otherwise) = None
 
+-- the elements on one side of a loop
 abbrev pub elements_in : Side → Node → Option (List Element)
 elements_in side (node.Element element) = None
 elements_in side.Body (node.Loop body otherwise) = Some body
 elements_in side.Otherwise (node.Loop body otherwise) = Some otherwise
 
+-- the template of a part
 abbrev pub template_of : Settings → Part → Option Template
 template_of settings part.Header = settings.header
 template_of settings part.Footer = settings.footer
 template_of settings part.Content = settings.content
 
+-- the post at a place, if a place is given
 abbrev pub post_at : List Post → Option ℕ → Option Post
 post_at posts post = option_and_then (slice_get posts) post
 
 module _ (settings : Settings) where
+  -- the item at a place of a template
   abbrev pub stored_item : TreePlace → Option Item
   stored_item (stored.Node at) = option_and_then node_item (slice_get settings.template.nodes at)
   stored_item (stored.Element node side at) =
@@ -51,6 +57,7 @@ module _ (settings : Settings) where
       (option_and_then (elements_in side) (slice_get settings.template.nodes node))
   stored_item (stored.Part part at) = option_and_then (λ template. option_and_then node_item (slice_get template.nodes at)) (template_of settings part)
 
+  -- the item at a place of a page
   abbrev pub item_at : ItemPlace → Option Item
   item_at (place.Hook hook) = Some (item.Action (core_name hook))
   item_at (place.Stored stored) = stored_item stored

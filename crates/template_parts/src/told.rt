@@ -50,8 +50,8 @@ impl OpenPage {
         }
     }
 
-    /// Returns for each step of the page, those that are done included, the ID of the post that it
-    /// is about, if it is about one.
+    /// Returns the ID of the post of each step of the page, finished steps included, or `None` for a
+    /// step without a post.
     pub fn posts_of_steps(&self) -> Result<Vec<Option<u32>>, AllocError>
         ensures { IfOk result (λ ids. ArePostsOfSteps self.now ids.items) }
     {

@@ -166,11 +166,12 @@ item_bytes (item.Text text) = length text
 item_bytes (item.Tag word) = 0
 item_bytes (item.Action hook) = 0
 
--- and of those in an element, and in a node
+-- and of those in an element
 abbrev pub element_bytes : Element → ℕ
 element_bytes (element.Item one) = item_bytes one
 element_bytes (element.Part called) = 0
 
+-- the number of bytes of a node's texts
 abbrev pub node_bytes : Node → ℕ
 node_bytes (node.Element one) = element_bytes one
 node_bytes (node.Loop body otherwise) = sum_by element_bytes body + sum_by element_bytes otherwise

@@ -35,6 +35,7 @@ from random import Random
 from typing import Any
 
 from geanmarbles.arguments import Parser
+from geanmarbles.checks.browse.browsing import take_interrupts
 from geanmarbles.checks.cluster.processes import free_port
 from geanmarbles.checks.judging import Counts, Skipped, must
 from geanmarbles.checks.programs import missing
@@ -397,7 +398,7 @@ def shows_on_nodes(press: str, _site: str, _options: argparse.Namespace) -> None
         commands.write_text(joined([*SNIPPETS, POST]), encoding="utf-8")
         words = [str(EXAMPLES / "cluster/three"), "--program", press, "--port", str(port), str(commands)]
         with open(Path(folder, "said"), "w+", encoding="utf-8") as said:
-            nodes = subprocess.Popen(words, stdout=said, stderr=said)
+            nodes = subprocess.Popen(words, stdout=said, stderr=said, preexec_fn=take_interrupts)
             try:
                 end = time.monotonic() + SECONDS
                 pages: list[str | None] = []

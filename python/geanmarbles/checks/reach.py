@@ -29,6 +29,8 @@ REASONS = HERE / "reasons.txt"
 SYMBOLS, FUNCTION = 2, 2
 TYPE = re.compile(r"^(?:pub(?:\([a-z]+\))? )?(?:struct|enum|trait) (\w+)", re.M)
 IMPL = re.compile(r"impl(?:<[^>]*>)? (?:(\w+)(?:<[^>]*>)? for )?(\w+)")
+# An `impl` for some instances of a type alone, as of a `Log<FileStore<D>>`.
+OF_INSTANCES = re.compile(r"impl(?:<[^>]*>)? \w+<\w+<")
 PUBLIC = re.compile(r"( *)pub (?:const )?fn (\w+)")
 CHANGES = re.compile(r"^function: *(\S+)", re.M)
 
@@ -57,7 +59,8 @@ def module_of(file: Path, source: Path) -> str:
 
 
 def public_functions(crate: str) -> Iterator[str]:
-    """The public functions of a crate, by their paths: a method's is that of its type, wherever its `impl` is."""
+    """The public functions of a crate, by their paths: a method's is that of its type, wherever its `impl` is, but for
+    one of some instances of the type alone, whose path is that of the `impl`."""
     source = ROOT / "crates" / crate / "src"
     texts = {module_of(it, source): it.read_text(encoding="utf-8") for it in source.rglob("*.rt")}
     homes = {name: module for module, text in texts.items() for name in TYPE.findall(text)}
@@ -71,7 +74,7 @@ def public_functions(crate: str) -> Iterator[str]:
             public = PUBLIC.match(line)
             if public:
                 name = owner[2] if owner and public[1] else None
-                home = homes.get(name, module)
+                home = module if owner and OF_INSTANCES.match(owner.string) else homes.get(name, module)
                 yield "::".join(it for it in (crate, home if home != "lib" else None, name, public[2]) if it)
 
 

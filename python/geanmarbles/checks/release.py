@@ -20,6 +20,7 @@ from pathlib import Path
 from typing import Any, NamedTuple
 
 from geanmarbles.checks import bare
+from geanmarbles.checks.browse.browsing import take_interrupts
 from geanmarbles.checks.links.planted import copy_to
 from geanmarbles.checks.programs import executable, missing, without_toolchain
 from geanmarbles.checks.judging import Skipped, must
@@ -161,7 +162,7 @@ class Place(NamedTuple):
         """examples/browse shows the bakery."""
         words = self.words([self.root / "examples/browse", "--port", "0"])
         how: dict[str, Any] = {"env": self.env, "stdout": subprocess.PIPE, "stderr": subprocess.DEVNULL, "text": True}
-        with subprocess.Popen(words, **how) as child:
+        with subprocess.Popen(words, preexec_fn=take_interrupts, **how) as child:
             try:
                 line = child.stdout.readline() if child.stdout else ""
                 found = re.search(r"http://127\.0\.0\.1:\d+/", line)

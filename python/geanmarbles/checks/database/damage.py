@@ -28,6 +28,7 @@ PATHS = ("/", "/?p=1", "/?p=7", "/?p=30")
 # A log: its header, the header of each frame, and where a frame has its gate. A page is as large as the file says.
 HEADER, FRAME, GATE, SALT = 32, 24, 8, 16
 DAMAGED = re.compile(r"-wal is damaged after commit \d+; \d+ bytes follow\n")
+OLDER = re.compile(r"-wal is older than .*, or another file's\n")
 Change = Callable[[Path, Random], str]
 
 
@@ -97,7 +98,7 @@ def check_refusal(copy: Path, said: str, written: bytes, before: tuple[bytes, by
     """A start was refused by name and wrote nothing: FILE is as it was, and FILE-wal too if that is what is damaged."""
     begin = f"site: {copy}"
     is_named = said.startswith(begin) and said.count("\n") == 1
-    is_of_a_log = DAMAGED.fullmatch(said[len(begin) :]) is not None
+    is_of_a_log = any(it.fullmatch(said[len(begin) :]) for it in (DAMAGED, OLDER))
     if written or not is_named or not (is_of_a_log or said[len(begin) :].startswith(": ")):
         raise Wrong(f"it wrote {shown(written)} and said {said!r}")
     if copy.read_bytes() != before[0] or (is_of_a_log and log_of(copy).read_bytes() != before[1]):

@@ -10,7 +10,7 @@ from random import Random
 from typing import NamedTuple
 
 from geanmarbles.checks.database.clients import Cases, Client, check_end, over, put, run, same_pages
-from geanmarbles.checks.database.damage import check_refusal
+from geanmarbles.checks.database.damage import FRAME, HEADER, OLDER, SALT, check_refusal
 from geanmarbles.checks.database.files import copied, found_by_sqlite, history, log_of
 from geanmarbles.client.replies import Wrong
 
@@ -19,8 +19,18 @@ MOMENTS, PAIRS = 24, 20
 PATHS = ("/", "/?p=1", "/?p=9", "/?p=60")
 # The most bytes of a log that has no commit: its header, and the begin of a frame.
 EMPTY = 41
+# The size of a page, as a new file has it.
+PAGE = 4_096
 # Sizes of contents: one is larger than a page of the file.
 SIZES = (10, 300, 5_000)
+
+
+def database_of(log: bytes) -> int:
+    """How large the last commit in a log leaves the database: its frames are those with the header's salt."""
+    frames = range(HEADER, len(log) - FRAME - PAGE + 1, FRAME + PAGE)
+    of_log = (log[at : at + FRAME] for at in frames if log[at + 8 : at + 16] == log[SALT : SALT + 8])
+    sizes = [int.from_bytes(frame[4:8]) for frame in of_log]
+    return PAGE * next((size for size in reversed(sizes) if size), 0)
 
 
 class Moment(NamedTuple):
@@ -82,10 +92,16 @@ class Mixed:
             shutil.copyfile(log_of(log.file), log_of(copy))
             before = copy.read_bytes(), log_of(copy).read_bytes()
             ran = run(self.program, b"", *over(copy))
+            is_longer = 0 < database_of(before[1]) < len(before[0])
             if ran.returncode == 1:
-                check_refusal(copy, ran.stderr.decode(errors="replace"), ran.stdout, before)
+                said = ran.stderr.decode(errors="replace")
+                check_refusal(copy, said, ran.stdout, before)
+                if is_longer != (OLDER.fullmatch(said.removeprefix(f"site: {copy}")) is not None):
+                    raise Wrong(f"FILE is {'longer' if is_longer else 'no longer'} than its log says: {said!r}")
                 self.counts["refused"] += 1
                 return
+            if is_longer:
+                raise Wrong("FILE is longer than its log says, and isn't refused")
             check_end((ran.returncode, ran.stderr), 0, b"")
             found = history(copy)
             if not any(found == site.whole[: len(found)] for site in (self.one, self.other)):

@@ -152,9 +152,9 @@ def refuses_a_second_program(program: str, folder: str) -> None:
 
 
 def refuses_what_it_cannot_open(program: str, folder: str) -> None:
-    """Folders, files in folders that aren't there, the name of a database in memory, and files with a second name."""
+    """Folders, files in folders that aren't there, SQLite's names for other things, and files with a second name."""
     refuses_in_every_way(program, Path(folder), CANNOT_OPEN)
-    for file in (Path(folder, "none", "site.db"), Path(":memory:")):
+    for file in (Path(folder, "none", "site.db"), Path(":memory:"), Path("file:site.db")):
         for words in WAYS[:-1]:
             refuses(program, file, CANNOT_OPEN, *words)
         refuses(program, file, "there is no such file", *WAYS[-1])

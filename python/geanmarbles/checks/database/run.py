@@ -23,12 +23,15 @@ reads a copy of FILE and FILE-wal. The parts, in this order, or one of them with
 - damage: one byte of FILE-wal turned, 500 times, and of FILE; FILE-wal cut, 100 times, or overwritten: a start is
   refused by name and writes nothing, or has all of the history;
 - mixed: FILE of one moment and FILE-wal of another, of one site and of two: a start is refused, or has a site as it was
-  at a moment. That isn't the newer one of the two only if both are of one moment, if FILE-wal has no commit, or if it
-  is of a moment before FILE's, or of another site; how often is printed;
+  at a moment. That isn't the newer one of the two only if both are of one moment, if FILE-wal has no commit, or if its
+  last one leaves the database no shorter than FILE and it is of a moment before FILE's, or of another site; how often
+  is printed;
 - salvage: examples/salvage over files with a line that was changed, a page that was overwritten, a log that was turned
   or cut, and over sound ones: a front of the edits is saved, what is left is told, and the files stay as they are;
 - check: --check and --export tell how many edits a file has, and their digest, as Python's hashlib finds it; files that
   are refused are left as they are; and the mode of new files;
+- replaced: FILE or FILE-wal is removed or replaced while the program has it: the program ends by name at the next line,
+  which isn't carried out;
 - readme: the README's own example, with its `kill -9`;
 - kills: N rounds, 500 if N is left out, made within two minutes: SIGKILL at a random moment of serving a client that
   waits for its replies, or one that sends chunks, of a start, or of a --compact. Each time all edits that were
@@ -57,6 +60,7 @@ from geanmarbles.checks.database import (
     readers,
     readme,
     refused,
+    replaced,
     self_test,
 )
 from geanmarbles.checks.judging import Cases, Counts
@@ -74,6 +78,7 @@ PARTS: dict[str, ModuleType] = {
     "mixed": damage_mixed,
     "salvage": damage_salvaged,
     "check": damage_checked,
+    "replaced": replaced,
     "readme": readme,
     "kills": kills,
 }

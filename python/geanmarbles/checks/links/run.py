@@ -24,7 +24,7 @@ other name with an underscore that these pages have is in the crate itself, in o
 the same paragraph or row names.
 
 docs/INDEX.md, docs/THEOREM.md and what is made in docs/ARCHITECTURE.md are what tools/index makes now, and each
-definition in THEOREM has a sentence. The functions that README.md names with clauses have them, and it has no more than
+definition in THEOREM has a comment. The functions that README.md names with clauses have them, and it has no more than
 190 lines. Each edit that docs/BEHAVIOUR.md names changes a function that the program reaches, or a law.
 
 No line of text is longer than 120 columns, and none ends early in the middle of a paragraph; the glossary has each word
@@ -321,14 +321,12 @@ def said_by(script: Path) -> str:
 
 
 def check_made(checks: Checks) -> None:
-    """The pages that are made of the sources are up to date, and a sentence says what each definition there is."""
+    """The pages that are made of the sources are up to date, and a comment says what each definition there is."""
     other = index.stale()
     for page in index.pages():
         checks.check(page not in other, page, "isn't what tools/index makes of the sources: run it")
-    for name in theorem.without_sentence():
-        checks.check(
-            False, theorem.PAGE, f"{name} has no sentence, or one besides its comment: SENTENCES in theorem.py"
-        )
+    for name in theorem.without_comment():
+        checks.check(False, theorem.PAGE, f"no comment says what {name} is")
 
 
 def check_wrong_bodies(checks: Checks, text: str) -> None:

@@ -1,14 +1,20 @@
 """Edits whose verdicts are known, of a crate made for them: the runner must tell what refuses an edit, and try it again
 just when something that the refusal rests on has changed."""
 
+import json
+import re
+import subprocess
 import tempfile
 from collections.abc import Callable, Iterable, Iterator, Mapping, Sequence
 from pathlib import Path
 
 from geanmarbles.checks.wrong_bodies.checks import Toolchain
 from geanmarbles.checks.wrong_bodies.edits import Edit, read_edits
+from geanmarbles.checks.wrong_bodies.exports import files_of
+from geanmarbles.checks.wrong_bodies.reading import read_of
 from geanmarbles.checks.wrong_bodies.record import Record, try_and_record
 from geanmarbles.checks.wrong_bodies.rounds import Verdict
+from geanmarbles.paths import ROOT
 from geanmarbles.repository.toolchain import Crate
 
 FILES = {
@@ -168,12 +174,13 @@ def changed(path: Path, old: str, new: str) -> None:
 def changes_are_noticed(toolchain: Toolchain, crate: Crate, path: Path) -> Iterator[Verdict]:
     """Whether a refusal that the record at a path has isn't tried again, and is once something that it rests on has
     changed: a body of the crate, a contract of the library below, the edit itself or the toolchain's logic. Neither a
-    body below nor the rest of the kit is anything that it rests on."""
+    comment, nor a body below, nor the rest of the kit is anything that it rests on."""
     folder, below = Path(crate.folder), Path(crate.below()[0].folder)
     edit, kit = folder / "wrong-bodies/counts_two.edit", [toolchain.identity]
     other_kit = b"another-kit" + kit[0][kit[0].index(b" logic ") :]
     changes: list[tuple[bool, str, Callable[[], object]]] = [
         (False, "and isn't tried again", lambda: None),
+        (False, "after a change of a comment", lambda: changed(folder / "src/lib.rt", "/// The third", "/// A third")),
         (True, "after a change of another body", lambda: changed(folder / "src/lib.rt", "1 + last", "last + 1")),
         (False, "after a change of a body below", lambda: changed(below / "src/lib.rt", "1 + u32", "0 + 1 + u32")),
         (True, "after a change of a contract below", lambda: changed(below / "src/lib.rt", "≡ n + 1", "≡ 1 + n")),
@@ -191,8 +198,36 @@ def changes_are_noticed(toolchain: Toolchain, crate: Crate, path: Path) -> Itera
         yield Verdict(well, "self-test: a refusal is recorded", f"{what}{', tried again' if again else ''}")
 
 
+def as_one(texts: Iterable[str]) -> str:
+    """Tokens written as the toolchain and the sums both have them: one splits more, and has no quotes round a name."""
+    return re.sub(r"[\s«»]", "", "".join(texts))
+
+
+def readings_agree(toolchain: Toolchain) -> Verdict:
+    """Whether the sums have of each file of the repository's crates just what the toolchain says that a check reads."""
+    files = [it for crate in toolchain.crates(ROOT) for it in files_of(crate.folder)]
+    words = [toolchain.rtlib.RATTLE, "fmt", "--tokens", *(str(path) for path, _ in files)]
+    said = subprocess.run(words, capture_output=True, encoding="utf-8", check=False)
+    read = [
+        as_one(json.loads(row.split(" ", 4)[4]) for row in rows.splitlines())
+        for rows in re.split(r"(?m)^file \d+\n", said.stdout)[1:]
+    ]
+    what = "self-test: what a check reads"
+    if said.returncode or len(read) != len(files):
+        return Verdict(False, what, f"the toolchain doesn't say: {said.stderr.strip()}")
+    other = [
+        str(path.relative_to(ROOT))
+        for (path, text), theirs in zip(files, read)
+        if as_one(it.text for it in read_of(text, path.suffix)) != theirs
+    ]
+    return Verdict(
+        not other, what, f"other in {', '.join(other)}" if other else f"is in the sums of {len(files)} files"
+    )
+
+
 def self_test(toolchain: Toolchain) -> Iterator[Verdict]:
     """Whether the runner's verdicts and its record are the right ones."""
+    yield readings_agree(toolchain)
     with tempfile.TemporaryDirectory(prefix="wrong-bodies-sample-") as room:
         path = Path(room, "refused.txt")
         crate = sample_in(toolchain, f"{room}/one")

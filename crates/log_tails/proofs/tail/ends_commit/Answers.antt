@@ -1,17 +1,5 @@
-use Rattle.std.proofs.Common.{◌≡◌, ◌+◌, ℕ, List, length, sym, ap, ◌∙◌, rules, arith}
-use Rattle.sqlite_disk.specs.Disk.{Holds}
-use Rattle.sqlite_wal.specs.Format.{be32, commit_size}
-use Rattle.sqlite_wal.specs.Recovery.{frame, frame_at}
-use Rattle.log_tails.proofs.Reading.{read_size, is_some}
+use Rattle.log_tails.proofs.Reading.{is_some}
 use Rattle.log_tails.proofs.tail.ends_commit.Goals as goal
 
 pub returns-clause-ends : goal.returns-clause-ends
-returns-clause-ends g c clean =
-    let file = g.D.Disk.seen c.args.log.now in
-    let at : c.frame_offset.result ≡ frame_at c.args.page_size c.args.i = c.frame_offset.ensures.at in
-    let len : length c.read_at.new.buf ≡ 4 = search rules in
-    let holds : Holds file (frame_at c.args.page_size c.args.i + 4) c.read_at.new.buf =
-    rw (← at) (c.in_ok-read_at.ensures.read clean (omega arith)) in
-    let size : c.get_be32.result ≡ commit_size (frame c.args.page_size file c.args.i) =
-    c.get_be32.ensures ∙ read_size c.args.page_size file c.args.i c.read_at.new.buf holds len in
-    is_some _ _ size
+returns-clause-ends g c clean = is_some _ _ (c.in_ok-pages_of.ensures.pages clean)

@@ -31,5 +31,6 @@ returns-else-is_signed-clause-tail g c clean =
       commits = tail.ensures.commits;
       bytes = tail.ensures.bytes;
       following = tail.ensures.following ∙ long;
+      database = tail.ensures.database;
       whole = subst (λ (b : Bool). (IsTrue b → IsBegun file) × (IsBegun file → IsTrue b)) (sym tail.ensures.whole) test;
     })

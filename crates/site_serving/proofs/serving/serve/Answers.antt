@@ -37,7 +37,7 @@ chunks-preserved g c =
       recorded = Records-trans _ _ _ _ _ _ _ _ _ _ _ _ _ _ _ _ i.recorded records;
       line = ok.line;
       room = ok.room;
-      settled = λ start. ok.settled (i.settled start);
+      settled = λ start. ok.settled (λ e. absurd (cc)) (i.settled start);
       reader_sound = search rules;
       writer_sound = search rules;
       fixed = ok.fixed ∙ i.fixed;
@@ -62,6 +62,9 @@ returns-in-Err-clause-ahead g c =
 
 pub returns-in-Err-clause-front : goal.returns-in-Err-clause-front
 returns-in-Err-clause-front g c = c.chunks.invariant.recorded.out.front
+
+pub returns-in-Err-clause-settled : goal.returns-in-Err-clause-settled
+returns-in-Err-clause-settled g c = λ other start. c.chunks.invariant.settled start
 
 -- ---- a fault at a line that ends in a chunk
 
@@ -97,6 +100,12 @@ returns-in_err-take_chunk-clause-front g c =
     (Fails-from g.W.Journal g.C.Commands.keeps g.C.Commands.replies _ _ i.fixed _ _ _ _ _ _ (err.fails (ap Err is))))
     (λ other. Halts-after _ _ _ _ _ _ _ _ _ _ _ _ _ _ _ _ i.recorded
     (Halts-from g.W.Journal g.C.Commands.keeps g.C.Commands.replies _ _ i.fixed _ _ _ _ _ _ _ _ (err.halts other)))
+
+pub returns-in_err-take_chunk-clause-settled : goal.returns-in_err-take_chunk-clause-settled
+returns-in_err-take_chunk-clause-settled g c =
+    let err = c.in_err-take_chunk.ensures in
+    let p = err_from_is_err_and c.from_residual.result c.from_residual.ensures.1 in
+    rw (p.1, p.2) (λ other start. err.settled other (c.chunks.invariant.settled start))
 
 -- ---- the last line failed
 
@@ -139,6 +148,11 @@ returns-in_err-serve_last-clause-front g c =
     let handled = Handles-from g.W.Journal g.C.Commands.keeps g.C.Commands.replies _ _ i.fixed _ _ _ _ _ _ err.handled in
     let failed = failed_at_last _ _ _ _ _ _ _ _ _ _ _ _ _ _ _ _ read end i.recorded i.line c.deref.ensures.value some (i.room some) handled in
     failed.out.front
+
+pub returns-in_err-serve_last-clause-settled : goal.returns-in_err-serve_last-clause-settled
+returns-in_err-serve_last-clause-settled g c =
+    let p = err_from_is_err_and c.from_residual-in_err-serve_last.result c.from_residual-in_err-serve_last.ensures.1 in
+    rw (p.1, p.2) (λ other. absurd (other (ap Err c.in_err-serve_last.ensures.fault)))
 
 -- ---- the input was read to its end
 
@@ -229,6 +243,6 @@ pub returns-clause-settled : goal.returns-clause-settled
 returns-clause-settled g c =
     let i = c.chunks.invariant in
     elim c.if-not-is_empty.branch [
-      | then-not-is_empty+in_ok-serve_last w ↦ λ start. rw w.writer-is (w.in_ok-serve_last.ensures.settled (i.settled start).opened)
-      | else-not-is_empty w ↦ λ start. rw w.writer-is (i.settled start)
+      | then-not-is_empty+in_ok-serve_last w ↦ λ other start. rw w.writer-is (w.in_ok-serve_last.ensures.settled (i.settled start).opened)
+      | else-not-is_empty w ↦ λ other start. rw w.writer-is (i.settled start)
     ]

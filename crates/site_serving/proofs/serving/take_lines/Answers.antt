@@ -101,6 +101,14 @@ returns-in_err-finish_line-clause-halts g c =
     let recorded = Records-held _ _ _ _ _ _ _ _ _ _ _ _ _ i.recorded i.whole in
     halts_here _ _ _ _ _ _ _ _ _ _ _ _ _ _ (ap g.C.Commands.state kept.0) kept.1 recorded memory some)
 
+pub returns-in_err-finish_line-clause-idle : goal.returns-in_err-finish_line-clause-idle
+returns-in_err-finish_line-clause-idle g c =
+    let err = c.in_err-finish_line.ensures in
+    let p = err_from_is_err_and c.from_residual.result c.from_residual.ensures.1 in
+    rw (p.1, p.2) (λ e other.
+    let memory = other_than_write err.only (λ is. other (ap Err is)) in
+    (err.memory (ap Err memory)).1 ∙ c.loop-end.invariant.idle e)
+
 pub returns-in_err-finish_line-clause-fails : goal.returns-in_err-finish_line-clause-fails
 returns-in_err-finish_line-clause-fails g c =
     let i = c.loop-end.invariant in
@@ -135,7 +143,7 @@ returns-clause-halts g c =
     IfErr-weaker c.hold.result _ _ (λ fault is other. rw is (held ++ rest, Records-held _ _ _ _ _ _ _ _ _ _ _ _ _ i.recorded i.whole, some)) c.hold.ensures.err
 
 pub returns-clause-idle : goal.returns-clause-idle
-returns-clause-idle g c = λ e. on_every_ok c.hold.result (c.loop-end.invariant.idle e)
+returns-clause-idle g c = λ e other. c.loop-end.invariant.idle e
 
 pub returns-clause-line : goal.returns-clause-line
 returns-clause-line g c =

@@ -1,4 +1,4 @@
-use Rattle.std.proofs.Common.{sym, subst}
+use Rattle.std.proofs.Common.{refl, sym, subst}
 use Rattle.sqlite.specs.Files.{over_files}
 use Rattle.sqlite.specs.WalFiles.{image_at}
 use Rattle.command_log.specs.Found.{Finds}
@@ -25,3 +25,16 @@ pub returns-in-Err-start-clause-survives : goal.returns-in-Err-start-clause-surv
 returns-in-Err-start-clause-survives g c =
     left_by_start (image_at g.S.Start) c.args.identity.now c.in-Ok.log c.start.new.log c.in-Ok.ensures.opened c.law_left_by_a_crash.ensures.holds
     c.start.ensures.survives (λ up. record { each = c.in-Ok.ensures.found up; one = c.in-Ok.ensures.read up })
+
+-- a start from the lines that were found failed
+pub returns-in-Err-start-clause-cause : goal.returns-in-Err-start-clause-cause
+returns-in-Err-start-clause-cause g c = λ clean.
+    let up = c.in-Ok.ensures.opened (clean_before over_files c.in-Ok.log c.start.new.log _ c.start.ensures.survives clean) in
+    record {
+      opened = c.in-Ok.log;
+      held = record { each = c.in-Ok.ensures.found up; one = c.in-Ok.ensures.read up };
+      cause = c.in-Err-start.ensures.cause clean up;
+    }
+
+pub returns-in-Err-clause-unopened : goal.returns-in-Err-clause-unopened
+returns-in-Err-clause-unopened g c = (_, refl)

@@ -1,16 +1,18 @@
-use Rattle.std.proofs.Common.{◌≡◌, ◌∙◌, ap, sym, subst, [], drop, take, length, get_or, true, ◌<◌, ◌≤◌}
+use Rattle.std.proofs.Common.{◌≡◌, ◌∙◌, ap, sym, subst, subst₂, refl, inl, inr, [], drop, take, length, get_or, true, ◌<◌, ◌≤◌}
 use Rattle.std.specs.Prelude.{◌∷◌, ◌++◌, OnOk}
 use Rattle.std.specs.String.{string_bytes}
-use Rattle.std.proofs.lemmas.Result.{err_from_is_err_and, on_ok_weaker, on_err_weaker}
+use Rattle.std.proofs.lemmas.Result.{err_from_is_err_and, on_ok_weaker, on_err_weaker, IfErr-weaker}
 use Rattle.std.proofs.lemmas.List.Elements.{All-nil}
 use Rattle.sqlite.specs.Held.{state}
 use Rattle.sqlite.specs.State.{HasCleanDisk}
 use Rattle.sqlite.proofs.StateLemmas.{survives_then}
-use Rattle.command_log.proofs.States.{clean_of}
-use Rattle.command_log.specs.Lines.{IsOpen, KeepsLines, lines_after, lines_in, lines_left, lines_of}
+use Rattle.command_log.proofs.States.{clean_of, on_error}
+use Rattle.command_log.specs.Faults.{IsCaused, Unreadable, Unstorable}
+use Rattle.command_log.specs.Lines.{IsOpen, KeepsLines, lines_after, lines_in, lines_left, lines_of, rows_of}
 use Rattle.site_serving.specs.Served.{state_after}
-use Rattle.site_start.specs.Started.{AreEdits, IsOfAnother, IsTakenOver}
-use Rattle.site_start.proofs.Replaying.{clean_before, first_left, none_left, on_every_err, on_ok_both}
+use Rattle.site_start.specs.Started.{AreEdits, IsOfAnother, IsReplayFault, IsStartFault, IsTakenOver, Unread, Untaken}
+use Rattle.site_start.proofs.Replaying.{clean_before, first_left, none_left, on_every_err, on_ok_both, survives_same}
+use Rattle.site_start.proofs.Stopping.{caused_later, first_stops, later_stops, unread_back, unread_rest}
 use Rattle.site_start.proofs.opening.start.Given.{Over}
 use Rattle.site_start.proofs.opening.start.Goals as goal
 use Rattle.site_start.proofs.opening.start.Goals.{After-drop-first-in-empty, After-drop-first-in_err-introduce-in-len1-up, After-drop-first-2}
@@ -167,3 +169,87 @@ returns-in_err-introduce-in-len1-up-clause-other g c = λ clean.
     let p = err_from_is_err_and c.from_residual-in_err-introduce-in-len1-up.result c.from_residual-in_err-introduce-in-len1-up.ensures.1 in
     rw (p.1, p.2)
     (λ is. subst (IsOfAnother c.args.identity.now) (sym (first_refused g c clean)) (c.in_err-introduce-in-len1-up.ensures.other is))
+
+-- ---- why it failed
+
+pub returns-in_err-first-clause-cause : goal.returns-in_err-first-clause-cause
+returns-in_err-first-clause-cause g c = λ clean up.
+    let store = g.S.Store in
+    let lines = lines_of store c.args.log.now in
+    let left = lines_left store c.args.log.now c.start.result in
+    let same : lines ≡ left = ap (lines_left store c.args.log.now) (sym c.start.ensures) in
+    on_error _ _
+    (caused_later (state store c.args.log.now) (state store c.args.log.now) (state store c.read_batch.new.self) _ (Unreadable left)
+    (Untaken c.args.identity.now lines) (λ f h. inl (unread_back 0 lines [] left same f h)) (survives_same _) _ (c.in_err-first.ensures.cause clean up))
+    c.from_residual.result c.from_residual.ensures.1
+
+pub returns-in_err-introduce-in-empty-clause-cause : goal.returns-in_err-introduce-in-empty-clause-cause
+returns-in_err-introduce-in-empty-clause-cause g c = λ clean up.
+    let store = g.S.Store in
+    let lines = lines_of store c.args.log.now in
+    let identity = c.args.identity.now in
+    let items = c.in_ok-first.first.lines.items in
+    let took = c.in_ok-first.ensures.ok clean ∙ ap (λ place. take 1 (lines_left store c.args.log.now place)) c.start.ensures in
+    let few : length items < 1 = subst (λ xs. length xs < 1) c.as_slice.ensures.value c.in-empty.len_below in
+    let none = none_left string_bytes items lines took few in
+    on_error _ _
+    (first_stops (g.C.Commands.steps (g.C.Commands.fixed c.args.site.now)) (g.C.Commands.replies (g.C.Commands.fixed c.args.site.now)) g.C.Commands.keeps _
+    (g.C.Commands.state c.args.site.now) identity identity lines [] _ (λ other. absurd (other refl))
+    (λ is. subst (λ old. IsTakenOver identity old (identity ∷ [])) (sym none) refl) c.in_err-introduce-in-empty.ensures.cause)
+    c.from_residual-in_err-introduce-in-empty.result c.from_residual-in_err-introduce-in-empty.ensures.1
+
+pub returns-in-empty-clause-cause : goal.returns-in-empty-clause-cause
+returns-in-empty-clause-cause g c = λ clean up.
+    let store = g.S.Store in
+    let lines = lines_of store c.args.log.now in
+    let read = c.in_ok-first.ensures in
+    let early = clean_before store c.read_batch.new.self c.append_first.new.log _ c.append_first.ensures.survives clean in
+    IfErr-weaker c.append_first.result _ _
+    (λ fault it. subst
+    (IsStartFault (g.C.Commands.steps (g.C.Commands.fixed c.args.site.now)) (g.C.Commands.replies (g.C.Commands.fixed c.args.site.now)) g.C.Commands.keeps
+    (IsCaused (state store c.args.log.now) (state store c.append_first.new.log) (Untaken c.args.identity.now lines)) (g.C.Commands.state c.args.site.now)
+    c.args.identity.now lines) (sym it.1)
+    (caused_later (state store c.args.log.now) (state store c.read_batch.new.self) (state store c.append_first.new.log) _
+    (Unstorable (rows_of store c.read_batch.new.self) (c.args.identity.now ∷ []))
+    (Untaken c.args.identity.now lines) (λ f h. inr (none_read g c early, (rows_of store c.read_batch.new.self, h))) read.survives it.0 it.2))
+    (c.append_first.ensures.cause clean (read.stays early))
+
+pub returns-in_err-introduce-in-len1-up-clause-cause : goal.returns-in_err-introduce-in-len1-up-clause-cause
+returns-in_err-introduce-in-len1-up-clause-cause g c = λ clean up.
+    let lines = lines_of g.S.Store c.args.log.now in
+    let identity = c.args.identity.now in
+    let first = c.as_str.result.now in
+    let split = first_refused g c clean in
+    on_error _ _
+    (first_stops (g.C.Commands.steps (g.C.Commands.fixed c.args.site.now)) (g.C.Commands.replies (g.C.Commands.fixed c.args.site.now)) g.C.Commands.keeps _
+    (g.C.Commands.state c.args.site.now) identity first lines (drop 1 lines) _ (λ other. subst (IsOfAnother identity) (sym split) other)
+    (λ is. subst (λ old. IsTakenOver identity old (identity ∷ drop 1 lines)) (sym split) (is, ap (λ text. text ∷ drop 1 lines) (sym is)))
+    c.in_err-introduce-in-len1-up.ensures.cause)
+    c.from_residual-in_err-introduce-in-len1-up.result c.from_residual-in_err-introduce-in-len1-up.ensures.1
+
+pub returns-clause-cause : goal.returns-clause-cause
+returns-clause-cause g c = λ clean up.
+    let store = g.S.Store in
+    let seen = g.C.Commands.state in
+    let steps = g.C.Commands.steps in
+    let replies = g.C.Commands.replies in
+    let fixed = g.C.Commands.fixed c.args.site.now in
+    let lines = lines_of store c.args.log.now in
+    let identity = c.args.identity.now in
+    let first = state store c.args.log.now in
+    let mid = state store c.read_batch.new.self in
+    let new = state store c.replay.new.log in
+    let read = c.in_ok-first.ensures in
+    let intro = c.in_ok-introduce-in-len1-up.ensures in
+    let early = clean_before store c.read_batch.new.self c.replay.new.log _ c.replay.ensures.survives clean in
+    let split = first_read g c early in
+    let taken = subst (λ old. IsTakenOver identity old (identity ∷ drop 1 lines)) (sym split) (intro.same, ap (λ text. text ∷ drop 1 lines) (sym intro.same)) in
+    let made = intro.done ∙ ap (λ text. (steps fixed (seen c.args.site.now) text).0) intro.same in
+    IfErr-weaker c.replay.result _ _
+    (λ fault h. later_stops (steps fixed) (replies fixed) g.C.Commands.keeps (IsCaused first new (Untaken identity lines))
+    (IsCaused mid new (Unread 1 (drop 1 lines))) (seen c.args.site.now) (seen c.introduce-in-len1-up.new.site) identity lines (drop 1 lines) fault
+    (caused_later first mid new _ (Unread 1 (drop 1 lines)) (Untaken identity lines)
+    (λ f h. inl (unread_rest lines (drop 1 lines) c.as_str.result.now split f h)) read.survives) taken made
+    (subst₂ (λ f left. IsReplayFault (steps f) (replies f) g.C.Commands.keeps (IsCaused mid new (Unread 1 left)) (seen c.introduce-in-len1-up.new.site) left fault)
+    intro.fixed (left_after g c early) h))
+    (c.replay.ensures.cause clean (read.stays early))

@@ -1,9 +1,8 @@
-use Rattle.std.proofs.Common.{◌≡◌, ℕ, List, ◌++◌}
+use Rattle.std.proofs.Common.{◌≡◌}
 use Rattle.sqlite.specs.Held.{state}
 use Rattle.sqlite.specs.State.{HasCleanDisk, Survives}
-use Rattle.command_log.specs.Lines.{lines_left}
-use Rattle.site_serving.specs.Served.{state_after}
-use Rattle.site_start.specs.Started.{AreEdits}
+use Rattle.command_log.specs.Lines.{IsOpen, lines_left}
+use Rattle.site_start.proofs.Stopping.{Redone}
 use Rattle.site_start.proofs.replay.replay.Given as goal
 
 -- the lines up to the place were carried out, and the others are left
@@ -11,11 +10,12 @@ abbrev pub invariant-batches : goal.invariant-batches
 invariant-batches g l =
     let store = g.S.Store in
     let seen = g.C.Commands.state in
-    let steps = g.C.Commands.steps (g.C.Commands.fixed l.fn.site) in
+    let under = g.C.Commands.fixed l.fn.site in
     record {
       fixed : g.C.Commands.fixed l.site ≡ g.C.Commands.fixed l.fn.site;
       survives : Survives (state store l.fn.log) (state store l.log) (λ _. ⊥);
       same : HasCleanDisk (state store l.log) → (state store l.log).committed ≡ (state store l.fn.log).committed;
-      done : HasCleanDisk (state store l.log) → (lines : List (List ℕ)) × (lines_left store l.fn.log l.fn.first ≡ lines ++ lines_left store l.log l.place)
-          × (seen l.site ≡ state_after steps (seen l.fn.site) lines) × AreEdits g.C.Commands.edits lines;
+      opened : HasCleanDisk (state store l.log) → IsOpen store l.fn.log → IsOpen store l.log;
+      done : HasCleanDisk (state store l.log) → Redone (g.C.Commands.steps under) (g.C.Commands.replies under) g.C.Commands.keeps g.C.Commands.edits
+          (seen l.fn.site) (seen l.site) (lines_left store l.fn.log l.fn.first) (lines_left store l.log l.place) l.count l.counter;
     }

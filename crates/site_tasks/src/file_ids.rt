@@ -1,0 +1,101 @@
+//! Whether a site's file is still the one that was opened.
+ghost use Rattle.std.specs.Prelude.{◌≡◌, None, false, IfOk};
+
+use byte_io::{EndFault, Source};
+use std::alloc::AllocError;
+use std::fs;
+use std::os::unix::fs::MetadataExt;
+
+/// A file, by its device and its number there.
+#[derive(Clone, Copy, PartialEq, Eq)]
+struct FileId {
+    device: u64,
+    number: u64,
+}
+
+/// The files at a path and beside it, as far as there are any.
+#[derive(Clone, Copy, PartialEq, Eq)]
+struct FileIds {
+    file: Option<FileId>,
+    log: Option<FileId>,
+}
+
+/// A source over another one that fails once a database file, or SQLite's log beside it, is no
+/// longer the one that was there at the first read: edits committed from then on would be in a file
+/// that no start finds. What such a read has read is lost, so that no line of it is carried out.
+///
+/// It does not tell its bytes.
+#[derive(Drop)]
+pub struct WhileThere<R> {
+    rt: HostRuntime,
+    path: String,
+    log_path: String,
+    opened: Option<FileIds>,
+    inner: R,
+    has_failed: bool,
+    is_gone: bool,
+}
+
+impl<R: Source + Drop> WhileThere<R> {
+    /// Makes a source over a source, for a path. Nothing is read yet, and no read has failed.
+    pub fn new(rt: &HostRuntime, path: &str, inner: R) -> Result<Self, AllocError>
+        ensures sound { IfOk result (λ it. ⟦<WhileThere<R> as Source>⟧.has_failed it ≡ false) }
+    {
+        let mut log_path = String::from_str(rt.alloc(), path)?;
+        log_path.push_str("-wal")?;
+        Ok(WhileThere {
+            rt: *rt,
+            path: String::from_str(rt.alloc(), path)?,
+            log_path,
+            opened: None,
+            inner,
+            has_failed: false,
+            is_gone: false,
+        })
+    }
+
+    /// Returns whether a read has failed because one of the files was removed or replaced.
+    pub fn is_gone(&self) -> bool {
+        self.is_gone
+    }
+
+    /// Finds the files that are there now.
+    fn ids(&self) -> FileIds {
+        FileIds {
+            file: id_of(&self.rt, self.path.as_str()),
+            log: id_of(&self.rt, self.log_path.as_str()),
+        }
+    }
+}
+
+/// Finds the file at a path.
+fn id_of(rt: &HostRuntime, path: &str) -> Option<FileId> {
+    match fs::metadata(rt, path) {
+        Ok(found) => Some(FileId {
+            device: found.dev(),
+            number: found.ino(),
+        }),
+        Err(_) => None,
+    }
+}
+
+impl<R: Source + Drop> Source for WhileThere<R> {
+    ghost remaining = { λ _. None };
+
+    ghost has_failed = { λ it. it.has_failed };
+
+    fn read(&mut self, buf: &mut [u8]) -> Result<usize, EndFault> {
+        let opened = match self.opened {
+            Some(opened) => opened,
+            None => self.ids(),
+        };
+        self.opened = Some(opened);
+        match self.inner.read(buf) {
+            Ok(count) if self.ids() == opened => return Ok(count),
+            Ok(_) => self.is_gone = true,
+            Err(EndFault) => {}
+        }
+        self.has_failed = true;
+        Err(EndFault)
+    }
+}
