@@ -8,7 +8,7 @@ use Rattle.sqlite.specs.Order.{Row}
 use Rattle.sqlite.specs.Recovery.{Image}
 use Rattle.command_log.specs.Faults.{AreText, IsCaused, Unstorable}
 use Rattle.command_log.specs.Found.{Finds}
-use Rattle.command_log.specs.Lines.{lines_of}
+use Rattle.command_log.specs.Lines.{IsOpen, lines_of}
 use Rattle.command_log.specs.declared.fault.LogFault.{LogFault}
 use Rattle.command_log.specs.declared.fault.LogFault.TheVariants.{NotText, NumbersUsedUp}
 use Rattle.site_replies.specs.Reply.{ReplyData, done, done_id, refused, number_of, name_of}
@@ -116,10 +116,11 @@ module _ {X : Type 0} (steps : X → List ℕ → X × ReplyData) (replies : X �
   IsReplayFault OfLog old lines (Log fault) = OfLog fault
   IsReplayFault OfLog old lines fault = StopsAmong old 1 lines fault
 
-  -- why a start failed in files with this image: a log was opened with their lines, and was then left as this one
+  -- why a start failed in files with this image: a log was opened with their lines, and the start then left it as this one
   pub record IsOpenFault {D : Type 0} {g : Ghosts D} (image : Image) (old : X) (identity : List ℕ) (log : Held (FileStore D g)) (fault : StartFault)
       : Type 0 where
     pub opened : Held (FileStore D g)
+    pub up : IsOpen over_files opened
     pub held : Finds image (lines_of over_files opened)
     pub cause : IsStartFault (IsCaused (file_state opened) (file_state log) (Untaken identity (lines_of over_files opened))) old identity
         (lines_of over_files opened) fault

@@ -1,5 +1,5 @@
 //! Putting a short history in the place of a long one.
-ghost use Rattle.std.specs.Prelude.{◌≡◌, ◌⊎◌, ◌∷◌, List, ℕ, map, true};
+ghost use Rattle.std.specs.Prelude.{◌≡◌, ◌↔◌, ◌⊎◌, ◌∷◌, List, ℕ, IsTrue, map};
 ghost use Rattle.std.specs.Prelude.{OnOk, OnErr, IfOk, IfErr, IfSome};
 ghost use Rattle.std.specs.String.{string_bytes};
 ghost use Rattle.sqlite.specs.Files.{over_files};
@@ -132,7 +132,7 @@ fn short_history<C: Commands>(site: &mut C) -> Result<Vec<String>, StartFault>
 
 /// Returns whether two lists have the same lines.
 fn are_equal(some: &[String], others: &[String]) -> bool
-    ensures { result ≡ true → map string_bytes some.now ≡ map string_bytes others.now }
+    ensures { IsTrue result ↔ map string_bytes some.now ≡ map string_bytes others.now }
 {
     some == others
 }

@@ -1,5 +1,7 @@
 //! Whether a site's file is still the one that was opened.
-ghost use Rattle.std.specs.Prelude.{◌≡◌, None, false, IfOk};
+ghost use Rattle.std.specs.Prelude.{◌≡◌, ◌⊎◌, ◌||◌, None, false, IfErr, IfOk, IsTrue, is_err};
+ghost use Rattle.std.specs.Io.{ReadsAtMost};
+ghost use Rattle.std.specs.Io.KnownBytes.{ReadConsumes};
 
 use byte_io::{EndFault, Source};
 use std::alloc::AllocError;
@@ -84,7 +86,15 @@ impl<R: Source + Drop> Source for WhileThere<R> {
 
     ghost has_failed = { λ it. it.has_failed };
 
-    fn read(&mut self, buf: &mut [u8]) -> Result<usize, EndFault> {
+    fn read(&mut self, buf: &mut [u8]) -> Result<usize, EndFault>
+        ensures bound { ReadsAtMost result buf.new }
+        ensures bytes { ReadConsumes None None result buf.new }
+        ensures fault { self.new.has_failed ≡ self.old.has_failed || is_err result }
+
+        // It fails only if the source that it is over does, or if one of the files is gone.
+        ensures cause { IfErr result (λ _. IsTrue self.new.is_gone
+            ⊎ IsTrue (R.has_failed self.new.inner)) }
+    {
         let opened = match self.opened {
             Some(opened) => opened,
             None => self.ids(),

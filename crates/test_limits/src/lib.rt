@@ -8,6 +8,8 @@ mod calls;
 #[cfg(test)]
 mod climbing;
 #[cfg(test)]
+mod crowded;
+#[cfg(test)]
 mod inactive;
 #[cfg(test)]
 mod limits;

@@ -12,8 +12,8 @@ The same is done to what else is written:
 
 - the log of `--trace` on standard error: short writes change nothing of it, and after one that fails nothing more is
   written, though later ones wouldn't fail. The replies and the status are as without;
-- the lines of `--export`: they end at the byte at which the writing failed, with status 1 and `site: write failed`. The
-  file's history is as it was;
+- the lines of `--export`, and the line of `--check`: they end at the byte at which the writing failed, with status 1
+  and `site: write failed`. The file's history is as it was;
 - the text of `--help`, whose status is 0 all the same; and `--compact`, which writes nothing.
 
 fail.c is compiled by the toolchain's own compiler. The last lines say how many runs there were of each kind, and 'N
@@ -216,25 +216,32 @@ def log_cases(program: str, library: str) -> Cases:
             yield f"a log that fails after {room} bytes, {more}", partial(traced.check, {"ROOM": room, **more}, wanted)
 
 
+def printing_cases(what: str, writer: Writer, printed: Ended) -> Cases:
+    """A run that prints this, up to the byte at which a write fails."""
+    for limits in SHORT:
+        yield f"{what} in writes of {limits['TAKES']} bytes", partial(writer.check, limits, printed)
+    failed = Ended(printed.output, WRITE_FAILED[1], WRITE_FAILED[0])
+    for room in range(len(printed.output)):
+        wanted = failed._replace(output=printed.output[:room])
+        yield f"{what} that fails after {room} bytes", partial(writer.check, {"ROOM": room}, wanted)
+    for more, _ in FAILING:
+        wanted = failed._replace(output=printed.output[:5])
+        yield f"{what} that fails after 5 bytes, {more}", partial(writer.check, {"ROOM": 5, **more}, wanted)
+    for name, opened in FAILING_OUTPUTS:
+        yield f"{what} into {name}", partial(writer.check_into, opened, failed._replace(output=b""))
+
+
 def export_cases(program: str, library: str, file: Path) -> Cases:
-    """The lines of --export, up to the byte at which a write fails; and --compact, which writes none."""
+    """The lines of --export and of --check, up to the byte at which a write fails; and --compact, which writes none."""
     words = ["--database", str(file)]
     whole(Writer(program, library, words, STORED_INPUT), STORED_LINES)
     before = history(file)
     export = Writer(program, library, [*words, "--export"], b"")
     printed = whole(export, EXPORTED_LINES)
-    for limits in SHORT:
-        yield f"an export in writes of {limits['TAKES']} bytes", partial(export.check, limits, printed)
-    failed = Ended(printed.output, WRITE_FAILED[1], WRITE_FAILED[0])
-    for room in range(len(printed.output)):
-        wanted = failed._replace(output=printed.output[:room])
-        yield f"an export that fails after {room} bytes", partial(export.check, {"ROOM": room}, wanted)
-    for more, _ in FAILING:
-        wanted = failed._replace(output=printed.output[:5])
-        yield f"an export that fails after 5 bytes, {more}", partial(export.check, {"ROOM": 5, **more}, wanted)
-    for name, opened in FAILING_OUTPUTS:
-        yield f"an export into {name}", partial(export.check_into, opened, failed._replace(output=b""))
-    yield "the history after exports that failed", lambda: check_equal(history(file), before)
+    yield from printing_cases("an export", export, printed)
+    check = Writer(program, library, [*words, "--check"], b"")
+    yield from printing_cases("a check", check, whole(check, 1))
+    yield "the history after what failed", lambda: check_equal(history(file), before)
     compact = Writer(program, library, [*words, "--compact"], b"")
     yield "--compact with a full output", partial(compact.check_into, full_device, Ended(b"", b"", 0))
     short = [before[0], *printed.output.splitlines()]
@@ -269,7 +276,7 @@ def main() -> int:
         for what, cases in {
             "lines": line_cases(program, library, folder),
             "--trace": log_cases(program, library),
-            "--export and --compact": export_cases(program, library, folder / "site.db"),
+            "--export, --check and --compact": export_cases(program, library, folder / "site.db"),
             "--help": help_cases(program, library),
         }.items():
             print(f"{what}: {counts.judge_all(cases)} runs", flush=True)

@@ -149,13 +149,20 @@ def check_done(lines: Iterable[bytes], got: Iterable[bytes]) -> None:
 
 
 def nothing(program: str) -> None:
-    """A new file: an export is empty, and makes the file."""
+    """A new file: an export is empty, and makes the file. The history of a site that has nothing can be shortened."""
     with tempfile.TemporaryDirectory() as folder:
         file = Path(folder, "site.db")
         ran = run(program, b"", *over(file, "--export"))
         check_told(ran, file)
         if ran.stdout:
             raise Wrong(f"the export of a new file is {shown(ran.stdout)}")
+        identity = history(file)
+        replies(
+            program, [line_of(cmd="activate", plugin="bold"), line_of(cmd="deactivate", plugin="bold")], *over(file)
+        )
+        for _ in range(2):
+            check_silent(run(program, b"", *over(file, "--compact")))
+            check_equal(history(file), identity)
         replies(program, [], *over(file))
 
 

@@ -7,7 +7,7 @@ returns-clause-short g c = λ clean.
     let lines = map string_bytes c.in_ok-lines.lines.items in
     let again = map string_bytes c.in_ok-short_history.field-0.items in
     let equal : c.are_equal.result ≡ true = search rules in
-    let same : again ≡ lines = ap (map string_bytes) (sym c.deref-2.ensures.value) ∙ c.are_equal.ensures equal
+    let same : again ≡ lines = ap (map string_bytes) (sym c.deref-2.ensures.value) ∙ c.are_equal.ensures.0 equal
     ∙ ap (map string_bytes) c.deref-3.ensures.value in
     let done = c.in_ok-replace.ensures in
     record {

@@ -32,6 +32,7 @@ returns-in-Err-start-clause-cause g c = λ clean.
     let up = c.in-Ok.ensures.opened (clean_before over_files c.in-Ok.log c.start.new.log _ c.start.ensures.survives clean) in
     record {
       opened = c.in-Ok.log;
+      up = up;
       held = record { each = c.in-Ok.ensures.found up; one = c.in-Ok.ensures.read up };
       cause = c.in-Err-start.ensures.cause clean up;
     }
