@@ -10,6 +10,7 @@ from collections.abc import Callable, Sequence
 from functools import partial
 from itertools import islice
 from pathlib import Path
+from sqlite3 import Connection
 
 from geanmarbles.checks.database.clients import (
     SECONDS,
@@ -23,7 +24,17 @@ from geanmarbles.checks.database.clients import (
     run,
 )
 from geanmarbles.checks.database.disks import MOUNTED, may_mount
-from geanmarbles.checks.database.files import Statement, check_equal, check_told, digests_of, doctored, history, opened
+from geanmarbles.checks.database.files import (
+    Statement,
+    check_equal,
+    check_told,
+    copied,
+    digests_of,
+    doctored,
+    history,
+    log_of,
+    opened,
+)
 from geanmarbles.checks.judging import Cases, Skipped
 from geanmarbles.client.replies import Wrong, shown
 
@@ -276,15 +287,36 @@ def refuses_wrong_lines_far_on(program: str, folder: str) -> None:
         copy.unlink()
 
 
-def extended(file: Path, lines: Sequence[bytes]) -> None:
-    """Appends lines to the history in a file, each with its digest."""
-    before = history(file)
+def append_to(connection: Connection, before: Sequence[bytes], lines: Sequence[bytes]) -> None:
+    """Appends lines to a history by one commit, each with its digest."""
     sealed = zip(lines, islice(digests_of([*before, *lines]), len(before), None))
+    connection.execute("BEGIN")
+    connection.executemany(LAST_SEALED, ((line.decode(), digest) for line, digest in sealed))
+    connection.execute("COMMIT")
+
+
+def extended(file: Path, lines: Sequence[bytes]) -> None:
+    """Appends lines to the history in a file."""
+    before = history(file)
     with opened(file) as connection:
-        connection.execute("BEGIN")
-        connection.executemany(LAST_SEALED, ((line.decode(), digest) for line, digest in sealed))
-        connection.execute("COMMIT")
+        append_to(connection, before, lines)
         connection.execute("PRAGMA wal_checkpoint(TRUNCATE)")
+
+
+def takes_a_long_log(program: str, folder: str) -> None:
+    """A log of more pages than those at which it is copied is read whole: a fault right after a large commit leaves
+    one."""
+    file = made(program, folder)
+    before = history(file)
+    options = [line_of(cmd="option", name=f"o{it}", value="v" * 65_000) for it in range(100)]
+    with opened(file) as connection:
+        connection.execute("PRAGMA wal_autocheckpoint = 0")
+        append_to(connection, before, options)
+        copy = copied(file, folder)
+    if log_of(copy).stat().st_size < 1_500 * 4_096:
+        raise Wrong(f"the log has {log_of(copy).stat().st_size} bytes alone")
+    replies(program, [], *over(copy))
+    check_equal(history(copy), [*before, *options])
 
 
 def takes_many_lines(program: str, folder: str) -> None:
@@ -379,6 +411,7 @@ def cases(program: str) -> Cases:
         refuses_wrong_lines_far_on,
         refuses_changed_lines,
         refuses_on_a_full_disk,
+        takes_a_long_log,
         takes_the_shortest_edits,
         takes_a_million_lines,
         takes_many_lines,

@@ -11,7 +11,8 @@ reads a copy of FILE and FILE-wal. The parts, in this order, or one of them with
   lists of tests/fuzz with a new start after each tenth line have the replies that they have without; one that fails
   is made shorter, and saved in out/fuzz;
 - refused: starts that are refused by name, with the database file as it was: a second program, files that can't be
-  opened, that are no database or another one, another program's, and histories with a line that is refused;
+  opened, that are no database or another one, another program's, and histories with a line that is refused. Long
+  histories, long logs and as many edits as come in one read are taken;
 - exports: what --export prints rebuilds the site: pages, drafts, options, templates, the next ID; exported again it is
   the same; --compact puts it in the place of the history; random lists as in keeping;
 - readers: 200 edits in one write, and standard output closed, full, without a reader or never read: what the file then
