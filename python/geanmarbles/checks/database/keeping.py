@@ -187,6 +187,16 @@ def memory_of(program: str, lines: Sequence[bytes], *words: str) -> int:
     return int(used.ru_maxrss) * 1024
 
 
+def keeps_all_in_the_file(program: str, file: Path) -> None:
+    """After an input that was served to its end FILE has the whole history by itself, also if its log had some."""
+    for number in range(3):
+        replies(program, [put(title=f"T{number}"), get("/")], *over(file))
+        with tempfile.TemporaryDirectory() as folder:
+            check_equal(history(Path(shutil.copy(file, folder))), history(file))
+    if len(history(file)) != 4:
+        raise Wrong(f"the history has {len(history(file))} lines")
+
+
 def loses_open_pages(program: str, file: Path) -> None:
     """Open pages end with the program: `turns` after a new start finds none."""
     lines = [put(title="T"), line_of(cmd="begin", path="/")]
@@ -331,6 +341,7 @@ def cases(program: str) -> Cases:
         takes_chunks,
         waits_in_bounds,
         holds_little_back,
+        keeps_all_in_the_file,
         loses_open_pages,
         takes_options,
         takes_another_limit,
