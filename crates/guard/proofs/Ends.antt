@@ -7,7 +7,7 @@ use Rattle.std.proofs.lemmas.List.Elements.{filter-append}
 use Rattle.snippets.specs.Markup.{is_mark, marks}
 use Rattle.snippets.specs.Templates.{is_script}
 use Rattle.snippets.specs.Places.{Inside, Quoted, element_of, is_quote, place_after}
-use Rattle.value_escapes.specs.Escapes.{escaped}
+use Rattle.value_escapes.specs.Escapes.{decoded, escaped}
 use Rattle.value_escapes.proofs.Marks.{both, escaped_marks}
 use Rattle.guard.specs.Guarded.{hidden_byte, hidden, safe_answer, put}
 
@@ -79,7 +79,11 @@ marks_lack quote (b ∷ rest) of none =
     ap (λ v. v || list_any (λ c. c == quote) rest) first.0 ∙ marks_lack quote rest of first.1
 
 safe_marks : (text : Text) → marks (safe_answer text) ≡ []
-safe_marks text = elim (is_script text) as (λ v. marks (if v then [] else escaped text) ≡ []) [ true ↦ refl | false ↦ escaped_marks text ]
+safe_marks text =
+    elim (is_script (decoded (escaped text))) as (λ v. marks (if v then [] else escaped text) ≡ []) [
+      | true ↦ refl
+      | false ↦ escaped_marks text
+    ]
 
 pub ends_none : (quote : ℕ) (script style : Option Text) (value answer : Text) → IsTrue (is_quote quote) → Lacks quote value
     → place_after (Quoted quote (element_of script style)) (put value answer) ≡ Quoted quote (element_of script style)
@@ -114,3 +118,13 @@ hidden_marks (b ∷ rest) none =
 pub no_marks : (value answer : Text) → bytes_eq answer value ≡ false → marks (put value answer) ≡ []
 no_marks value answer other =
     ap (λ v. marks (if v then hidden value else hidden (safe_answer answer))) other ∙ hidden_marks (safe_answer answer) (safe_marks answer)
+
+-- nothing is no program, and whatever else is put was looked at
+pub no_program : (answer : Text) → is_script (decoded (safe_answer answer)) ≡ false
+unfolding decoded
+no_program answer =
+    elim (is_script (decoded (escaped answer))) as (λ v.
+    is_script (decoded (escaped answer)) ≡ v → is_script (decoded (if v then [] else escaped answer)) ≡ false) [
+      | true ↦ λ e. refl
+      | false ↦ λ e. e
+    ] refl

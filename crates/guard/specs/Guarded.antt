@@ -12,7 +12,7 @@ use Rattle.plain_data.specs.Texts.{Text}
 use Rattle.snippets.specs.Places.{Place, Between, Opened, Comment, Name, Inside, Attribute, Equals, Bare, Quoted, Raw, is_quote, next_place}
 use Rattle.snippets.specs.Templates.{is_script}
 use Rattle.text_cuts.specs.Cuts.{after_word}
-use Rattle.value_escapes.specs.Escapes.{escaped}
+use Rattle.value_escapes.specs.Escapes.{decoded, escaped}
 
 -- a bracket as no shortcode has it
 abbrev pub hidden_byte : ℕ → Text
@@ -56,9 +56,10 @@ abbrev pub opens : Place → ℕ → Text → Option Text
 opens (Equals element) b rest = only_if (is_quote b) (before_first (λ c. c == b) rest)
 opens place b rest = None
 
--- what is in place of the shortcodes of a value: their answers, escaped, and nothing if that is an address that is a program
+-- what is in place of the shortcodes of a value: their answers, escaped, and nothing if a browser reads that as an
+-- address that is a program. Entities of the answers stay, and a browser reads the characters that they stand for
 abbrev pub safe_answer : Text → Text
-safe_answer text = if is_script text then [] else escaped text
+safe_answer text = if is_script (decoded (escaped text)) then [] else escaped text
 
 -- a value with the engine's answer to it: if that is the value itself, it has no shortcodes
 abbrev pub put : Text → Text → Text

@@ -10,5 +10,5 @@ mod shipped;
 mod tests;
 mod values;
 
-pub use laws::{answers_end_no_value, worked_guard};
+pub use laws::{answers_are_no_programs, answers_end_no_value, worked_guard};
 pub use shipped::{NUMBERS, guard_reply, plugin};

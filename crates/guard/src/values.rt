@@ -11,7 +11,7 @@ use crate::brackets::{has_bracket, push_hidden, push_hidden_byte};
 use crate::places::{Place, next_place};
 use hook_changes::{Answer, Text};
 use std::alloc::{AllocError, Global};
-use value_escapes::{is_script, push_escaped};
+use value_escapes::{decoded, is_script, push_escaped};
 
 /// Returns how many bytes are before the first quote of a text, or in all of it.
 fn quote_at(quote: u8, text: &[u8]) -> usize
@@ -58,15 +58,16 @@ fn asked_at<'t>(place: Place<'_>, byte: u8, rest: &'t [u8]) -> Option<&'t [u8]>
 }
 
 /// Makes what is in place of the shortcodes of a value: escaped, and nothing of an address that is
-/// a program.
+/// a program, also if entities spell it.
 fn safe_answer(alloc: Global, text: &str) -> Result<Text, AllocError>
     ensures { IfOk result (λ safe. safe ≡ safe_answer text.now) }
 {
     let mut safe = Text::empty(alloc);
-    if is_script(text) {
-        return Ok(safe);
-    }
     push_escaped(alloc, &mut safe, text)?;
+    let read = decoded(alloc, safe.as_str())?;
+    if is_script(&read) {
+        return Ok(Text::empty(alloc));
+    }
     Ok(safe)
 }
 

@@ -6,7 +6,7 @@ use Rattle.std.specs.Option.{option_map_or}
 use Rattle.std.proofs.lemmas.Bool.Decides.{nat_tests}
 use Rattle.snippets.specs.Markup.{is_mark, marks, IsHarmless, AreInPlace}
 use Rattle.snippets.specs.declared.places.Element.{Element}
-use Rattle.snippets.specs.Places.{Place, Between, Opened, Comment, Name, Inside, Attribute, Equals, Bare, Quoted, Raw, is_quote, place_after, takes_values}
+use Rattle.snippets.specs.Places.{Place, Between, Opened, EndOpened, Declared, Ending, Comment, Name, Inside, Attribute, Equals, Bare, Quoted, Raw, is_quote, place_after, takes_values}
 use Rattle.snippets.specs.Templates.{Part, Own, Value, Opening, Inverted, Closing, Piece, Fixed, Shown, Inner, Values, safe, shown, non_empty}
 use Rattle.snippets.specs.Templates.{piece_under, piece_of, place_past, left_out_after, pieces_from, pieces_of, parts_of}
 use Rattle.snippets.proofs.Markup.{shown_marks}
@@ -44,6 +44,9 @@ keeps_quotes quote element (b ∷ rest) of none =
 keeps_place : (place : Place) (text : Text) → IsTrue (takes_values place) → marks text ≡ [] → place_after place text ≡ place
 keeps_place Between text takes none = keeps_text text none
 keeps_place Opened text takes none = cc
+keeps_place EndOpened text takes none = cc
+keeps_place (Declared dashes) text takes none = cc
+keeps_place Ending text takes none = cc
 keeps_place (Comment dashes) text takes none = cc
 keeps_place (Name script style) text takes none = cc
 keeps_place (Inside element) text takes none = cc

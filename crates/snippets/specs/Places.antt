@@ -1,5 +1,6 @@
 -- Where in a page's markup a text ends, as a browser reads it (HTML Standard, Tokenization). Of markup that isn't well
--- formed what a browser forgives isn't followed everywhere: a comment, say, ends at `-->` alone.
+-- formed what a browser forgives isn't followed everywhere: a comment, say, ends at `-->` and not at `--!>`. SVG and
+-- MathML are read like HTML, so `<![CDATA[` begins a bogus comment in them too.
 use Rattle.std.specs.Prelude.{ℕ, Bool, true, false, ◌==◌, ◌||◌, ◌&&◌, if◌then◌else◌, [], ◌∷◌, length, codes, unwrap_or, Option, Some, None, option_map}
 use Rattle.std.specs.Char.{to_ascii_lowercase, is_ascii_alphabetic}
 use Rattle.plain_data.specs.Steps.{only_if}
@@ -14,7 +15,13 @@ pub data Place : Type 0 where
   Between : Place
   -- after a `<`
   Opened : Place
-  -- after a `<!` or a `<?`, with so many `-` just before, of which two count
+  -- after a `</`
+  EndOpened : Place
+  -- after a `<!`, with none or one `-` after it
+  Declared : ℕ → Place
+  -- in a doctype or a bogus comment, which end at the first `>`
+  Ending : Place
+  -- in a comment, with so many `-` just before, of which two count
   Comment : ℕ → Place
   -- in the name of a tag, with what is left of `script` and of `style` if it has been of these so far
   Name : Option Text → Option Text → Place
@@ -28,7 +35,8 @@ pub data Place : Type 0 where
   -- in the text of a script or a style, with what is left of `</script` or `</style`
   Raw : Element → Text → Place
 
--- white space (HTML Standard, ASCII whitespace), and what else ends a name: `/` is 47, `>` 62, `<` 60, `=` 61, `-` 45
+-- white space (HTML Standard, ASCII whitespace), and what else ends a name: `/` is 47, `>` 62, `<` 60, `=` 61, `-` 45,
+-- `!` 33, `?` 63
 abbrev pub is_blank : ℕ → Bool
 is_blank b = b == 32 || b == 9 || b == 10 || b == 12 || b == 13
 
@@ -71,9 +79,24 @@ after_tag Other = Between
 abbrev pub after_angle : ℕ → Place
 after_angle b =
     if is_ascii_alphabetic b then Name (word_after (codes "script") b) (word_after (codes "style") b)
-    else (if b == 47 then Name None None
-    else (if b == 33 || b == 63 then Comment 0
-    else (if b == 60 then Opened else Between)))
+    else (if b == 47 then EndOpened
+    else (if b == 33 then Declared 0
+    else (if b == 63 then Ending
+    else (if b == 60 then Opened else Between))))
+
+-- a doctype ends at a `>` even within quotes (DOCTYPE states), and so does a bogus comment
+abbrev pub in_ending : ℕ → Place
+in_ending b = if b == 62 then Between else Ending
+
+-- a letter begins the name of an end tag; `</>` is nothing, and with anything else `</` begins a bogus comment (end tag
+-- open state)
+abbrev pub after_slash : ℕ → Place
+after_slash b = if is_ascii_alphabetic b then Name None None else in_ending b
+
+-- only `<!--` begins a comment, and its two `-` may end it too, as in `<!-->`; with anything else `<!` begins a doctype
+-- or a bogus comment (markup declaration open state)
+abbrev pub after_declared : ℕ → ℕ → Place
+after_declared dashes b = if b == 45 then (if dashes == 0 then Declared 1 else Comment 2) else in_ending b
 
 abbrev pub in_comment : ℕ → ℕ → Place
 in_comment dashes b =
@@ -121,6 +144,9 @@ in_raw element left b =
 abbrev pub next_place : Place → ℕ → Place
 next_place Between b = if b == 60 then Opened else Between
 next_place Opened b = after_angle b
+next_place EndOpened b = after_slash b
+next_place (Declared dashes) b = after_declared dashes b
+next_place Ending b = in_ending b
 next_place (Comment dashes) b = in_comment dashes b
 next_place (Name script style) b = in_name script style b
 next_place (Inside element) b = in_tag element b
@@ -145,6 +171,9 @@ takes_values place = false
 abbrev pub place_now : code.Place → Place
 place_now variant.Between = Between
 place_now variant.Opened = Opened
+place_now variant.EndOpened = EndOpened
+place_now (variant.Declared dashes) = Declared dashes
+place_now variant.Ending = Ending
 place_now (variant.Comment dashes) = Comment dashes
 place_now (variant.Name script style) = Name (option_map (λ left. left.now) script) (option_map (λ left. left.now) style)
 place_now (variant.Inside element) = Inside element

@@ -37,6 +37,10 @@ pub fn worked_templates()
     ensures section { printed (codes "a{{#by}} by {{by}}{{/by}}.") [] [] ≡ codes "a." }
     ensures inverted { printed (codes "{{^by}}by nobody{{/by}}.") [] [] ≡ codes "by nobody." }
     ensures no_part { printed (codes "{{a b}} {{x") [] [] ≡ codes "{{a b}} {{x" }
+    ensures doctype { printed (codes "<!DOCTYPE html><p>{{a}}</p>") ((codes "a", codes "1") ∷ []) []
+        ≡ codes "<!DOCTYPE html><p>1</p>" }
+    ensures comment { printed (codes "<!-- {{a}} -->") ((codes "a", codes "1") ∷ []) []
+        ≡ codes "<!--  -->" }
 {}
 
 /// States where some texts of templates end. The call itself does nothing: it carries these facts.
@@ -52,4 +56,14 @@ pub fn worked_places()
     ensures strong { prints_after (codes "<strong>") ≡ codes "1" }
     ensures comment { prints_after (codes "<!-- a > ") ≡ [] }
     ensures after_comment { prints_after (codes "<!--- a --->") ≡ codes "1" }
+    ensures empty_comment { prints_after (codes "<!-->") ≡ codes "1" }
+    ensures dashed_comment { prints_after (codes "<!--->") ≡ codes "1" }
+    ensures doctype { prints_after (codes "<!DOCTYPE html") ≡ [] }
+    ensures after_doctype { prints_after (codes "<!DOCTYPE html SYSTEM \"-->") ≡ codes "1" }
+    ensures declaration { prints_after (codes "<!->") ≡ codes "1" }
+    ensures instruction { prints_after (codes "<?xml version=\"1.0\" ?") ≡ [] }
+    ensures after_instruction { prints_after (codes "<?xml version=\"1.0\" ?>") ≡ codes "1" }
+    ensures end_tag { prints_after (codes "</p") ≡ [] }
+    ensures after_end_tag { prints_after (codes "</p></>") ≡ codes "1" }
+    ensures no_end_tag { prints_after (codes "</ a=\"><script>") ≡ [] }
 {}

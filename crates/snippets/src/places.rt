@@ -2,6 +2,7 @@
 //! within quotes, or where escaping doesn't make it safe.
 ghost use Rattle.std.specs.Prelude.{◌≡◌, option_map, unwrap_or, codes};
 ghost use Rattle.snippets.specs.Places.{after_angle, next_place, after_equals, after_tag, element_of, end_after};
+ghost use Rattle.snippets.specs.Places.{after_declared, after_slash, in_ending};
 ghost use Rattle.snippets.specs.Places.{end_of, in_attribute, in_bare, in_comment, in_name, in_quotes};
 ghost use Rattle.snippets.specs.Places.{in_raw, in_tag, is_blank, is_gap, is_quote, is_whole, name_after};
 ghost use Rattle.snippets.specs.Places.{place_after, place_now, takes_values, word_after};
@@ -24,7 +25,13 @@ pub(crate) enum Place<'w> {
     Between,
     /// After a `<`.
     Opened,
-    /// After a `<!` or `<?`, with 0, 1 or 2 `-` just before.
+    /// After a `</`.
+    EndOpened,
+    /// After a `<!`, with 0 or 1 `-` after it.
+    Declared(u8),
+    /// In a doctype or a bogus comment, which end at the first `>`.
+    Ending,
+    /// In a comment, with 0, 1 or 2 `-` just before.
     Comment(u8),
     /// In a tag's name: what is left of `script` and of `style`, if it has agreed with them so far.
     Name(Option<&'w [u8]>, Option<&'w [u8]>),
@@ -130,13 +137,50 @@ fn after_angle<'w>(byte: u8) -> Place<'w>
     if byte.is_ascii_alphabetic() {
         Place::Name(word_after(b"script", byte), word_after(b"style", byte))
     } else if byte == b'/' {
-        Place::Name(None, None)
-    } else if byte == b'!' || byte == b'?' {
-        Place::Comment(0)
+        Place::EndOpened
+    } else if byte == b'!' {
+        Place::Declared(0)
+    } else if byte == b'?' {
+        Place::Ending
     } else if byte == b'<' {
         Place::Opened
     } else {
         Place::Between
+    }
+}
+
+/// Returns the place after a byte in a doctype or a bogus comment.
+fn in_ending<'w>(byte: u8) -> Place<'w>
+    ensures { place_now result ≡ in_ending byte }
+{
+    if byte == b'>' {
+        Place::Between
+    } else {
+        Place::Ending
+    }
+}
+
+/// Returns the place after a `</` and this byte.
+fn after_slash<'w>(byte: u8) -> Place<'w>
+    ensures { place_now result ≡ after_slash byte }
+{
+    if byte.is_ascii_alphabetic() {
+        Place::Name(None, None)
+    } else {
+        in_ending(byte)
+    }
+}
+
+/// Returns the place after a `<!`, at most one `-`, and this byte.
+fn after_declared<'w>(dashes: u8, byte: u8) -> Place<'w>
+    ensures { place_now result ≡ after_declared dashes byte }
+{
+    if byte != b'-' {
+        in_ending(byte)
+    } else if dashes == 0 {
+        Place::Declared(1)
+    } else {
+        Place::Comment(2)
     }
 }
 
@@ -274,6 +318,9 @@ fn next_place<'w>(place: Place<'w>, byte: u8) -> Place<'w>
             }
         }
         Place::Opened => after_angle(byte),
+        Place::EndOpened => after_slash(byte),
+        Place::Declared(dashes) => after_declared(dashes, byte),
+        Place::Ending => in_ending(byte),
         Place::Comment(dashes) => in_comment(dashes, byte),
         Place::Name(script, style) => in_name(script, style, byte),
         Place::Inside(element) => in_tag(element, byte),

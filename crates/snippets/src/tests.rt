@@ -7,7 +7,7 @@ use shortcode_atts::parse;
 use std::alloc::{AllocError, Global};
 
 /// A template, the text of attributes, a content, and what is printed.
-const PRINTED: [(&str, &str, &str, &str); 32] = [
+const PRINTED: [(&str, &str, &str, &str); 35] = [
     ("2026", "", "", "2026"),
     (
         "<a class=\"button\" href=\"{{href|#}}\">{{content|Read more}}</a>",
@@ -65,6 +65,24 @@ const PRINTED: [(&str, &str, &str, &str); 32] = [
         "a=1",
         "",
         "<!--  ---->1<!-->1",
+    ),
+    (
+        "<!DOCTYPE html>{{a}}<script>a-->b={{a}}</script>{{a}}",
+        "a=1",
+        "",
+        "<!DOCTYPE html>1<script>a-->b=</script>1",
+    ),
+    (
+        "<?xml {{a}}?>{{a}}<!{{a}}>{{a}}<!-{{a}}>{{a}}<!-{{b|-}}{{a}}-->{{a}}",
+        "a=1",
+        "",
+        "<?xml ?>1<!>1<!->1<!---->1",
+    ),
+    (
+        "</{{a}}>{{a}}</ {{a}}=\"{{a}}>{{a}}",
+        "a=1",
+        "",
+        "</>1</ =\">1",
     ),
     (
         "<a href={{a}} title={{a|x}}>{{a}}</a>",

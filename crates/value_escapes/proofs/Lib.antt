@@ -1,2 +1,4 @@
 mod Addresses
 pub mod Marks
+mod Numbers
+mod Words

@@ -1,8 +1,11 @@
 -- Values as they are printed: in an attribute or between tags, and as an address.
 use Rattle.std.specs.Prelude.{ℕ, Bool, false, ◌==◌, ◌&&◌, ◌||◌, if◌then◌else◌, List, [], ◌∷◌, ◌++◌, codes, drop, flat_map, nat_le, nat_lt, unwrap_or}
-use Rattle.std.specs.Char.{is_ascii_alphanumeric, is_ascii_whitespace}
+use Rattle.std.specs.Prelude.{take_while, Option, None, option_map}
+use Rattle.std.specs.Char.{is_ascii_alphanumeric, is_ascii_whitespace, is_digit}
 use Rattle.std.specs.List.{prefix_len, slice_split}
-use Rattle.std.specs.Option.{option_or}
+use Rattle.std.specs.Option.{option_or, option_map_or}
+use Rattle.std.specs.Str.Parse.{digits_value}
+use Rattle.plain_data.specs.Steps.{only_if}
 use Rattle.plain_data.specs.Texts.{Text}
 use Rattle.page_escapes.specs.Escapes.{html_escaped}
 use Rattle.shortcode_atts.specs.Items.{after_run, after_char}
@@ -38,6 +41,46 @@ after_ampersand part = (if is_entity part then codes "&" else codes "&amp;") ++ 
 -- a value in an attribute or between tags: no markup, and an entity stays one (esc_attr)
 unfoldable pub escaped : Text → Text
 escaped value = joined html_escaped after_ampersand (slice_split is_ampersand value)
+
+-- a character of ASCII by its number, and what comes after it; at the number 0 a browser reads U+FFFD (HTML Standard,
+-- numeric character reference end state)
+abbrev pub ascii : ℕ → Text → Option (ℕ × Text)
+ascii number rest = only_if (nat_lt 0 number && nat_lt number 128) (number, rest)
+
+abbrev pub without_semicolon : Text → Text
+without_semicolon text = unwrap_or (after_char 59 text) text
+
+-- by digits of a base, and a `;` that may be missing
+abbrev pub by_digits : ℕ → Text → Option (ℕ × Text)
+by_digits base text =
+    ascii (digits_value base (take_while (λ b. is_digit b base) text))
+    (without_semicolon (after_run (λ b. is_digit b base) text))
+
+-- after an `&#`: by an `x` or `X` and hexadecimal digits, or by decimal ones
+abbrev pub by_number : Text → Option (ℕ × Text)
+by_number [] = None
+by_number (b ∷ rest) = if b == 120 || b == 88 then by_digits 16 rest else by_digits 10 (b ∷ rest)
+
+-- after an `&`: by a name. Of the characters of the schemes that are looked for only `:` has one, and a browser removes
+-- tabs and line feeds from an address
+abbrev pub by_name : Text → Option (ℕ × Text)
+by_name text =
+    option_or (option_map (λ rest. (58, rest)) (after_word (codes "colon;") text))
+    (option_or (option_map (λ rest. (9, rest)) (after_word (codes "Tab;") text))
+    (option_map (λ rest. (10, rest)) (after_word (codes "NewLine;") text)))
+
+-- the character that an `&` and what comes after it stand for, and the rest
+abbrev pub character_at : Text → Option (ℕ × Text)
+character_at [] = None
+character_at (b ∷ rest) = if b == 35 then by_number rest else by_name (b ∷ rest)
+
+-- an `&` and what comes after it, up to the next `&`: an entity of no such character stays
+abbrev pub decoded_part : Text → Text
+decoded_part part = option_map_or (λ x. x.0 ∷ x.1) (character_at part) (38 ∷ part)
+
+-- a value of an attribute as a browser reads it, as far as it may be the scheme of an address
+unfoldable pub decoded : Text → Text
+decoded value = joined (λ text. text) decoded_part (slice_split is_ampersand value)
 
 -- what is no part of an address: control bytes, `"`, `<`, `>`, `\`, `^`, a backtick, `{` and `}` (esc_url)
 abbrev pub is_dropped : ℕ → Bool

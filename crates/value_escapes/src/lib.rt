@@ -7,11 +7,14 @@ ghost use Rattle.snippets.specs.Markup.{marks};
 ghost use Rattle.std.specs.Char.{encode_utf8, is_ascii_alphanumeric};
 ghost use Rattle.std.specs.List.{prefix_len, slice_split};
 ghost use Rattle.snippets.specs.Templates.{after_byte, begins, is_script};
-ghost use Rattle.value_escapes.specs.Escapes.{address, after_ampersand, cleaned, ends_entity, escaped};
+ghost use Rattle.value_escapes.specs.Escapes.{address, after_ampersand, cleaned, decoded, ends_entity, escaped};
 ghost use Rattle.value_escapes.specs.Escapes.{is_ampersand, is_entity, next_cleaned};
 ghost use Rattle.value_escapes.specs.Escapes.{plain_address, without_amp, without_hash, without_start};
 ghost use Rattle.page_escapes.specs.Escapes.{html_escaped};
 
+mod entities;
+
+pub use entities::decoded;
 use page_escapes::escape_html;
 use plain_data::Text;
 use std::alloc::{AllocError, Global};
@@ -61,7 +64,7 @@ fn is_entity(text: &[u8]) -> bool
 }
 
 /// Splits a text at each `&`.
-fn parts_of<'a>(alloc: Global, text: &'a str) -> Result<Vec<&'a str>, AllocError>
+pub(crate) fn parts_of<'a>(alloc: Global, text: &'a str) -> Result<Vec<&'a str>, AllocError>
     ensures { IfOk result (λ parts.
         map (λ part. part.now) parts.items ≡ slice_split is_ampersand text.entry.now) }
 {
@@ -214,10 +217,9 @@ fn begins(scheme: &[u8], address: &[u8]) -> bool
 }
 
 /// Returns whether an address is a program, or a page of its own.
-pub fn is_script(address: &str) -> bool
+pub fn is_script(address: &[u8]) -> bool
     ensures { result ≡ is_script address.now }
 {
-    let address = address.as_bytes();
     begins(b"javascript:", address) || begins(b"vbscript:", address) || begins(b"data:", address)
 }
 
@@ -227,7 +229,7 @@ pub fn address(alloc: Global, value: &str) -> Result<Text, AllocError>
     ensures { IfOk result (λ printed. printed ≡ address value.now) }
 {
     let address = plain_address(alloc, value)?;
-    if is_script(address.as_str()) {
+    if is_script(address.as_str().as_bytes()) {
         return Ok(Text::empty(alloc));
     }
     Ok(address)
@@ -250,4 +252,8 @@ pub fn worked_values()
         ≡ codes "/a%20b.mp4?c=1&#038;d=2&#038;e=&#039;" }
     ensures program { address (codes " JavaScript:alert(1)") ≡ [] }
     ensures tab { address (codes "java\tscript:alert(1)") ≡ [] }
+    ensures numbers { decoded (codes "&#106;ava&#0115cript&#x3A;&#X3a") ≡ codes "javascript::" }
+    ensures names { decoded (codes "a&colon;b&Tab;&NewLine;c") ≡ codes "a:b\t\nc" }
+    ensures others { decoded (codes "&#0; &#128; &#x; &#; &Colon; &colon &amp; &")
+        ≡ codes "&#0; &#128; &#x; &#; &Colon; &colon &amp; &" }
 {}

@@ -61,7 +61,7 @@ GET: Line = {"cmd": "get", "path": "/?p=1"}
 
 # What random templates, values and contents are made of.
 TAGS = ["<b", "<a href=", "script", "</script>", "<script>", "<STYLE ", "</style", "<s", "<p>", "</p>"]
-OWN = [*"<><>\"'= /-!a\né", *TAGS, "<!--", "-->", "--", ' class="', "='", "{{", "}}", "{", "title = "]
+OWN = [*"<><>\"'= /-!a\né", *TAGS, "<!--", "-->", "--", "<!", "<?", "</", ' class="', "='", "{{", "}}", "{", "title = "]
 ADDRESSES = ["javascript:x", " JAVA\tscript:x", "data:", "vbscript:"]
 VALUES = ["1", "", '"><script>', "<b>", "' onclick=x", *ADDRESSES, "a=b c", "&amp;", "é"]
 CONTENTS = ["", "x", "<i>y</i>", "\"q\" & 'r'", "<"]
@@ -153,7 +153,10 @@ OF_WORDPRESS = re.compile(
     r'| id="(?:audio|video)-\d+-\d+"|(?:\?|&#038;)_=\d+'
 )
 # The kinds of places that values may be at.
-KINDS = ("attribute", "bare", "between", "comment", "equals", "inside", "name", "opened", "quoted", "raw")
+KINDS = (
+    *("attribute", "bare", "between", "comment", "declared", "end opened", "ending", "equals", "inside", "name"),
+    *("opened", "quoted", "raw"),
+)
 
 
 def joined(lines: Iterable[Line]) -> str:
@@ -419,6 +422,7 @@ def finds_mistakes(_press: str, _site: str, _options: argparse.Namespace) -> Non
     wrong = {
         "<script>{{a}}</script>": "in a script",
         "<!-- {{a}} -->": "in a comment",
+        "<!DOCTYPE {{a}}>": "in a doctype",
         "<a href={{a}}>": "outside quotes",
         "<h{{a}}>": "outside quotes",
         '<a onclick="{{a}}">': "in `onclick`",

@@ -36,10 +36,11 @@ class Part(NamedTuple):
 class Place(NamedTuple):
     """Where in markup a text ends: a kind of place, and what is known there.
 
-    The kinds are those of crates/snippets/specs/Places: between, opened, comment, name, inside, attribute, equals,
-    bare, quoted, raw. `word` is the name of the tag, or the element whose text is no markup; `attribute` the name of
-    the attribute; `seen` the quote, the dashes of a comment, or the end of a script so far; `begins` whether all that
-    a quoted value has is what values printed, and `filled` whether there is one.
+    The kinds are those of crates/snippets/specs/Places: between, opened, end opened, declared, ending, comment, name,
+    inside, attribute, equals, bare, quoted, raw. `word` is the name of the tag, or the element whose text is no markup;
+    `attribute` the name of the attribute; `seen` the quote, the dashes after `<!` or in a comment, or the end of a
+    script so far; `begins` whether all that a quoted value has is what values printed, and `filled` whether there is
+    one.
     """
 
     kind: str = "between"
@@ -91,10 +92,10 @@ def after_letter(place: Place, letter: str) -> Place:
     kind, word = place.kind, place.word
     if kind == "between":
         return Place("opened") if letter == "<" else place
-    if kind == "opened":
-        if letter.isascii() and letter.isalpha() or letter == "/":
-            return Place("name", letter.lower())
-        return Place("comment") if letter in "!?" else Place("opened") if letter == "<" else Place()
+    if kind in ("opened", "end opened"):
+        return after_opening(kind, letter)
+    if kind in ("declared", "ending"):
+        return after_declared(place, letter)
     if kind == "comment":
         seen = (place.seen + "-")[:2] if letter == "-" else ""
         return Place() if letter == ">" and place.seen == "--" else Place("comment", seen=seen)
@@ -107,6 +108,24 @@ def after_letter(place: Place, letter: str) -> Place:
     if kind == "name":
         return Place("inside", word) if letter in BLANKS + "/" else Place("name", word + letter.lower())
     return after_in_tag(place, letter)
+
+
+def after_opening(kind: str, letter: str) -> Place:
+    """The place after a `<` or a `</` and one more character."""
+    if letter.isascii() and letter.isalpha():
+        return Place("name", ("" if kind == "opened" else "/") + letter.lower())
+    if kind == "end opened":
+        return Place() if letter == ">" else Place("ending")
+    return {"/": Place("end opened"), "!": Place("declared"), "?": Place("ending"), "<": Place("opened")}.get(
+        letter, Place()
+    )
+
+
+def after_declared(place: Place, letter: str) -> Place:
+    """The place after one more character after a `<!`, in a doctype or in a bogus comment."""
+    if letter == "-" and place.kind == "declared":
+        return Place("comment", seen="--") if place.seen else Place("declared", seen="-")
+    return Place() if letter == ">" else Place("ending")
 
 
 def after_raw(place: Place, letter: str) -> Place:
@@ -147,6 +166,8 @@ def names_place(place: Place) -> str:
     """A place in words."""
     if place.kind == "raw":
         return f"in a {place.word}"
+    if place.kind in ("declared", "ending"):
+        return "in a doctype or a bogus comment"
     if place.kind == "comment":
         return "in a comment"
     return f"in `{place.attribute}`" if place.kind == "quoted" else "in a tag, outside quotes"

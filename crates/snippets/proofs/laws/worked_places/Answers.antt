@@ -33,3 +33,33 @@ returns-clause-comment c = refl
 
 pub returns-clause-after_comment : goal.returns-clause-after_comment
 returns-clause-after_comment c = refl
+
+pub returns-clause-empty_comment : goal.returns-clause-empty_comment
+returns-clause-empty_comment c = refl
+
+pub returns-clause-dashed_comment : goal.returns-clause-dashed_comment
+returns-clause-dashed_comment c = refl
+
+pub returns-clause-doctype : goal.returns-clause-doctype
+returns-clause-doctype c = refl
+
+pub returns-clause-after_doctype : goal.returns-clause-after_doctype
+returns-clause-after_doctype c = refl
+
+pub returns-clause-declaration : goal.returns-clause-declaration
+returns-clause-declaration c = refl
+
+pub returns-clause-instruction : goal.returns-clause-instruction
+returns-clause-instruction c = refl
+
+pub returns-clause-after_instruction : goal.returns-clause-after_instruction
+returns-clause-after_instruction c = refl
+
+pub returns-clause-end_tag : goal.returns-clause-end_tag
+returns-clause-end_tag c = refl
+
+pub returns-clause-after_end_tag : goal.returns-clause-after_end_tag
+returns-clause-after_end_tag c = refl
+
+pub returns-clause-no_end_tag : goal.returns-clause-no_end_tag
+returns-clause-no_end_tag c = refl
