@@ -3,12 +3,15 @@
  * Lines of JSON, as the program `site` reads them, over WordPress's own functions: plugin.php, class-wp-hook.php,
  * shortcodes.php, formatting.php and kses.php, loaded from the WordPress at DIR.
  *
- *     php site.php DIR < COMMANDS
+ *     php site.php DIR [--page-cache] < COMMANDS
  *
  * It serves what bench/wordpress/run and tests/wordpress/run send: put, option, activate, deactivate, get of the front
- * page and of one post, and `pass`, which times passes of a filter within this process. Posts and options are PHP arrays,
- * and a page is the default template, printed by hand; the plugins below do what those of crates/bundled_plugins of the
- * same names do. WordPress itself does far more for a page than this: its database, its theme, its other callbacks.
+ * page and of one post, `pass`, which times passes of a filter within this process, and `jit`, which asks whether PHP's
+ * JIT is on. Posts and options are PHP arrays, and a page is the default template, printed by hand; the plugins below do
+ * what those of crates/bundled_plugins of the same names do. WordPress itself does far more for a page than this: its
+ * database, its theme, its other callbacks.
+ *
+ * With --page-cache the reply to each path is kept until the next edit, as a page cache in front of WordPress keeps it.
  */
 error_reporting(E_ERROR | E_PARSE);
 ini_set('display_errors', 'stderr');
@@ -123,6 +126,9 @@ $plugins = [
 $posts = [];
 $options = [];
 $active = [];
+// The posts' IDs in the order in which the front lists them, or null if a post was stored since they were sorted.
+// WordPress would ask its database for them, or have them from an object cache, until a post changes.
+$listed = null;
 
 function load_plugins() {
     global $plugins, $active, $wp_filter, $wp_actions, $wp_filters, $wp_current_filter, $shortcode_tags;
@@ -140,13 +146,15 @@ function load_plugins() {
     }
 }
 function found($path) {
-    global $posts, $options;
+    global $posts, $options, $listed;
     if (preg_match('~\A/\?p=([0-9]+)\z~', $path, $match)) {
         return isset($posts[(int) $match[1]]) ? [(int) $match[1]] : [];
     }
-    $ids = array_keys($posts);
-    usort($ids, fn($a, $b) => strcmp($posts[$b][2], $posts[$a][2]) ?: $b - $a);
-    return array_slice($ids, 0, (int) ($options['posts_per_page'] ?? 10));
+    if (null === $listed) {
+        $listed = array_keys($posts);
+        usort($listed, fn($a, $b) => strcmp($posts[$b][2], $posts[$a][2]) ?: $b - $a);
+    }
+    return array_slice($listed, 0, (int) ($options['posts_per_page'] ?? 10));
 }
 function page($path) {
     global $posts;
@@ -178,11 +186,17 @@ function pass_over($count, $spread) {
     return $best;
 }
 
+function is_jit_on() {
+    $status = function_exists('opcache_get_status') ? opcache_get_status(false) : [];
+    return $status['jit']['on'] ?? false;
+}
+
 function reply_to($command) {
-    global $posts, $options, $active;
+    global $posts, $options, $active, $listed;
     switch ($command['cmd']) {
         case 'put':
             $posts[] = [$command['title'] ?? '', $command['content'] ?? '', $command['date']];
+            $listed = null;
             return 'ok ' . array_key_last($posts) . "\n";
         case 'option':
             $options[$command['name']] = $command['value'];
@@ -198,11 +212,24 @@ function reply_to($command) {
             return 'page 200 ' . strlen($page) . "\n$page\n";
         case 'pass':
             return 'ok ' . (int) pass_over($command['count'], $command['spread']) . "\n";
+        case 'jit':
+            return 'ok ' . (int) is_jit_on() . "\n";
     }
     return "refused 1 BadCommand\n";
 }
 $posts[0] = null;
 unset($posts[0]);
+
+$has_cache = '--page-cache' === ($argv[2] ?? '');
+$replies = [];
 while (false !== ($line = fgets(STDIN))) {
-    fwrite(STDOUT, reply_to(json_decode($line, true)));
+    $command = json_decode($line, true);
+    if (!$has_cache) {
+        fwrite(STDOUT, reply_to($command));
+    } elseif ('get' === $command['cmd']) {
+        fwrite(STDOUT, $replies[$command['path']] ??= reply_to($command));
+    } else {
+        $replies = [];
+        fwrite(STDOUT, reply_to($command));
+    }
 }

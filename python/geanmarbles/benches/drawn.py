@@ -13,6 +13,8 @@ GREY, BLACK = "#d8d8d8", "#222222"
 WIDTH, LINES_AT, BARS_AT = 1000, (80, 620), (380, 920)
 # The height of a title, of what an axis has below it, of a legend's line and of a bar.
 TITLE, FOOT, LEGEND, BAR = 62, 42, 17, 13
+# The width that a letter of a legend has at most, on average.
+LETTER = 7
 
 
 def add(parent: Element, kind: str, **given: object) -> Element:
@@ -122,9 +124,10 @@ class Bars:
                 add(picture, "rect", x=left, y=y, width=wide, height=BAR - 2, fill=colour)
                 write(picture, number(figure), left + wide + 4, y + 10)
                 y += BAR
-        for place, (name, colour) in enumerate(zip(self.names, COLOURS)):
-            add(picture, "rect", x=left + 180 * place, y=top - 18, width=BAR - 2, height=BAR - 2, fill=colour)
-            write(picture, name, left + 180 * place + 16, top - 8)
+        for name, colour in zip(self.names, COLOURS):
+            add(picture, "rect", x=left, y=top - 18, width=BAR - 2, height=BAR - 2, fill=colour)
+            write(picture, name, left + 16, top - 8)
+            left += 40 + LETTER * len(name)
 
 
 def draw(file: Path | None, panels: Sequence[Lines | Bars]) -> None:

@@ -2,98 +2,66 @@
 
     bench/wordpress/run [--wordpress DIR] [--smoke] [--svg FILE] [PROGRAM]
 
-DIR is the folder with WordPress's wp-includes; if it is left out, /usr/share/wordpress. PHP's command `php` and a
-WordPress are needed, of Debian for instance the packages `php-cli` and `wordpress`. This script installs nothing:
+DIR is the folder with WordPress's wp-includes; if it is left out, /usr/share/wordpress. PHP's command `php` with its
+opcache and a WordPress are needed, of Debian for instance the packages `php-cli`, `php-opcache` and `wordpress`. This
+script installs nothing:
 
-    apt-get install php-cli; apt-get download wordpress; dpkg -x wordpress_*.deb FOLDER
+    apt-get install php-cli php-opcache; apt-get download wordpress; dpkg -x wordpress_*.deb FOLDER
     bench/wordpress/run --wordpress FOLDER/usr/share/wordpress
 
-Both programs are asked by the same lines of JSON over a pipe, in turn. A page is timed from the line to the last byte
-of its reply, and each figure is the best of several. If their pages differ, the row says so. The passes over 1 to 1,000
-callbacks are timed apart: those of crates/test_bench, if it is built, as bench/hooks does, and a loop within PHP.
+All are asked by the same lines of JSON over a pipe, in turn: the program; PHP without its opcode cache, with opcache
+and its tracing JIT, and with a page cache; and a loop that makes no page, so that the pipe's share is known. Pages are
+timed by the clock, from the line to the last byte of the reply, and the last table has what each takes of a processor.
+If the pages differ, the row says so. The passes over 1 to 1,000 callbacks are timed apart: those of crates/test_bench,
+if it is built, as bench/hooks does, and a loop within PHP.
 
 WordPress does more for a page than what is timed here; README.md says what.
 """
 
+import contextlib
 import os
 import shutil
-import subprocess
 import sys
-import time
+import tempfile
 from collections.abc import Callable, Iterable, Iterator, Sequence
 from pathlib import Path
+from typing import NamedTuple
 
 from geanmarbles.benches.drawn import Bars, Lines, draw
 from geanmarbles.benches.measured import PASSES, Bench, parser_of
-from geanmarbles.client.exchanges import ARTICLE, CHANGE, Exchange, activate, done, get, joined, line, put
-from geanmarbles.client.program import pipe
+from geanmarbles.benches.piped import SECONDS, Asked, Figure, Piped, figures_of, request_of
+from geanmarbles.client.exchanges import ARTICLE, CHANGE, WORDS, Exchange, activate, done, get, joined, line, put
 from geanmarbles.output import quiet_output
 from geanmarbles.paths import ROOT
 
-# A page: its title, the exchange that makes its site, its path, and whether a change comes before each request.
-Page = tuple[str, Exchange, str] | tuple[str, Exchange, str, bool]
 HERE = ROOT / "bench" / "wordpress"
-NAMES = ("Here", "WordPress's functions")
-# A figure is the best of at least FEWEST requests, and of as many as fit into SECONDS.
-FEWEST, SECONDS = 3, 1.0
+NAMES = ("Here", "WordPress's functions", "with JIT", "Page cache", "Pipe alone")
+# What the first is compared with, in the columns of times: the three after it.
+RATIOS = ("Times as fast", "than with JIT", "than a page cache")
+PLAIN = ("php", "-d", "opcache.enable_cli=0")
+# Without a size for its buffer PHP's JIT stays off, whatever else is asked for.
+JIT = ("php", "-d", "opcache.enable_cli=1", "-d", "opcache.jit=tracing", "-d", "opcache.jit_buffer_size=64M")
+# Why a page after a change may take longer here.
+TABLES = "each post is read from the tables again; there it is an item of an array"
 
 
-class Program:
-    """A program that replies to a line at a time."""
+class Page(NamedTuple):
+    """A page: its row's title, the exchange that makes its site, its path, whether a change comes before each request,
+    and what is known of why WordPress's functions are the faster ones, if they are."""
 
-    def __init__(self, words: Sequence[str]) -> None:
-        self.name = words[0]
-        self.child = subprocess.Popen(words, stdin=subprocess.PIPE, stdout=subprocess.PIPE)
-        self.given, self.replies = pipe(self.child.stdin), pipe(self.child.stdout)
-
-    def ask(self, asked: bytes) -> tuple[float, bytes, bytes]:
-        """Seconds to the last byte of the reply, its first line, and the page's bytes."""
-        begin = time.perf_counter()
-        self.given.write(asked)
-        self.given.flush()
-        head = self.replies.readline()
-        if not head:
-            sys.exit(f"{self.name} has ended")
-        body = b""
-        if head.startswith(b"page "):
-            body = self.replies.read(int(head.split()[2]) + 1)[:-1]
-        return time.perf_counter() - begin, head, body
-
-    def make(self, site: Exchange) -> None:
-        for asked in site.lines.encode().splitlines(keepends=True):
-            head = self.ask(asked)[1]
-            if not head.startswith(b"ok"):
-                sys.exit(f"{self.name} replies {head!r} to {asked[:80]!r}")
-
-    def end(self) -> None:
-        self.given.close()
-        self.replies.close()
-        self.child.wait()
+    title: str
+    site: Exchange
+    path: str = "/"
+    changed: bool = False
+    why: str = ""
 
 
-def timed(
-    words: Iterable[Sequence[str]], site: Exchange, path: str, changed: bool = False
-) -> tuple[list[float], list[bytes]]:
-    """The best time of a page for each of two programs, which take turns, and what each page is.
+class Timed(NamedTuple):
+    """What a page takes by each of NAMES, and the replies of the program and of WordPress's functions."""
 
-    If `changed`, a command comes before each request, after which this program reads its tables anew."""
-    programs = [Program(it) for it in words]
-    best, pages = [float("inf")] * 2, [b"", b""]
-    asked = get(path).lines.encode()
-    for number, program in enumerate(programs):
-        program.make(site)
-        best[number], _, pages[number] = program.ask(asked)
-    begin, turns = time.perf_counter(), 1
-    slow = max(best) > SECONDS
-    while not slow and (turns < FEWEST or time.perf_counter() - begin < 2 * SECONDS):
-        for number, program in enumerate(programs):
-            if changed:
-                program.make(CHANGE)
-            best[number] = min(best[number], program.ask(asked)[0])
-        turns += 1
-    for program in programs:
-        program.end()
-    return best, pages
+    figures: list[Figure]
+    here: bytes
+    there: bytes
 
 
 def readable(seconds: float) -> str:
@@ -103,37 +71,121 @@ def readable(seconds: float) -> str:
     return f"{seconds * 1e9:,.0f} ns"
 
 
-def row(title: str, here: float, wordpress: float, note: str = "") -> None:
-    print(f"| {title} | {readable(here)} | {readable(wordpress)} | {wordpress / here:.1f} | {note} |", flush=True)
+def ratio(there: float, here: float) -> str:
+    """How many times as fast the first is, in two digits if it is the slower one."""
+    times = there / here
+    return f"{times:,.1f}" if times >= 0.995 else f"{times:.2g}"
 
 
-def head(title: str) -> None:
-    print(f"\n| {title} | Here | WordPress's functions | Times as fast | Remark |\n|---|---|---|---|---|", flush=True)
+def size_of(reply: bytes) -> int:
+    """How many bytes the page of a reply has."""
+    return int(reply.split(maxsplit=3)[2])
 
 
-def pages(words: Sequence[Sequence[str]], cases: Iterable[Page]) -> dict[str, list[float]]:
-    """Prints a row for each case, and returns the milliseconds here and there by their titles."""
-    figures: dict[str, list[float]] = {}
-    for title, site, path, *changed in cases:
-        (here, wordpress), (ours, theirs) = timed(words, site, path, *changed)
-        note = ""
-        if theirs != ours:
-            note = f"the pages differ: {len(ours):,} bytes here, {len(theirs):,} there"
-        row(title, here, wordpress, note)
-        figures[title] = [here * 1e3, wordpress * 1e3]
-    return figures
+def print_head(title: str, *names: str) -> None:
+    print(f"\n| {' | '.join([title, *names])} |\n|{'---|' * (1 + len(names))}", flush=True)
 
 
-def bold_pages(words: Sequence[Sequence[str]], counts: Sequence[int]) -> Lines:
-    head("A page of `[b]x[/b]`")
-    sites = ((f"{count:,} times", activate("bold") + put(1, "[b]x[/b]" * count), "/?p=1") for count in counts)
-    figures = pages(words, sites).values()
-    families = {name: list(zip(counts, of)) for name, of in zip(NAMES, zip(*figures))}
-    return Lines("A page of `[b]x[/b]`", "shortcodes", "milliseconds", families)
+def print_row(title: str, seconds: Sequence[float], *rest: str) -> None:
+    """A row of times, of how many times as fast the first is as those after it but for the pipe's, and of more."""
+    ratios = [ratio(there, seconds[0]) for there in seconds[1 : 1 + len(RATIOS)]]
+    print(f"| {' | '.join([title, *map(readable, seconds), *ratios, *rest])} |", flush=True)
+
+
+class Comparison:
+    """The programs that are compared, and what each page took of a processor so far."""
+
+    def __init__(self, bench: Bench, wordpress: Path) -> None:
+        self.seconds = 0 if bench.smoke else SECONDS
+        site = (str(HERE / "site.php"), str(wordpress))
+        self.plain, self.with_jit = (*PLAIN, *site), (*JIT, *site)
+        self.words = (bench.words, self.plain, self.with_jit, (*self.plain, "--page-cache"))
+        self.processor: list[tuple[str, list[float]]] = []
+
+    def check_jit(self) -> None:
+        """Ends the script if PHP's JIT isn't on in the programs that are to have it, or is in another."""
+        for words in self.words[1:]:
+            with Piped(words) as php:
+                reply = php.ask(line("jit").encode().strip()).text()
+            wanted = f"ok {words == self.with_jit:d}"
+            if reply != wanted:
+                said = "isn't on; is there opcache (Debian's php-opcache)?" if words == self.with_jit else "is on"
+                sys.exit(f"{' '.join(words)}: PHP's JIT {said}")
+
+    def timed(self, page: Page) -> Timed:
+        """What a page takes by each program, of which those with WordPress's functions must make the same."""
+        asked = get(page.path).lines.encode()
+        change = request_of(CHANGE) if page.changed else None
+        with contextlib.ExitStack() as programs, tempfile.NamedTemporaryFile() as file:
+            turns = []
+            for words in self.words:
+                program = programs.enter_context(Piped(words))
+                program.make(page.site)
+                turns.append(Asked(program, program.request(asked), change))
+            here, there, *others = [it.page.reply for it in turns]
+            for turn, reply in zip(turns[2:], others):
+                if reply != there:
+                    turn.program.fail("its page isn't the one without JIT and page cache")
+            file.write(here)
+            file.flush()
+            pipe = programs.enter_context(Piped([*PLAIN, str(HERE / "pipe.php"), file.name]))
+            turns.append(Asked(pipe, pipe.request(asked)))
+            figures = figures_of(turns, self.seconds)
+        return Timed(figures, here, there)
+
+    def pages(self, title: str, cases: Iterable[Page]) -> dict[str, list[float]]:
+        """Prints a row for each case, and returns its milliseconds by the clock by its title."""
+        print_head(title, *NAMES, *RATIOS, "Remark")
+        milliseconds: dict[str, list[float]] = {}
+        for page in cases:
+            figures, here, there = self.timed(page)
+            clock = [it.clock for it in figures]
+            if here != there:
+                note = f"the pages differ: {size_of(here):,} bytes here, {size_of(there):,} there"
+            else:
+                note = page.why if min(clock[1:3]) < clock[0] else ""
+            print_row(page.title, clock, note)
+            milliseconds[page.title] = [it * 1e3 for it in clock]
+            self.processor.append((page.title, [it.processor for it in figures]))
+        return milliseconds
+
+    def print_processor(self) -> None:
+        print_head("A page, by the processor", *NAMES, *RATIOS)
+        for title, seconds in self.processor:
+            print_row(title, seconds)
+
+
+def article(count: int) -> str:
+    """The content of 3 KB with this many of its 14 shortcodes; the tags of the others are words of the same length."""
+    pieces = (("[b]", "[/b]") if number < count else ("or ", " too") for number in range(14))
+    return "".join(f"{WORDS}{begin}word {number:02}{end} " for number, (begin, end) in enumerate(pieces))
+
+
+def single_posts() -> Iterator[Page]:
+    """The page of one post, which a site is asked for most."""
+    small = "small: to read the line and to write the reply takes most of its time"
+    yield Page("one empty post", put(1), "/?p=1", why=small)
+    for count in (0, 3, 14):
+        title = f"one post of {len(ARTICLE):,} bytes, {count or 'no'} shortcodes"
+        yield Page(title, activate("bold") + put(1, article(count), "Title"), "/?p=1", why=small)
+    yield Page("the same post, after a change", activate("bold") + put(1, ARTICLE, "Title"), "/?p=1", True, TABLES)
+
+
+def lists_of_posts() -> Iterator[Page]:
+    hundred = done("option", name="posts_per_page", value="100") + joined(put(it) for it in range(1, 101))
+    yield Page("the front of 100 empty posts", hundred)
+    yield Page("the same 100, after a change", hundred, changed=True, why=TABLES)
+    yield Page("the same, `marks` active: 2 callbacks a title", activate("marks") + hundred)
+    yield Page("the same, `once`: 3, one takes itself away and adds itself", activate("once") + hundred)
+    yield Page("the same, `nest`: 7, a pass within the pass", activate("nest") + hundred)
+    posts = activate("bold", "marks") + joined(put(it, ARTICLE, "Title") for it in range(1, 11))
+    yield Page(f"ten posts of {len(ARTICLE):,} bytes, 14 shortcodes each", posts)
+    yield Page("the same ten, after a change", posts, changed=True, why=TABLES)
 
 
 def hostile_texts(smoke: bool) -> Iterator[Page]:
     scale = 100 if smoke else 1
+    active = activate("bold", "atts")
     texts: list[tuple[str, Callable[[int], str], int]] = [
         ("`[`, {:,} times", lambda n: "[" * n, 500_000),
         ("`[b`, {:,} times", lambda n: "[b" * n, 200_000),
@@ -147,41 +199,55 @@ def hostile_texts(smoke: bool) -> Iterator[Page]:
     ]
     for title, text, count in texts:
         count = max(1, count // scale)
-        yield title.format(count), activate("bold", "atts") + put(1, text(count)), "/?p=1"
-    yield "the same text, after a change", activate("bold", "atts") + put(1, text(count)), "/?p=1", True
+        yield Page(title.format(count), active + put(1, text(count)), "/?p=1")
+    copies = "the text is read from its tables again, and copied several times on its way to the reply"
+    yield Page("the same text, after a change", active + put(1, text(count)), "/?p=1", True, copies)
 
 
-def site_pages() -> Iterator[Page]:
-    hundred = done("option", name="posts_per_page", value="100") + joined(put(it) for it in range(1, 101))
-    yield "the front of 100 empty posts", hundred, "/"
-    yield "the same 100, after a change", hundred, "/", True
-    yield "the same, `marks` active: 2 callbacks a title", activate("marks") + hundred, "/"
-    yield "the same, `once`: 3, one takes itself away and adds itself", activate("once") + hundred, "/"
-    yield "the same, `nest`: 7, a pass within the pass", activate("nest") + hundred, "/"
-    posts = activate("bold", "marks") + joined(put(it, ARTICLE, "Title") for it in range(1, 11))
-    yield f"ten posts of {len(ARTICLE):,} bytes, 14 shortcodes each", posts, "/"
-    yield "the same ten, after a change", posts, "/", True
+def bars(compared: Comparison, title: str, cases: Iterable[Page]) -> Bars:
+    return Bars(title, "milliseconds", NAMES, compared.pages(title, cases))
 
 
-def bars(words: Sequence[Sequence[str]], title: str, cases: Iterable[Page]) -> Bars:
-    head(title)
-    return Bars(title, "milliseconds", NAMES, pages(words, cases))
+def bold_pages(compared: Comparison, counts: Sequence[int]) -> Lines:
+    text = "`[b]x[/b]`"
+    sites = ((count, activate("bold") + put(1, "[b]x[/b]" * count)) for count in counts)
+    cases = (Page(f"{text}, {count:,} times", site, "/?p=1") for count, site in sites)
+    figures = compared.pages(f"A page of {text}", cases).values()
+    families = {name: list(zip(counts, of)) for name, of in zip(NAMES, zip(*figures))}
+    return Lines(f"A page of {text}", "shortcodes", "milliseconds", families)
 
 
-def passes(bench: Bench, php_words: Sequence[str]) -> Lines:
-    head("A pass of a filter, callbacks that give the value back")
-    php = Program(php_words)
+def passes(bench: Bench, compared: Comparison) -> Lines:
+    print_head("A pass of a filter, callbacks that give the value back", *NAMES[:3], *RATIOS[:2], "Remark")
     families: dict[str, list[tuple[float, float]]] = {}
-    for spread, title in ((False, "at one priority"), (True, "each at its own priority")):
-        for count in (1, 10) if bench.smoke else (1, 10, 100, 1_000):
-            _, reply, _ = php.ask(line("pass", count=count, spread=spread).encode())
-            here, wordpress = bench.costs([bench.passes(count, spread)])[0].seconds, int(reply.split()[1]) / 1e9
-            note = f"{here / count * 1e9:.0f} and {wordpress / count * 1e9:.0f} ns a callback"
-            row(f"{count:,} callback{'s' * (count > 1)}, {title}", here, wordpress, note)
-            for name, seconds in zip(NAMES, (here, wordpress)):
-                families.setdefault(f"{name}, {title}", []).append((count, seconds * 1e6))
-    php.end()
+    with Piped(compared.plain) as plain, Piped(compared.with_jit) as with_jit:
+        for spread, title in ((False, "at one priority"), (True, "each at its own priority")):
+            for count in (1, 10) if bench.smoke else (1, 10, 100, 1_000):
+                asked = line("pass", count=count, spread=spread).encode().strip()
+                there = [int(php.ask(asked).words[1]) / 1e9 for php in (plain, with_jit)]
+                seconds = [bench.costs([bench.passes(count, spread)])[0].seconds, *there]
+                each = ", ".join(f"{it / count * 1e9:.0f}" for it in seconds)
+                print_row(f"{count:,} callback{'s' * (count > 1)}, {title}", seconds, f"{each} ns a callback")
+                for name, took in zip(NAMES, seconds):
+                    families.setdefault(f"{name}, {title}", []).append((count, took * 1e6))
     return Lines("A pass of a filter", "callbacks", "microseconds", families)
+
+
+def compare(bench: Bench, wordpress: Path) -> None:
+    compared = Comparison(bench, wordpress)
+    compared.check_jit()
+    panels: list[Lines | Bars] = [
+        bars(compared, "A page of one post", single_posts()),
+        bars(compared, "A page of many posts", lists_of_posts()),
+        bold_pages(compared, (100,) if bench.smoke else (100, 1_000, 10_000, 60_000)),
+        bars(compared, "A page of a hostile text", hostile_texts(bench.smoke)),
+    ]
+    if os.access(PASSES, os.X_OK):
+        panels.append(passes(bench, compared))
+    else:
+        print(f"\n{PASSES.name} isn't built (`rt run` in its folder), so passes aren't timed.")
+    compared.print_processor()
+    draw(bench.svg, panels)
 
 
 @quiet_output()
@@ -190,17 +256,6 @@ def main() -> None:
     parser.add_argument("--wordpress", type=Path, default=Path("/usr/share/wordpress"), metavar="DIR")
     given = parser.parse_args()
     if not shutil.which("php") or not (given.wordpress / "wp-includes" / "shortcodes.php").exists():
-        sys.exit("wanted: PHP's command php, and a WordPress (--wordpress DIR); Debian's php-cli and wordpress")
-    bench = Bench(given)
-    php_words = ["php", str(HERE / "site.php"), str(given.wordpress)]
-    words = [bench.words, php_words]
-    panels: list[Lines | Bars] = [
-        bold_pages(words, (100,) if bench.smoke else (100, 1_000, 10_000, 60_000)),
-        bars(words, "A page of a hostile text", hostile_texts(bench.smoke)),
-        bars(words, "A page", site_pages()),
-    ]
-    if os.access(PASSES, os.X_OK):
-        panels.append(passes(bench, php_words))
-    else:
-        print(f"\n{PASSES.name} isn't built (`rt run` in its folder), so passes aren't timed.")
-    draw(bench.svg, panels)
+        wanted = "PHP's command php, and a WordPress (--wordpress DIR); Debian's php-cli, php-opcache and wordpress"
+        sys.exit(f"wanted: {wanted}")
+    compare(Bench(given), given.wordpress)
