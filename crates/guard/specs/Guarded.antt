@@ -38,7 +38,7 @@ abbrev pub bracket_in : Text → Option ℕ
 bracket_in text =
     if is_some (after_word (codes "&#91;") text) then Some 91 else (if is_some (after_word (codes "&#93;") text) then Some 93 else None)
 
--- a text after so many bytes, with its hidden brackets shown again
+-- a text after `skipped` bytes, with its hidden brackets shown again
 abbrev pub shown_after : ℕ → Text → Text
 shown_after skipped [] = []
 shown_after (suc skipped) (b ∷ rest) = shown_after skipped rest

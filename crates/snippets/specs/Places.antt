@@ -21,7 +21,7 @@ pub data Place : Type 0 where
   Declared : ℕ → Place
   -- in a doctype or a bogus comment, which end at the first `>`
   Ending : Place
-  -- in a comment, with so many `-` just before, of which two count
+  -- in a comment, with the number of `-` just before, 2 at most
   Comment : ℕ → Place
   -- in the name of a tag, with what is left of `script` and of `style` if it has been of these so far
   Name : Option Text → Option Text → Place

@@ -41,7 +41,8 @@ impl Stated for Still {
     }
 }
 
-/// Makes the plugin of a number, which registers its callback on `the_title` at so many priorities.
+/// Makes the plugin of a number, which registers its callback on `the_title` at `count` priorities,
+/// from 0 on.
 fn plugin(alloc: Global, number: u32, count: i32) -> Result<Plugin<Still>, AllocError> {
     let mut load = Listed::empty(alloc);
     for priority in 0..count {

@@ -1,4 +1,3 @@
 mod Addresses
 pub mod Marks
 mod Numbers
-mod Words

@@ -4,7 +4,6 @@ ghost use Rattle.std.specs.Prelude.{option_map};
 ghost use Rattle.std.specs.Char.{digit_value, is_digit};
 ghost use Rattle.std.specs.List.{prefix_len};
 ghost use Rattle.std.specs.Str.Parse.{digits_value};
-ghost use Rattle.text_cuts.specs.Cuts.{after_word};
 ghost use Rattle.value_escapes.specs.Escapes.{ascii, by_digits, by_name, by_number, character_at};
 ghost use Rattle.value_escapes.specs.Escapes.{decoded, decoded_part, without_semicolon};
 
@@ -87,36 +86,17 @@ fn by_number(text: &[u8]) -> Option<(u8, &[u8])>
     }
 }
 
-/// Returns what comes after a word, if a text begins with it.
-fn after_word<'t>(word: &[u8], text: &'t [u8]) -> Option<&'t [u8]>
-    ensures { option_map (λ rest. rest.now) result ≡ after_word word.now text.entry.now }
-{
-    let mut rest = text;
-    for letter in word {
-        match rest {
-            [] => return None,
-            [first, after @ ..] => {
-                if *first != *letter {
-                    return None;
-                }
-                rest = after;
-            }
-        }
-    }
-    Some(rest)
-}
-
 /// Returns the character whose name comes next, after an `&`, and what comes after it.
 fn by_name(text: &[u8]) -> Option<(u8, &[u8])>
     ensures { option_map (λ x. (x.0, x.1.now)) result ≡ by_name text.now }
 {
-    if let Some(rest) = after_word(b"colon;", text) {
+    if let Some(rest) = text.strip_prefix(b"colon;".as_slice()) {
         return Some((b':', rest));
     }
-    if let Some(rest) = after_word(b"Tab;", text) {
+    if let Some(rest) = text.strip_prefix(b"Tab;".as_slice()) {
         return Some((b'\t', rest));
     }
-    let rest = after_word(b"NewLine;", text)?;
+    let rest = text.strip_prefix(b"NewLine;".as_slice())?;
     Some((b'\n', rest))
 }
 
