@@ -48,6 +48,7 @@ COMMANDS = {
     "tests/from_wordpress/run": "checks.from_wordpress.run",
     "tests/fuzz/run": "checks.fuzz.run",
     "tests/hostile/run": "checks.hostile.run",
+    "tests/http/run": "checks.over_http",
     "tests/links/run": "checks.links.run",
     "tests/memory/run": "checks.memory",
     "tests/press/run": "checks.press",

@@ -1,3 +1,4 @@
 pub mod SiteApp
 pub mod GivenValues
 pub mod WorkedArgs
+pub mod Suiting

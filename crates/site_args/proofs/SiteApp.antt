@@ -6,7 +6,7 @@ use Rattle.clap.specs.Simple.{on_top}
 use Rattle.clap.specs.declared.builder.command.Command.{Command}
 use Rattle.clap.proofs.OnLiterals.{clap_on_literals}
 use Rattle.clap.proofs.SimpleLemmas.{HasPlainFields, plain_fields, simple_groups}
-use Rattle.site_args.specs.CommandLine.{site_app, bare_app, serving_rules, file_rules, history_rules, number_rule, flag_rule, path_rule}
+use Rattle.site_args.specs.CommandLine.{site_app, bare_app, serving_rules, file_rules, history_rules, http_rules, number_rule, flag_rule, path_rule}
 
 pub simple : is_simple site_app ≡ true
 unfolding clap_on_literals site_app
@@ -17,18 +17,18 @@ unfolding clap_on_literals site_app
 simple_and_free = refl
 
 -- the groups of options one after another make the whole
-pub app_is : (bare served filed whole : App) → bare ≡ bare_app → served ≡ serving_rules bare → filed ≡ file_rules served → whole ≡ history_rules filed
-    → whole ≡ site_app
+pub app_is : (bare served filed logged whole : App) → bare ≡ bare_app → served ≡ serving_rules bare → filed ≡ file_rules served
+    → logged ≡ history_rules filed → whole ≡ http_rules logged → whole ≡ site_app
 unfolding site_app
-app_is bare served filed whole is_bare is_served is_filed is_whole =
-    is_whole ∙ ap history_rules (is_filed ∙ ap file_rules (is_served ∙ ap serving_rules is_bare))
+app_is bare served filed logged whole is_bare is_served is_filed is_logged is_whole =
+    is_whole ∙ ap http_rules (is_logged ∙ ap history_rules (is_filed ∙ ap file_rules (is_served ∙ ap serving_rules is_bare)))
 
--- the eight options
+-- the ten options
 abbrev pub all_rules : List Rule
 all_rules =
     number_rule (codes "calls") 100000 ∷ number_rule (codes "cache") 4096 ∷ flag_rule (codes "trace") ∷ path_rule (codes "database")
     ∷ flag_rule (codes "must-exist") ∷ flag_rule (codes "export") ∷ flag_rule (codes "compact")
-    ∷ flag_rule (codes "check") ∷ []
+    ∷ flag_rule (codes "check") ∷ flag_rule (codes "http") ∷ path_rule (codes "token-file") ∷ []
 
 pub rules_are : (c : Command) → app_of c ≡ site_app → map rule_of (args_of c) ≡ all_rules
 unfolding site_app

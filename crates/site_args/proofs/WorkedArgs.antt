@@ -3,7 +3,7 @@ use Rattle.std.proofs.Common.{◌≡◌, List, [], ◌∷◌, codes, refl, true,
 use Rattle.clap.proofs.OnLiterals.{clap_on_literals}
 use Rattle.clap.specs.Words.{Text}
 use Rattle.clap.specs.declared.error.kind.ErrorKind.TheVariants as kind
-use Rattle.site_args.specs.CommandLine.{calls_of, cache_of, trace_of, database_of, export_of, compact_of, check_of, must_exist_of, reasons, site_app}
+use Rattle.site_args.specs.CommandLine.{calls_of, cache_of, trace_of, database_of, export_of, compact_of, check_of, must_exist_of, http_of, token_file_of, reasons, site_app}
 
 pub no_words : reasons [] ≡ []
 unfolding clap_on_literals site_app
@@ -138,3 +138,26 @@ must_exist = refl
 pub may_be_new : must_exist_of (codes "--database" ∷ codes "a.db" ∷ []) ≡ false
 unfolding clap_on_literals site_app
 may_be_new = refl
+
+abbrev pub http_options : List Text
+http_options = codes "--http" ∷ codes "--token-file" ∷ codes "key" ∷ []
+
+pub served_over_http : reasons http_options ≡ []
+unfolding clap_on_literals site_app
+served_over_http = refl
+
+pub http : http_of http_options ≡ true
+unfolding clap_on_literals site_app
+http = refl
+
+pub token_file : token_file_of http_options ≡ Some (codes "key")
+unfolding clap_on_literals site_app
+token_file = refl
+
+pub served_as_lines : http_of [] ≡ false
+unfolding clap_on_literals site_app
+served_as_lines = refl
+
+pub no_token : token_file_of (codes "--http" ∷ []) ≡ None
+unfolding clap_on_literals site_app
+no_token = refl

@@ -36,13 +36,18 @@ file_rules app = with_rule (with_rule app (path_rule (codes "database"))) (flag_
 abbrev pub history_rules : App → App
 history_rules app = with_rule (with_rule (with_rule app (flag_rule (codes "export"))) (flag_rule (codes "compact"))) (flag_rule (codes "check"))
 
+-- and those for HTTP
+abbrev pub http_rules : App → App
+http_rules app = with_rule (with_rule app (flag_rule (codes "http"))) (path_rule (codes "token-file"))
+
 -- `site`, of the command-line arguments; clap adds `--help`
 abbrev pub bare_app : App
 bare_app = on_top (λ s. record s { no_binary_name = true }) (new_app (codes "site"))
 
--- `site [--calls N] [--cache N] [--trace] [--database FILE] [--must-exist] [--export] [--compact] [--check]`
+-- `site [--calls N] [--cache N] [--trace] [--database FILE] [--must-exist] [--export] [--compact] [--check] [--http]
+-- [--token-file FILE]`
 unfoldable pub site_app : App
-site_app = history_rules (file_rules (serving_rules bare_app))
+site_app = http_rules (history_rules (file_rules (serving_rules bare_app)))
 
 -- why clap refuses the arguments, by the first of its steps that does, and nothing if it accepts them
 abbrev pub reasons : List Text → Kinds
@@ -89,3 +94,11 @@ compact_of words = is_given (first_of (codes "compact") (matches_of site_app wor
 -- whether the history is only to be read
 abbrev pub check_of : List Text → Bool
 check_of words = is_given (first_of (codes "check") (matches_of site_app words))
+
+-- whether the site is served over HTTP
+abbrev pub http_of : List Text → Bool
+http_of words = is_given (first_of (codes "http") (matches_of site_app words))
+
+-- the file with the token that edits over HTTP need, if the arguments name one
+abbrev pub token_file_of : List Text → Option Text
+token_file_of words = first_of (codes "token-file") (matches_of site_app words)

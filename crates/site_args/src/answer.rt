@@ -10,11 +10,13 @@ ghost use Rattle.site_args.specs.CommandLine.{
   export_of,
   compact_of,
   check_of,
+  http_of,
+  token_file_of,
   is_given,
   reasons,
 };
 ghost use Rattle.site_args.specs.Answers.{AsksFor, HasRanges, HasNumbers, IsOutcome, IsReadFrom};
-ghost use Rattle.site_args.specs.Answers.{IsRefusal};
+ghost use Rattle.site_args.specs.Answers.{IsBad, IsRefusal, suits};
 
 use crate::options::site_command;
 use clap::Error;
@@ -50,6 +52,10 @@ pub enum ArgsAnswer {
         trace: bool,
         /// Whether the file has to be there already: not if no argument says so.
         must_exist: bool,
+        /// Whether what is served is served over HTTP: not if no argument says so.
+        http: bool,
+        /// The file with the token that edits over HTTP need, if there is one.
+        token_file: Option<String>,
         /// What is done, and with which file.
         task: Task,
     },
@@ -67,6 +73,12 @@ const APART: &str =
     the last three exclude one another\n\n\
     For more information, try '--help'.\n";
 
+// What is said of options for HTTP that don't suit what is asked for.
+const UNSUITED: &str =
+    "error: '--token-file <FILE>' needs '--http', and '--http' excludes '--export', '--compact' and \
+    '--check'\n\n\
+    For more information, try '--help'.\n";
+
 /// What is read of the options, before it is known whether they go together.
 struct Options {
     calls: u32,
@@ -77,13 +89,16 @@ struct Options {
     export: bool,
     compact: bool,
     check: bool,
+    http: bool,
+    token_file: Option<String>,
 }
 
 /// Parses the command-line arguments: `--calls N`, `--cache N` (also as `--calls=N`), `--trace`,
-/// `--database FILE`, `--must-exist`, `--export`, `--compact`, `--check` and `--help`. An option given
-/// twice, a number out of its range, any other argument, one of the four before the last without a
-/// file, and two of `--export`, `--compact` and `--check` are [`ArgsAnswer::Bad`]. The last clause
-/// says in clap's terms which answer it is.
+/// `--database FILE`, `--must-exist`, `--export`, `--compact`, `--check`, `--http`, `--token-file FILE`
+/// and `--help`. An option given twice, a number out of its range, any other argument, one of
+/// `--must-exist`, `--export`, `--compact` and `--check` without a database, two of the last three, one
+/// of them with `--http`, and `--token-file` without it are [`ArgsAnswer::Bad`]. The last clause says
+/// in clap's terms which answer it is.
 pub fn read_args(alloc: Global, words: &[String]) -> ArgsAnswer
     ensures ranges { HasRanges result }
     ensures numbers { HasNumbers (map string_bytes words.now) result }
@@ -111,19 +126,42 @@ fn answer(alloc: Global, options: Options) -> ArgsAnswer
         export,
         compact,
         check,
+        http,
+        token_file,
     } = options;
     match task_for(database, must_exist, export, compact, check) {
-        Some(task) => ArgsAnswer::Run {
+        Some(task) if suits(http, token_file.is_none(), &task) => ArgsAnswer::Run {
             calls,
             cache,
             trace,
             must_exist,
+            http,
+            token_file,
             task,
         },
-        None => match String::from_str(alloc, APART) {
-            Ok(text) => ArgsAnswer::Bad(text),
-            Err(AllocError) => ArgsAnswer::OutOfMemory,
-        },
+        Some(_) => bad(alloc, UNSUITED),
+        None => bad(alloc, APART),
+    }
+}
+
+/// Returns the answer that says why arguments are refused.
+fn bad(alloc: Global, why: &str) -> ArgsAnswer
+    ensures { IsBad result }
+{
+    match String::from_str(alloc, why) {
+        Ok(text) => ArgsAnswer::Bad(text),
+        Err(AllocError) => ArgsAnswer::OutOfMemory,
+    }
+}
+
+/// Returns whether a task suits the options for HTTP.
+fn suits(http: bool, no_token: bool, task: &Task) -> bool
+    ensures { result ≡ suits http no_token task.now }
+{
+    match task {
+        _ if !http => no_token,
+        Task::Serve | Task::ServeFile(_) => true,
+        Task::Export(_) | Task::Compact(_) | Task::Check(_) => false,
     }
 }
 
@@ -162,6 +200,9 @@ fn read_options(alloc: Global, words: &[String]) -> Result<Options, Error>
     ensures export { IfOk result (λ o. o.export ≡ export_of (map string_bytes words.now)) }
     ensures compact { IfOk result (λ o. o.compact ≡ compact_of (map string_bytes words.now)) }
     ensures check { IfOk result (λ o. o.check ≡ check_of (map string_bytes words.now)) }
+    ensures http { IfOk result (λ o. o.http ≡ http_of (map string_bytes words.now)) }
+    ensures token_file { IfOk result (λ o. option_map string_bytes o.token_file
+        ≡ token_file_of (map string_bytes words.now)) }
     ensures kinds { FailsBy (reasons (map string_bytes words.now)) result }
 {
     let command = site_command(alloc)?;
@@ -173,7 +214,9 @@ fn read_options(alloc: Global, words: &[String]) -> Result<Options, Error>
     let export = is_given(matches.get_str("export"));
     let compact = is_given(matches.get_str("compact"));
     let check = is_given(matches.get_str("check"));
+    let http = is_given(matches.get_str("http"));
     let database = copy_of(alloc, matches.get_str("database"))?;
+    let token_file = copy_of(alloc, matches.get_str("token-file"))?;
     Ok(Options {
         calls,
         cache,
@@ -183,6 +226,8 @@ fn read_options(alloc: Global, words: &[String]) -> Result<Options, Error>
         export,
         compact,
         check,
+        http,
+        token_file,
     })
 }
 

@@ -9,6 +9,7 @@ ghost use Rattle.site_args.specs.CommandLine.{
   serving_rules,
   file_rules,
   history_rules,
+  http_rules,
   site_app,
 };
 
@@ -108,6 +109,29 @@ fn check_flag<'a>(alloc: Global) -> Arg<'a>
         .action(ArgAction::SetTrue)
 }
 
+/// Makes the flag `--http`.
+fn http_flag<'a>(alloc: Global) -> Arg<'a>
+    ensures rule { rule_of result ≡ flag_rule (codes "http") }
+    ensures local { result.global ≡ false }
+{
+    Arg::new(alloc, "http")
+        .long("http")
+        .help("Serves one client of HTTP/1.1 on standard input and output, in place of lines")
+        .action(ArgAction::SetTrue)
+}
+
+/// Makes the option `--token-file FILE`.
+fn token_file_option<'a>(alloc: Global) -> Arg<'a>
+    ensures rule { rule_of result ≡ path_rule (codes "token-file") }
+    ensures local { result.global ≡ false }
+{
+    Arg::new(alloc, "token-file")
+        .long("token-file")
+        .value_name("FILE")
+        .help("Takes edits over HTTP from whoever sends the token in this file")
+        .action(ArgAction::Set)
+}
+
 /// Makes a command line with no options, for arguments that begin after the program's name.
 fn bare_command<'a>(alloc: Global) -> Command<'a>
     ensures { app_of result ≡ bare_app }
@@ -148,11 +172,19 @@ fn with_history_options<'a>(alloc: Global, command: Command<'a>) -> Result<Comma
         .arg(check_flag(alloc))
 }
 
+/// Adds the options for HTTP.
+fn with_http_options<'a>(alloc: Global, command: Command<'a>) -> Result<Command<'a>, AllocError>
+    ensures { IfOk result (λ more. app_of more ≡ http_rules (app_of command.entry)) }
+{
+    command.arg(http_flag(alloc))?.arg(token_file_option(alloc))
+}
+
 /// Makes the whole command line, for arguments that begin after the program's name.
 pub(crate) fn site_command<'a>(alloc: Global) -> Result<Command<'a>, AllocError>
     ensures { IfOk result (λ command. app_of command ≡ site_app) }
 {
     let serving = with_serving_options(alloc, bare_command(alloc))?;
     let filed = with_file_options(alloc, serving)?;
-    with_history_options(alloc, filed)
+    let logged = with_history_options(alloc, filed)?;
+    with_http_options(alloc, logged)
 }

@@ -1,7 +1,8 @@
 //! Worked command lines that are theorems: each clause below is computed from clap's definitions.
 ghost use Rattle.std.specs.Prelude.{◌≡◌, ◌∷◌, [], codes, true, false, Some, None};
 ghost use Rattle.site_args.specs.CommandLine.{calls_of, cache_of, trace_of, database_of, export_of};
-ghost use Rattle.site_args.specs.CommandLine.{check_of, compact_of, must_exist_of, reasons};
+ghost use Rattle.site_args.specs.CommandLine.{check_of, compact_of, must_exist_of, http_of};
+ghost use Rattle.site_args.specs.CommandLine.{token_file_of, reasons};
 
 use clap::error::ErrorKind;
 
@@ -34,6 +35,14 @@ pub fn worked_args()
     ensures check { check_of (codes "--database" ∷ codes "a.db" ∷ codes "--check" ∷ []) ≡ true }
     ensures must_exist { must_exist_of (codes "--must-exist" ∷ []) ≡ true }
     ensures may_be_new { must_exist_of (codes "--database" ∷ codes "a.db" ∷ []) ≡ false }
+
+    ensures served_over_http { reasons
+        (codes "--http" ∷ codes "--token-file" ∷ codes "key" ∷ []) ≡ [] }
+    ensures http { http_of (codes "--http" ∷ codes "--token-file" ∷ codes "key" ∷ []) ≡ true }
+    ensures token_file { token_file_of (codes "--http" ∷ codes "--token-file" ∷ codes "key" ∷ [])
+        ≡ Some (codes "key") }
+    ensures served_as_lines { http_of [] ≡ false }
+    ensures no_token { token_file_of (codes "--http" ∷ []) ≡ None }
 
     // What clap refuses, and why.
     ensures no_calls { reasons (codes "--calls" ∷ codes "0" ∷ [])

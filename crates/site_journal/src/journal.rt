@@ -81,7 +81,7 @@ impl<S: Alter, W: Steady> LogJournal<S, W> {
     }
 }
 
-impl<S: Alter + Drop, W: Steady + Drop> LogJournal<S, W> {
+impl<S: Alter, W: Steady> LogJournal<S, W> {
     /// Returns the log and the sink. What waits is lost.
     pub fn into_parts(self) -> (CommandLog<S>, W)
         ensures opened { ⟦<LogJournal<S, W> as Journal>⟧.is_open self

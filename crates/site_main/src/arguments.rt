@@ -2,6 +2,7 @@
 ghost use Rattle.std.specs.Prelude.{◌≤◌};
 
 use crate::files::missing_file;
+use crate::http::{serve_http, serve_http_file, token_in};
 use crate::serving::{serve, serve_file};
 use callback_store::{Plugins, Stated};
 use site_args::{ArgsAnswer, Task, read_args};
@@ -29,11 +30,18 @@ pub fn run<S: Stated>(rt: &HostRuntime, plugins: &Plugins<S>) -> ExitCode {
             cache,
             trace,
             must_exist,
+            http,
+            token_file,
             task,
-        } => match missing_file(rt, &task, must_exist) {
-            Some(status) => status,
-            None => with_site(rt, plugins, calls, cache, trace, &task),
-        },
+        } => {
+            if let Some(status) = missing_file(rt, &task, must_exist) {
+                return status;
+            }
+            match way_of(rt, http, token_file) {
+                Ok(way) => with_site(rt, plugins, calls, cache, trace, &task, way),
+                Err(status) => status,
+            }
+        }
         ArgsAnswer::Help(text) => {
             let _ = print!(rt; "{text}");
             ExitCode::SUCCESS
@@ -43,6 +51,27 @@ pub fn run<S: Stated>(rt: &HostRuntime, plugins: &Plugins<S>) -> ExitCode {
             ExitCode::from(2)
         }
         ArgsAnswer::OutOfMemory => failed(rt, StoreFault::OutOfMemory),
+    }
+}
+
+/// How a site is served.
+#[derive(Drop)]
+enum Way {
+    /// A command on each line.
+    Lines,
+    /// Over HTTP, with the token that edits need.
+    Http(Option<String>),
+}
+
+/// Returns how a site is served, with the token from its file. If that cannot be read, returns the
+/// program's exit status.
+fn way_of(rt: &HostRuntime, http: bool, token_file: Option<String>) -> Result<Way, ExitCode> {
+    if !http {
+        return Ok(Way::Lines);
+    }
+    match token_file {
+        Some(path) => Ok(Way::Http(Some(token_in(rt, path.as_str())?))),
+        None => Ok(Way::Http(None)),
     }
 }
 
@@ -63,6 +92,7 @@ fn with_site<S: Stated>(
     cache: u32,
     trace: bool,
     task: &Task,
+    way: Way,
 ) -> ExitCode
     requires calls { (1 ≤ calls) × (calls ≤ 100000) }
     requires cache { (1 ≤ cache) × (cache ≤ 4096) }
@@ -79,8 +109,21 @@ fn with_site<S: Stated>(
     let identity = identity.as_str();
     match Site::new(alloc, plugins, calls, cache) {
         Ok(mut site) => match task {
-            Task::Serve => serve(rt, &mut site, trace),
-            Task::ServeFile(path) => serve_file(rt, &mut site, identity, path.as_str(), trace),
+            Task::Serve => match way {
+                Way::Lines => serve(rt, &mut site, trace),
+                Way::Http(token) => serve_http(rt, site, token, trace),
+            },
+            Task::ServeFile(path) => match way {
+                Way::Lines => serve_file(rt, &mut site, identity, path.as_str(), trace),
+                Way::Http(token) => serve_http_file(
+                    rt,
+                    site,
+                    identity,
+                    token,
+                    path.as_str(),
+                    trace,
+                ),
+            },
             Task::Export(path) => export(rt, &mut site, identity, path.as_str()),
             Task::Check(path) => check(rt, &mut site, identity, path.as_str()),
             Task::Compact(path) => match Site::new(alloc, plugins, calls, cache) {

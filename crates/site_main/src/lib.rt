@@ -6,6 +6,7 @@
 
 mod arguments;
 mod files;
+mod http;
 mod serving;
 
 pub use arguments::run;

@@ -1,7 +1,7 @@
 pub mod LineLists
 pub mod Histories
-mod Journals
-mod Newlines
+pub mod Journals
+pub mod Newlines
 mod Stretches
 mod Endings
 mod Settling

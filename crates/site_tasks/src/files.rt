@@ -16,10 +16,11 @@ use page_trace::Watch;
 use site_journal::{LogJournal, Steady};
 use site_replies::ServeFault;
 use site_serving::{Commands, serve};
-use site_start::{StartFault, start};
+use site_start::{FileLog, StartFault, open_site, start};
 use sqlite::{FileFrom, FileStore, Start, Wary};
 use sqlite_disk::Disk;
 use std::alloc::Global;
+use std::fmt::Display;
 use std::process::ExitCode;
 
 /// Why serving ends before the input if the file was removed or replaced.
@@ -147,31 +148,56 @@ pub fn serve_path<C: Commands, R: Source + Drop, W: Steady + Drop, V: Watch>(
         return failed(rt, ServeFault::OutOfMemory);
     };
     let served = serve_file(rt, path, Wary, site, identity, &mut reader, sink, watch);
-    if reader.is_gone() {
-        return failed_at(rt, path, FILE_IS_GONE);
-    }
     match served {
-        Ok(served) => finish(rt, served),
+        Ok(served) => {
+            let Served {
+                result,
+                fault,
+                files,
+                sink: _,
+            } = served;
+            ended(rt, path, files, reader.is_gone(), result, fault)
+        }
         Err((fault, _files)) => not_started(rt, path, fault),
     }
 }
 
-/// Ends the program after serving.
-fn finish<D: Disk + Drop, W: Drop>(rt: &HostRuntime, served: Served<D, W>) -> ExitCode {
-    let Served {
-        result,
-        fault,
-        mut files,
-        sink: _,
-    } = served;
-    match result {
+/// Opens the log in a file, or makes it, and makes the site anew by its lines, the first of which has
+/// to be the identity. If that fails, says why, and returns the program's exit status.
+pub fn opened<C: Commands>(
+    rt: &HostRuntime,
+    path: &str,
+    site: &mut C,
+    identity: &str,
+) -> Result<FileLog<Wary>, ExitCode> {
+    match open_site(rt, path, Wary, site, identity) {
+        Ok(log) => Ok(log),
+        Err((fault, _log)) => Err(not_started(rt, path, fault)),
+    }
+}
+
+/// Ends the program after a file was served, and returns its exit status. If serving came to its end,
+/// what was committed is copied into the database file. If the file or its log is gone, that is what
+/// is said; else why edits could not be committed, if that is known, or how serving ended.
+pub fn ended<D: Disk + Drop, E: Display + Drop>(
+    rt: &HostRuntime,
+    path: &str,
+    mut files: FileStore<D>,
+    is_gone: bool,
+    served: Result<(), E>,
+    fault: Option<LogFault>,
+) -> ExitCode {
+    if is_gone {
+        return failed_at(rt, path, FILE_IS_GONE);
+    }
+    match served {
         Ok(()) => {
             let _ = files.checkpoint();
             ExitCode::SUCCESS
         }
-        Err(ended) => match fault {
+        Err(error) => match fault {
             Some(cause) => failed_at(rt, "the database failed", cause),
-            None => failed(rt, ended),
+            None => failed(rt, error),
         },
     }
 }

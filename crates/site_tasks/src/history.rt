@@ -1,9 +1,10 @@
 //! Printing the history in a file, making it shorter, and reading it alone.
+use crate::files::opened;
 use crate::status::{failed, failed_at, not_started};
 use crate::summary::summary_of;
 use site_replies::{Refusal, ServeFault};
 use site_serving::Commands;
-use site_start::{compact_file, open_site};
+use site_start::compact_file;
 use sqlite::Wary;
 use std::io;
 use std::process::ExitCode;
@@ -11,9 +12,9 @@ use std::process::ExitCode;
 /// Writes the short lines of the site of a file to standard output, and then says on standard error
 /// how many edits the file itself has, and their digest.
 pub fn export<C: Commands>(rt: &HostRuntime, site: &mut C, identity: &str, path: &str) -> ExitCode {
-    let mut log = match open_site(rt, path, Wary, site, identity) {
+    let mut log = match opened(rt, path, site, identity) {
         Ok(log) => log,
-        Err((fault, _log)) => return not_started(rt, path, fault),
+        Err(status) => return status,
     };
     let lines = match site.short_history() {
         Ok(lines) => lines,
@@ -43,9 +44,9 @@ fn print_lines(rt: &HostRuntime, lines: &[String]) -> io::Result<()> {
 /// Carries out the history in a file, and says on standard output how many edits it has, and their
 /// digest. Nothing is served.
 pub fn check<C: Commands>(rt: &HostRuntime, site: &mut C, identity: &str, path: &str) -> ExitCode {
-    let mut log = match open_site(rt, path, Wary, site, identity) {
+    let mut log = match opened(rt, path, site, identity) {
         Ok(log) => log,
-        Err((fault, _log)) => return not_started(rt, path, fault),
+        Err(status) => return status,
     };
     match summary_of(&mut log) {
         Ok(summary) if println!(rt; "{summary}").is_err() => failed(rt, ServeFault::Write),

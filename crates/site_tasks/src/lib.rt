@@ -11,7 +11,8 @@ mod history;
 mod status;
 mod summary;
 
-pub use files::{Served, serve_file, serve_log, serve_path};
+pub use file_ids::WhileThere;
+pub use files::{Served, ended, opened, serve_file, serve_log, serve_path};
 pub use history::{check, compact, export};
-pub use status::failed;
+pub use status::{failed, failed_at};
 pub use summary::{Summary, summary_of};

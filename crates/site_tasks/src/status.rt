@@ -11,7 +11,7 @@ pub fn failed(rt: &HostRuntime, fault: impl Display + Drop) -> ExitCode {
 }
 
 /// Says on standard error what failed, and why.
-pub(crate) fn failed_at(rt: &HostRuntime, what: &str, fault: impl Display + Drop) -> ExitCode {
+pub fn failed_at(rt: &HostRuntime, what: &str, fault: impl Display + Drop) -> ExitCode {
     let _ = eprintln!(rt; "site: {what}: {fault}");
     ExitCode::from(1)
 }

@@ -1,7 +1,8 @@
 """Runs the program `site`, and proves and builds it first if need be.
 
     ./site [--built] [--calls N] [--cache N] [--trace] [--database FILE] < COMMANDS
-    ./site [--built] --database FILE --export | --compact
+    ./site [--built] --http [--token-file FILE] [--calls N] [--cache N] [--trace] [--database FILE]
+    ./site [--built] --database FILE --export | --compact | --check
     ./site --unproved [--calls N] [--cache N] < COMMANDS
     ./site --unproved [--calls N] [--cache N] FILE ..
     ./site --help | --version
@@ -14,6 +15,10 @@ Each line of standard input is a JSON command, and each gets a reply on standard
     --database FILE  keeps the site in this SQLite database, which is made if it isn't there
     --export         prints lines that make the file's site, and serves nothing
     --compact        puts such lines in the place of the file's history, and serves nothing
+    --check          says how many edits the file has and their digest, and serves nothing
+    --must-exist     refuses a file that isn't there or is empty, in place of making it
+    --http           serves one client of HTTP on standard input and output, in place of lines
+    --token-file FILE  takes edits over HTTP from whoever sends the token in this file
     --built          runs the program that is there, also if a source is newer, and builds nothing
     --unproved       proves and keeps nothing: compiles the sources, which takes two to five minutes, and runs them
 
@@ -55,6 +60,9 @@ TRACE = "--trace"
 # The heading of a version in CHANGELOG.md.
 RELEASED = re.compile(r"^## \[(\d+\.\d+\.\d+)\]", re.M)
 DATABASE, MUST_EXIST, ALONE = "--database", "--must-exist", ("--export", "--compact", "--check")
+HTTP, TOKEN_FILE = "--http", "--token-file"
+# Options that take a path.
+PATHS = (DATABASE, TOKEN_FILE)
 NEEDS = (
     "The first build proves every crate below the program: 43 minutes on four processors with little else to do,"
     " about 5 GB of disk in crates/*/out, and up to 2.6 GB of memory for each process of the prover, one a processor."
@@ -93,6 +101,10 @@ def check_options(seen: list[str]) -> None:
         raise BadArguments(f"{needing[0]} needs {DATABASE} FILE")
     if len(alone) > 1:
         raise BadArguments(f"{' beside '.join(alone)}: one of them")
+    if HTTP in seen and alone:
+        raise BadArguments(f"{HTTP} beside {alone[0]}: one of them")
+    if TOKEN_FILE in seen and HTTP not in seen:
+        raise BadArguments(f"{TOKEN_FILE} needs {HTTP}")
 
 
 def check_value(option: str, value: str) -> None:
@@ -115,14 +127,14 @@ def read_arguments(given: Sequence[str]) -> Asked:
     while rest:
         word = rest.pop(0)
         option, equals, value = word.partition("=")
-        if option in LARGEST or option == DATABASE:
+        if option in LARGEST or option in PATHS:
             if not equals and not rest:
                 raise BadArguments(f"{option} takes a {'number' if option in LARGEST else 'file'}")
             value = value if equals else rest.pop(0)
             check_value(option, value)
             seen.append(option)
             words += [option, value]
-        elif word in (TRACE, MUST_EXIST) or word in ALONE:
+        elif word in (TRACE, MUST_EXIST, HTTP, *ALONE):
             seen.append(word)
             words.append(word)
         elif word in ("-h", "--help", "--version"):
@@ -138,6 +150,8 @@ def read_arguments(given: Sequence[str]) -> Asked:
     check_options(seen)
     if DATABASE in seen and mode == "unproved":
         raise BadArguments(f"{DATABASE} needs the built program: a run without a proof opens no files")
+    if HTTP in seen and mode == "unproved":
+        raise BadArguments(f"{HTTP} needs the built program: a run without a proof reads lines")
     if TRACE in seen and mode == "unproved":
         raise BadArguments(f"{TRACE} needs the built program: of a run without a proof standard error isn't handed on")
     if files and mode != "unproved":

@@ -22,7 +22,7 @@ returns-in_err-matches-clause-kinds c =
     kind)
 
 -- the rows of the matches are those of the arguments
-rows_are : (c : goal.Joined-matches-2) → rows_of (found_of c.in_ok-matches.matches) ≡ matches_of site_app (map string_bytes c.args.words.now)
+rows_are : (c : goal.Joined-matches-3) → rows_of (found_of c.in_ok-matches.matches) ≡ matches_of site_app (map string_bytes c.args.words.now)
 rows_are c = (c.in_ok-matches.ensures.matches (ap is_simple c.in_ok-command.ensures ∙ simple)).0
     ∙ ap (λ a. matches_of a (map string_bytes c.args.words.now)) c.in_ok-command.ensures
 
@@ -64,6 +64,15 @@ pub returns-clause-check : goal.returns-clause-check
 returns-clause-check c = c.is_given-check.ensures
     ∙ ap is_given (c.get_str-5.ensures ∙ first_value-rows (found_of c.in_ok-matches.matches) (codes "check") ∙ ap (first_of (codes "check")) (rows_are c))
 
+pub returns-clause-http : goal.returns-clause-http
+returns-clause-http c = c.is_given-http.ensures
+    ∙ ap is_given (c.get_str-6.ensures ∙ first_value-rows (found_of c.in_ok-matches.matches) (codes "http") ∙ ap (first_of (codes "http")) (rows_are c))
+
+pub returns-clause-token_file : goal.returns-clause-token_file
+returns-clause-token_file c = c.in_ok-token_file.ensures
+    ∙ (c.get_str-8.ensures ∙ first_value-rows (found_of c.in_ok-matches.matches) (codes "token-file")
+    ∙ ap (first_of (codes "token-file")) (rows_are c))
+
 pub returns-clause-database : goal.returns-clause-database
 returns-clause-database c = c.in_ok-database.ensures
-    ∙ (c.get_str-6.ensures ∙ first_value-rows (found_of c.in_ok-matches.matches) (codes "database") ∙ ap (first_of (codes "database")) (rows_are c))
+    ∙ (c.get_str-7.ensures ∙ first_value-rows (found_of c.in_ok-matches.matches) (codes "database") ∙ ap (first_of (codes "database")) (rows_are c))

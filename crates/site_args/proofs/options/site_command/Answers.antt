@@ -5,5 +5,6 @@ use Rattle.site_args.proofs.options.site_command.Goals as goal
 
 pub returns : goal.returns
 returns c =
-    IfOk-weaker c.with_history_options.result _ _ (λ command is. app_is _ _ _ _ c.bare_command.ensures c.in_ok-serving.ensures c.in_ok-filed.ensures is)
-    c.with_history_options.ensures
+    IfOk-weaker c.with_http_options.result _ _
+    (λ command is. app_is _ _ _ _ _ c.bare_command.ensures c.in_ok-serving.ensures c.in_ok-filed.ensures c.in_ok-logged.ensures is)
+    c.with_http_options.ensures

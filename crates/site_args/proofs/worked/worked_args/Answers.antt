@@ -34,5 +34,10 @@ returns c = record {
   may_be_new = computed.may_be_new;
   no_file = computed.no_file;
   two_databases = computed.two_databases;
+  served_over_http = computed.served_over_http;
+  http = computed.http;
+  token_file = computed.token_file;
+  served_as_lines = computed.served_as_lines;
+  no_token = computed.no_token;
   help = computed.help;
 }

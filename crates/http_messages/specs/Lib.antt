@@ -1,0 +1,3 @@
+pub mod EntityTag
+pub mod Request
+pub mod Response

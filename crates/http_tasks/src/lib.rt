@@ -1,0 +1,13 @@
+//! What a program does with a site that it serves over HTTP, to the client of its standard input and
+//! output.
+//!
+//! Each task ends with the program's exit status, after a line on standard error if something
+//! failed. What carries out the lines is any [`Commands`](site_serving::Commands).
+#![tactic(auto)]
+
+mod reader;
+mod serving;
+mod token;
+
+pub use serving::{serve, serve_path};
+pub use token::read_token;

@@ -1,0 +1,11 @@
+use Rattle.std.proofs.Common.{◌≡◌, ◌∙◌, ap, ap₂}
+use Rattle.std.proofs.lemmas.Result.{IfOk-weaker}
+use Rattle.clap.specs.Words.{app_of, rule_of, with_rule}
+use Rattle.site_args.proofs.options.with_http_options.Goals as goal
+
+pub returns : goal.returns
+returns c =
+    let app = app_of c.args.command in
+    let first : app_of c.in_ok-arg.field-0 ≡ with_rule app (rule_of c.http_flag.result) = c.in_ok-arg.ensures.shape c.http_flag.ensures.local in
+    IfOk-weaker c.arg-2.result _ _
+    (λ command added. added.shape c.token_file_option.ensures.local ∙ ap₂ with_rule (first ∙ ap (with_rule app) c.http_flag.ensures.rule) c.token_file_option.ensures.rule) c.arg-2.ensures
