@@ -9,10 +9,12 @@ use Rattle.http_server.specs.Connection.{history}
 use Rattle.http_server.specs.Exchange.{Call}
 use Rattle.http_server.specs.History.{IsServed, IsDone}
 use Rattle.http_server.specs.Rounds.{Round, Rounds, all_of, kept_of, IsCleared}
+use Rattle.http_rounds.specs.Losses.{StopsAtALoss}
 
 -- A connection read these bytes and wrote these. What it read is the requests of its calls, and then what its state says;
 -- what it wrote is the responses to them, in order (`IsServed`). The calls are rounds, from the site as it was to the site
--- as it is, and no byte that was written tells of a call that was not committed. After `Ok` it came to its end.
+-- as it is, of which only the last may be lost, and no byte that was written tells of a call that was not committed. After
+-- `Ok` it came to its end.
 pub record IsServedTo {S E : Type 0} (answers : S → Request (List ℕ) → Response → S → Type 0) (settles : S → Bool → S → Type 0)
     (config : Config) (given left before after : Option (List ℕ)) (result : Result (Unit {0}) E) (old new : S) : Type 0 where
   pub connection : Connection
@@ -23,4 +25,5 @@ pub record IsServedTo {S E : Type 0} (answers : S → Request (List ℕ) → Res
   pub calls : (history connection).calls ≡ all_of rounds
   pub answered : Rounds answers settles old rounds new
   pub cleared : IsCleared (kept_of rounds) connection
+  pub stops : StopsAtALoss rounds
   pub ended : OnOk result (IsDone (history connection))

@@ -10,6 +10,7 @@ ghost use Rattle.http_server.specs.Connection.{config_of, history};
 ghost use Rattle.http_server.specs.Exchange.{Call};
 ghost use Rattle.http_server.specs.History.{IsDone};
 ghost use Rattle.http_server.specs.Rounds.{Round, Rounds, all_of, kept_of, IsCleared};
+ghost use Rattle.http_rounds.specs.Losses.{StopsAtALoss};
 
 use http_server::{Connection, Service};
 use std::io;
@@ -57,11 +58,13 @@ pub fn serve_rounds<S: Commits, R: Read, W: Write>(
         × Appends (W.contents writer.old) (W.contents writer.new) more
         × ((history connection.new).sent ≡ (history connection.old).sent ++ more) }
 
-    // The calls are rounds, and no byte that was sent tells of a call that was not committed.
+    // The calls are rounds, of which only the last may be lost, and no byte that was sent tells of a
+    // call that was not committed.
     ensures rounds { (history connection.old).calls ≡ [] → (rounds : List (Round Call))
         × Rounds S.Service.answers S.settles service.old rounds service.new
         × ((history connection.new).calls ≡ all_of rounds)
-        × IsCleared (kept_of rounds) connection.new }
+        × IsCleared (kept_of rounds) connection.new
+        × StopsAtALoss rounds }
     ensures config { config_of connection.new ≡ config_of connection.old }
 {
     // A loop is proved to end, so this one counts its turns.

@@ -3,9 +3,8 @@ ghost use Rattle.std.specs.Prelude.{◌≡◌, false};
 
 use crate::reader::SourceReader;
 use byte_io::{Journal, Reading, Source, Writing};
-use http_pages::{PageService, serve_http};
 use page_trace::Watch;
-use site_http::SitePages;
+use site_http::{SitePages, serve_site};
 use site_journal::LogJournal;
 use site_replies::ServeFault;
 use site_serving::Commands;
@@ -82,18 +81,8 @@ fn serve_pages<C: Commands + Drop, J: Journal, V: Watch, R: Read>(
         Err(error) => return (journal, Err(error)),
     };
     let alloc = rt.alloc();
-    let mut service = PageService {
-        pages: SitePages::new(alloc, site, journal, watch, start),
-        token,
-        alloc,
-    };
-    let served = serve_http(&mut service, keys, reader, &mut io::writer(rt));
-    let PageService {
-        pages,
-        token: _,
-        alloc: _,
-    } = service;
-    (pages.into_journal(), served)
+    let pages = SitePages::new(alloc, site, journal, watch, start);
+    serve_site(alloc, pages, token, keys, reader, &mut io::writer(rt))
 }
 
 /// Draws the keys of a connection's tables, and the number of this start in its tags.

@@ -65,4 +65,4 @@ module _ {C J V : Type 0} where
     pub none : kept ≡ true → (new.is_lost ≡ false) × (waiting_of new ≡ [])
     pub settled : kept ≡ true → j.is_open old.journal → IsSettled j new.journal
     pub crash : (held : List (List ℕ)) → j.may_hold new.journal held → j.may_hold old.journal held
-        ⊎ ((meant : Option (List (List ℕ))) × Grows (j.noted old.journal) meant (waiting_of old) × (meant ≡ Some held))
+        ⊎ ((old.is_lost ≡ false) × ((meant : Option (List (List ℕ))) × Grows (j.noted old.journal) meant (waiting_of old) × (meant ≡ Some held)))

@@ -27,5 +27,6 @@ returns g c =
       calls = rounds.2;
       answered = rounds.1;
       cleared = rounds.3;
+      stops = rounds.4;
       ended = c.serve_rounds.ensures.done;
     }

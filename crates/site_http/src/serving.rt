@@ -1,0 +1,61 @@
+//! Serving a site over HTTP.
+ghost use Rattle.std.specs.Prelude.{◌≡◌, ℕ, List, [], false, option_map};
+ghost use Rattle.std.specs.Io.KnownBytes.{Appends, Consumes};
+ghost use Rattle.std.specs.String.{string_bytes};
+ghost use Rattle.byte_io.specs.Journal.{IsSettled};
+ghost use Rattle.http_pages.specs.declared.serve.TheConstants.{CONFIG};
+ghost use Rattle.http_server.specs.Connection.{history};
+ghost use Rattle.http_server.specs.History.{IsServed};
+ghost use Rattle.http_server.specs.declared.connection.Connection.{Connection};
+ghost use Rattle.site_http.specs.Ahead.{IsAhead};
+ghost use Rattle.site_http.specs.Pages.{waiting_of};
+ghost use Rattle.site_http.specs.declared.site_pages.SitePages.{SitePages as PagesOf};
+
+use crate::site_pages::SitePages;
+use byte_io::Journal;
+use http_pages::{PageService, serve_http};
+use page_trace::Watch;
+use site_serving::Commands;
+use std::alloc::Global;
+use std::hash::RandomState;
+use std::io;
+use std::io::{Read, Write};
+
+/// Serves a site to the client that sends the reader's bytes and reads the writer's, and returns the
+/// journal beside how that ended. With no token no edit is taken.
+pub fn serve_site<C: Commands + Drop, J: Journal, V: Watch, R: Read, W: Write>(
+    alloc: Global,
+    pages: SitePages<C, J, V>,
+    token: Option<String>,
+    keys: RandomState,
+    reader: &mut R,
+    writer: &mut W,
+) -> (J, io::Result<()>)
+    requires { J.has_failed pages.journal ≡ false }
+
+    // What was written is the responses to what was read, and whatever the log is found to hold has
+    // each edit that a response tells of.
+    ensures ahead { IsSettled J.written J.contents J.is_open J.may_hold J.noted pages.journal
+        → waiting_of pages ≡ []
+        → pages.is_lost ≡ false
+        → (held : List (List ℕ))
+        → J.may_hold result.0 held
+        → (connection : Connection) × (after : PagesOf C J V)
+        × ∥ IsServed CONFIG (history connection) ∥₁
+        × Consumes (R.remaining reader.old) (R.remaining reader.new) (history connection).received
+        × Appends (W.contents writer.old) (W.contents writer.new) (history connection).sent
+        × IsAhead C.Commands J.Journal (option_map string_bytes token) connection pages after held }
+{
+    let mut service = PageService {
+        pages,
+        token,
+        alloc,
+    };
+    let served = serve_http(&mut service, keys, reader, writer);
+    let PageService {
+        pages,
+        token: _,
+        alloc: _,
+    } = service;
+    (pages.into_journal(), served)
+}
