@@ -170,7 +170,7 @@ CLOSING = [
     Exchange(
         "a long body",
         sent("POST", "/command", "Content-Length: 8388609"),
-        came("413 Content Too Large", *CLOSED),
+        came("413 Payload Too Large", *CLOSED),
     ),
 ]
 
