@@ -1,0 +1,7 @@
+pub mod Dealing
+pub mod Holding
+pub mod Parts
+pub mod Pieces
+pub mod Sessions
+pub mod Stretch
+pub mod Streams
