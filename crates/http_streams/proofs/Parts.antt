@@ -1,7 +1,9 @@
 -- How one frame's part goes on.
-use Rattle.std.proofs.Common.{inl, inr, ◌≡◌, ◌∙◌, ℕ, Bool, true, false, List, [], ◌∷◌, ◌++◌, Result, Ok, Err, refl, sym, ap, append_assoc, append-nil, flat_map}
-use Rattle.std.specs.Prelude.{All, OnOk, IsErr}
-use Rattle.std.proofs.lemmas.Grind.{flat_map-append}
+use Rattle.std.proofs.Common.{arith, inl, inr, ◌+◌, length, ◌≡◌, ◌∙◌, ℕ, Bool, true, false, List, [], ◌∷◌, ◌++◌, Result, Ok, Err, refl, sym, ap, append_assoc, append-nil, flat_map}
+use Rattle.std.specs.Prelude.{◌||◌, ◌==◌, All, OnOk, IsErr, if◌then◌else◌}
+use Rattle.std.proofs.lemmas.Bool.{cases_Bool}
+use Rattle.std.proofs.lemmas.Grind.{common_steps, flat_map-append}
+use Rattle.std.proofs.lemmas.List.{length-append}
 use Rattle.std.proofs.lemmas.List.Elements.{All-head, All-nil, All-push, All-tail}
 use Rattle.http.specs.declared.request.Request.{Request}
 use Rattle.http_rounds.specs.Losses.{StopsAtALoss}
@@ -41,6 +43,49 @@ on_any_ok (Err e) x = tt
 pub on_no_ok : {A E : Type 0} (X : Type 0) (r : Result A E) → IsErr r → OnOk r X
 on_no_ok X (Ok a) is = absurd (cc)
 on_no_ok X (Err e) is = tt
+
+-- ---- the end of what a client sends
+
+-- a first read of a frame, of n bytes of m
+pub first_read : (was : Bool) (n m : ℕ) → (was ≡ false → (n == 0) ≡ (m == 0)) → (if was then was else (n == 0)) ≡ (was || m == 0)
+first_read true n m same = refl
+first_read false n m same = same refl
+
+-- a later one finds some bytes
+pub later_read : (was : Bool) (n : ℕ) → (n == 0) ≡ false → (if was then was else (n == 0)) ≡ was
+later_read true n some = refl
+later_read false n some = some
+
+-- or none, though there were some
+pub last_read : (before was : Bool) (bytes taken rest more left : List ℕ) → was ≡ (before || length bytes == 0) → bytes ≡ taken ++ rest
+    → (length rest == 0) ≡ false → rest ≡ more ++ left → length more ≡ 0 → (was ≡ false → left ≡ [])
+    → ((if was then was else (length more == 0)) ≡ (before || length bytes == 0)) × (before ≡ false → left ≡ [])
+last_read true true bytes taken rest more left is cut some rests none end = (is, λ bad. absurd (cc))
+last_read false true bytes taken rest more left is cut some rests none end =
+    let sizes : length bytes ≡ length taken + length rest = ap length cut ∙ length-append taken rest in
+    (is, λ no. absurd (grind (arith, common_steps, is, sizes, some)))
+last_read before false bytes taken rest more left is cut some rests none end =
+    let gone = end refl in
+    let sizes : length rest ≡ length more + length left = ap length rests ∙ length-append more left in
+    let zero : length left ≡ 0 = ap length gone in
+    absurd (grind (arith, common_steps, sizes, zero, none, some))
+
+-- how a first read of n bytes leaves the connection
+pub first_ended : (n : ℕ) (was now : Bool) (more bytes left : List ℕ) → length more ≡ n → bytes ≡ more ++ left
+    → now ≡ (if was then was else (length more == 0)) → (n ≡ 0 → was ≡ false → left ≡ []) → now ≡ (was || length bytes == 0)
+first_ended n was now more bytes left count cut is end =
+    let sizes : length bytes ≡ length more + length left = ap length cut ∙ length-append more left in
+    is ∙ first_read was (length more) (length bytes) (λ open_before. elim (cases_Bool (length more == 0)) [
+      | inl none ↦
+          let zero : n ≡ 0 = grind (arith, common_steps, none, count) in
+          let gone : length left ≡ 0 = ap length (end zero open_before) in
+          grind (arith, common_steps, none, sizes, gone)
+      | inr some ↦ grind (arith, common_steps, some, sizes)
+    ])
+
+pub nil_of : (l : List ℕ) → (length l == 0) ≡ true → l ≡ []
+nil_of [] is = refl
+nil_of (x ∷ l) is = absurd (grind (arith, common_steps, is))
 
 -- ---- parts
 
@@ -152,8 +197,9 @@ module _ {S : Type 0} (answers : S → Request (List ℕ) → Response → S →
 
   -- it ends, however that is told
   pub ends : {E : Type 0} (a : Connection) (s : S) (out rest : List ℕ) (result : Result (Unit {0}) E) → IsGoing a s out rest
+      → OnOk result (((history a).ended ≡ ((history old).ended || length bytes == 0)) × ((history old).ended ≡ false → rest ≡ []))
       → IsPart answers settles number bytes old a before s out_before out result
-  ends a s out rest result i = record {
+  ends a s out rest result i all = record {
     taken = i.taken;
     left = rest;
     rounds = i.rounds;
@@ -166,6 +212,7 @@ module _ {S : Type 0} (answers : S → Request (List ℕ) → Response → S →
     served = i.served;
     stops = stops_nowhere i.rounds i.kept;
     kept = on_any_ok result i.kept;
+    all = all;
     cleared = IsCleared-itself ((history old).calls ++ kept_of i.rounds) a (i.calls ∙ ap (λ l. (history old).calls ++ l) (sym (all_kept i.rounds i.kept)));
     config = i.config;
   }
@@ -188,6 +235,7 @@ module _ {S : Type 0} (answers : S → Request (List ℕ) → Response → S →
     served = Rounds-push answers settles i.rounds (more.0, false) before s called next i.served more.2 settled;
     stops = stops_at_last i.rounds (more.0, false) i.kept;
     kept = on_no_ok (All IsKept (i.rounds ++ (more.0, false) ∷ [])) result failed;
+    all = on_no_ok _ result failed;
     cleared = record {
       earlier = a;
       config = sym config;

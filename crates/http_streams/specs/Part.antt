@@ -1,5 +1,5 @@
 -- What one frame does to its connection.
-use Rattle.std.specs.Prelude.{◌≡◌, ℕ, Bool, true, List, ◌++◌, All, flat_map, Result, OnOk}
+use Rattle.std.specs.Prelude.{◌≡◌, ◌||◌, ◌==◌, ℕ, Bool, true, false, List, [], ◌++◌, All, flat_map, length, Result, OnOk}
 use Rattle.http.specs.declared.request.Request.{Request}
 use Rattle.http_rounds.specs.Losses.{StopsAtALoss}
 use Rattle.http_server.specs.declared.connection.Connection.{Connection}
@@ -25,5 +25,6 @@ pub record IsPart {S E : Type 0} (answers : S → Request (List ℕ) → Respons
   pub served : Rounds answers settles before rounds after
   pub stops : StopsAtALoss rounds
   pub kept : OnOk result (All (λ r. r.1 ≡ true) rounds)
+  pub all : OnOk result (((history new).ended ≡ ((history old).ended || length bytes == 0)) × ((history old).ended ≡ false → left ≡ []))
   pub cleared : IsCleared ((history old).calls ++ kept_of rounds) new
   pub config : config_of new ≡ config_of old

@@ -17,6 +17,7 @@ fn drain(connection: &mut Connection, number: u32, out: &mut Vec<u8>) -> io::Res
         ≡ (history connection.old).sent ++ flat_map (λ piece. piece) pieces)
         × (out.new.items ≡ out.old.items ++ pieces_bytes number pieces) }
     ensures received { (history connection.new).received ≡ (history connection.old).received }
+    ensures ended { (history connection.new).ended ≡ (history connection.old).ended }
     ensures calls { (history connection.new).calls ≡ (history connection.old).calls }
     ensures config { config_of connection.new ≡ config_of connection.old }
 {

@@ -12,6 +12,7 @@ loop-connection-init c = record {
   sent = sym (append-nil _);
   output = sym (append-nil _);
   received = refl;
+  ended = refl;
   calls = refl;
   config = refl;
 }
@@ -45,6 +46,7 @@ loop-connection-preserved c =
       output = after_more c.args.out.now.items c.loop-connection.out.items _ (pieces_bytes c.args.number i.pieces) _ i.output c.in_ok-push_frame.ensures.ok
           ∙ ap (λ l. c.args.out.now.items ++ l) (sym (output_more c.args.number i.pieces piece));
       received = ap (λ (h : History). h.received) is ∙ i.received;
+      ended = ap (λ (h : History). h.ended) is ∙ i.ended;
       calls = ap (λ (h : History). h.calls) is ∙ i.calls;
       config = c.sent.ensures.config ∙ i.config;
     }

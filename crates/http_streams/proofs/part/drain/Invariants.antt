@@ -13,6 +13,7 @@ invariant-loop-connection l =
       sent : new.sent ≡ old.sent ++ flat_map (λ piece. piece) pieces;
       output : l.out.items ≡ l.fn.out.items ++ pieces_bytes l.number pieces;
       received : new.received ≡ old.received;
+      ended : new.ended ≡ old.ended;
       calls : new.calls ≡ old.calls;
       config : config_of l.connection ≡ config_of l.fn.connection;
     }
