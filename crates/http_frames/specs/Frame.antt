@@ -33,7 +33,7 @@ front_data (front.Whole frame rest) = whole (record { connection = frame.connect
 front_data front.Part = part
 front_data front.TooLong = too_long
 
--- so many bytes after a head of this number, if there are as many
+-- what follows a head with this number and this count
 abbrev pub after_head : (connection len : ℕ) (rest : List ℕ) → FrontData
 after_head connection len rest =
     if nat_lt most_bytes len then too_long

@@ -7,8 +7,8 @@ ghost use Rattle.http_messages.specs.Response.{commands_response, fault_response
 ghost use Rattle.site_replies.specs.Reply.{ReplyData};
 
 /// A law: each response says where it ends, by a length or by its status, as
-/// `the_client_reads_the_answers` wants it. The response for which there was no memory is none of
-/// these.
+/// `the_client_reads_the_answers` wants it. The response after a failed allocation is not
+/// among these.
 pub fn responses_say_their_end()
     ensures page { (tag : Tag) (condition : Option (List ℕ)) (reply : ReplyData)
         → SaysItsEnd (reply_response tag condition reply) }

@@ -35,7 +35,7 @@ pub enum RequestFault {
     NoEdits,
     /// The path has a page, and takes no commands.
     OnlyPages,
-    /// The method is none that is known here.
+    /// The method is not known here.
     UnknownMethod,
     /// The path is longer than the path of a page may be.
     TooLong,

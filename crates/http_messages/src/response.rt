@@ -87,7 +87,8 @@ pub fn refuse(alloc: Global, fault: RequestFault, response: &mut Response) -> Re
     }
 }
 
-/// Fills the response for want of memory: a 503 without fields and without a body. It needs none.
+/// Fills the response after a failed allocation: a 503 without fields and without a body. It allocates
+/// nothing.
 pub fn refuse_for_memory(response: &mut Response)
     ensures { IsResponse 503 [] [] response.new }
 {

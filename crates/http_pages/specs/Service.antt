@@ -12,7 +12,7 @@ use Rattle.http_messages.specs.Response.{ResponseData, Shows, reply_response, co
 use Rattle.http_pages.specs.declared.pages.Pages.{Ghosts}
 use Rattle.http_pages.specs.declared.service.PageService.{PageService}
 
--- the response, or the one for want of memory
+-- the response, or the one after a failed allocation
 abbrev pub ShowsOrNone : ResponseData → Response → Type 0
 ShowsOrNone said r = Shows said r ⊎ IsResponse 503 [] [] r
 
@@ -42,7 +42,7 @@ module _ {P : Type 0} (g : Ghosts P) where
       ((replies : List ℕ) × g.carries_out old lines replies new × OnOk result (Shows (commands_response replies) r))
       ⊎ (g.breaks_off old lines new × IsErr result)
 
-  -- the same for a request; on `Err` any response fits that is the one for want of memory
+  -- the same for a request; on `Err` it holds of each response that is the one after a failed allocation
   abbrev pub Fills : PageService P → Request (List ℕ) → Response → PageService P → Result (Unit {0}) AllocError → Type 0
   Fills old request r new (Ok x) = Responds old request r new
   Fills old request r new (Err e) = (said : Response) → IsResponse 503 [] [] said → Responds old request said new

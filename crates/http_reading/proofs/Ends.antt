@@ -22,7 +22,7 @@ use Rattle.http_reading.specs.Reading.{states_length}
 
 -- ---- lengths that are stated
 
--- so many bytes follow the head, or none
+-- how many bytes follow the head, if that is stated
 abbrev pub IsSized : Framing → Type 0
 IsSized framing = (framing ≡ NoBody) ⊎ ((n : ℕ) × (framing ≡ Sized n))
 
