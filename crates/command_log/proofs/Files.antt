@@ -27,7 +27,7 @@ use Rattle.log_tails.specs.Tails.{IsTailOf, Outgrows}
 use Rattle.sqlite_disk.specs.declared.Files.{Files}
 use Rattle.sqlite.specs.Start.{FindsIn}
 use Rattle.command_log.specs.Table.{IsOther, log_schema}
-use Rattle.std.proofs.Common.{◌≢◌, true≢false, false, Ok, Err, Result, IfOk, arith}
+use Rattle.std.proofs.Common.{◌≢◌, true≢false, false, Ok, Err, Result, IfOk, IfErr, arith}
 use Rattle.sqlite.specs.State.{HasCleanDisk, Survives}
 use Rattle.sqlite_store.specs.Laws.{shut_if_dirty_at}
 use Rattle.command_log.specs.Lines.{IsRising, IsOrderly, HoldsLines, IsOpen, IsIdle, lines_of}
@@ -204,6 +204,17 @@ not_cut g image NotText h = tt
 not_cut g image (Altered n) h = tt
 not_cut g image Interrupted h = tt
 not_cut g image Store h = tt
+
+-- nor is a log, or what isn't taken for one
+pub not_cut_by : {D : Type 0} (g : Ghosts D) (image : Image) (r : Result (Held (FileStore D g)) LogFault) → IfErr r (λ f. (f ≡ NotALog) ⊎ IsPlain f)
+    → IsCutShort image r
+not_cut_by g image (Ok log) h = tt
+not_cut_by g image (Err f) h = not_cut g image f h
+
+pub refuses_by : {D : Type 0} {g : Ghosts D} (c : Held (FileStore D g)) (image : Image) → (HasCleanDisk (file_state c) → FindsIn image (file_state c))
+    → (r : Result (Held (FileStore D g)) LogFault) → IfErr r (λ f. f ≡ NotALog → IsOther (file_state c).now.schema) → RefusesOther image r
+refuses_by c image found (Ok log) other none = absurd (let e = none in cc)
+refuses_by c image found (Err f) other none = refuses_over c image found f other none
 
 -- what was found of the end of a log, if the disk was honest
 pub ends_whole : {D : Type 0} (g : Ghosts D) (image : Image) (files : Files D) (tail : Tail) → (IsClean g files.log → IsTailOf image.log tail) → not tail.is_whole ≡ false

@@ -15,11 +15,16 @@ use Rattle.sqlite_store.specs.FileStore as store
 use Rattle.sqlite.specs.Held.{Held}
 use Rattle.sqlite.specs.State.{HasCleanDisk}
 use Rattle.sqlite.specs.Start.{FindsIn}
+use Rattle.command_log.specs.declared.closed.LogFiles.{LogFiles}
 use Rattle.command_log.specs.declared.fault.LogFault.{LogFault}
 use Rattle.command_log.specs.declared.fault.LogFault.TheVariants.{NotALog, DamagedTail, OlderLog}
 use Rattle.command_log.specs.Table.{IsOther}
 use Rattle.sqlite.specs.Files.{over_files}
 use Rattle.command_log.specs.Lines.{HasLines, HoldsLines, IsOpen, lines_of}
+
+-- the store that the files of a log are in
+abbrev pub store_of : {D : Type 0} {g : Ghosts D} → LogFiles D g → FileStore D g
+store_of files = files.store
 
 -- what follows the last commit in the log is what a crash leaves there
 pub record EndsWhole (image : Image) : Type 0 where

@@ -4,13 +4,14 @@ ghost use Rattle.command_log.specs.Faults.{fault_of};
 
 use sqlite::{Error, ErrorCode};
 use sqlite_std_file::OpenError;
+use sqlite_trees::error::StoreError;
 use sqlite_wal::Error as WalError;
 use std::alloc::AllocError;
 use std::io::ErrorKind;
 use thiserror::Error as DeriveError;
 
 /// Why a call was refused.
-#[derive(Clone, Copy, Debug, PartialEq, Eq, Drop, DeriveError)]
+#[derive(Clone, Copy, Debug, Drop, DeriveError)]
 pub enum LogFault {
     /// The database holds something else than a log.
     #[error("the database is not a log of commands")]
@@ -111,6 +112,19 @@ impl From<OpenError> for LogFault {
             OpenError::Busy => LogFault::Busy,
             OpenError::Io(cause) if cause.kind() == ErrorKind::OutOfMemory => LogFault::OutOfMemory,
             _ => LogFault::CannotOpen,
+        }
+    }
+}
+
+impl From<StoreError> for LogFault {
+    fn from(error: StoreError) -> LogFault {
+        match error {
+            StoreError::OutOfMemory => LogFault::OutOfMemory,
+            StoreError::Io => LogFault::Disk,
+            StoreError::Corrupt => LogFault::Damaged,
+            StoreError::Full => LogFault::DiskFull,
+            StoreError::Broken => LogFault::Shut,
+            StoreError::Unstorable => LogFault::TooBig,
         }
     }
 }

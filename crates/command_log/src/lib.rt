@@ -3,6 +3,7 @@
 #![tactic(auto)]
 
 mod batch;
+mod closed;
 mod fault;
 mod lines;
 mod log;
@@ -13,5 +14,6 @@ mod testing;
 mod tests;
 
 pub use batch::{Batch, LogPlace};
+pub use closed::LogFiles;
 pub use fault::LogFault;
 pub use log::CommandLog;

@@ -18,8 +18,9 @@ ghost use Rattle.std.specs.Prelude.{
   IsErrAnd,
 };
 ghost use Rattle.std.specs.String.{string_bytes};
+ghost use Rattle.sqlite.specs.Effect.{IsDatabase};
 ghost use Rattle.sqlite.specs.Tree.{Trees};
-ghost use Rattle.sqlite.specs.Held.{state};
+ghost use Rattle.sqlite.specs.Held.{AreDatabases, state};
 ghost use Rattle.sqlite.specs.State.{HasCleanDisk, Survives};
 ghost use Rattle.sqlite.specs.Files.{over_files};
 ghost use Rattle.sqlite.specs.Steps.{over_memory};
@@ -44,10 +45,12 @@ ghost use Rattle.command_log.specs.Table.{log_schema, IsOther};
 ghost use Rattle.command_log.specs.Faults.{IsCaused, IsCloseFault, IsPlain, Unreadable, Unsealed, Unstorable};
 ghost use Rattle.sqlite.specs.WalReads.{AreClean};
 ghost use Rattle.sqlite.specs.View.{IsClean};
+ghost use Rattle.sqlite_trees.specs.View.{IsQuiet, IsRolledBack as IsUndone};
 ghost use Rattle.sqlite.specs.FileStore.{view};
-ghost use Rattle.command_log.specs.Found.{FindsOnlySuch, IsFoundAgain, IsKeptAlone};
+ghost use Rattle.command_log.specs.Found.{FindsOnlySuch, IsFoundAgain, IsKeptAlone, store_of};
 
 use crate::batch::{Batch, LogPlace};
+use crate::closed::LogFiles;
 use crate::fault::LogFault;
 use crate::lines::{NO_LIMIT, ReadLines, put_all, read_after, replace_all};
 use crate::table::{Holds, held_by, make};
@@ -169,18 +172,61 @@ impl<S: Alter + Drop> CommandLog<S> {
             Holds::Other => Err((LogFault::NotALog, conn)),
         }
     }
+
+    /// Takes the log as [`over`](CommandLog::over) does. A connection that isn't taken is dropped. It is
+    /// over any store: each call of such a function over the store of files takes the prover long.
+    pub(crate) fn taken(alloc: Global, conn: Connection<S>) -> Result<CommandLog<S>, LogFault>
+        requires idle { IsIdle S.Store conn }
+        requires orderly { IsOrderly S.Store conn }
+        ensures lines { IfOk result (λ log. IsOpen S.Store log
+            → HoldsLines (state S.Store conn).now (lines_of S.Store log)) }
+        ensures survives { IfOk result (λ log. Survives (state S.Store conn) (state S.Store log)
+            (IsMade S.Store conn)) }
+        ensures other { IfErr result (λ fault. fault ≡ LogFault.NotALog
+            → IsOther (state S.Store conn).now.schema) }
+        ensures plain { IfErr result (λ fault. (fault ≡ LogFault.NotALog) ⊎ IsPlain fault) }
+        ensures stays { IfOk result (λ log. HasCleanDisk (state S.Store log) → IsOpen S.Store conn
+            → IsOpen S.Store log) }
+    {
+        match CommandLog::over(alloc, conn) {
+            Ok(log) => Ok(log),
+            Err((fault, _)) => Err(fault),
+        }
+    }
+
+    /// Returns the store of a log, in which nothing is under way.
+    fn settled_store(self) -> S
+        ensures log { IsLog S.Store self }
+        ensures live { IsOpen S.Store self → IsDatabase (state S.Store self).committed }
+        ensures numbered { IsClean (S.Store.view result)
+            → IsTrue (S.Store.view result).is_numbered }
+        ensures sound { IsClean (S.Store.view result) → AreDatabases (S.Store.recovers result) }
+        ensures undone { IsUndone (S.Store.view self.store) (S.Store.view result) }
+        ensures quiet { IsQuiet S.Store.view S.Store.faults S.Store.recovers S.Store.is_shielded
+            self.store result }
+    {
+        let CommandLog {
+            conn,
+            alloc: _,
+            digest: _,
+        } = self;
+        // Called for its clause alone: what an open connection knows of its tables.
+        let _schema = conn.schema();
+        conn.into_store()
+    }
 }
 
 impl<D: Disk + Drop> CommandLog<FileStore<D>> {
     /// Copies the last commit into the database file, and returns both files. From then on the
     /// database file alone has the lines, as it is and after a crash. A file beside it, SQLite's
     /// log, stays. An error comes with the store.
-    pub fn close(self) -> Result<Files<D>, (LogFault, FileStore<D>)>
+    pub fn close(self) -> Result<Files<D>, (LogFault, LogFiles<D>)>
         ensures alone { IfOk result (λ files. AreClean D.Disk files.log files.db
             → IsKeptAlone self files) }
         ensures usable { IfOk result (λ files. IsTrue (D.Disk.is_usable files.log)
             × IsTrue (D.Disk.is_usable files.db)) }
-        ensures cause { IfErr result (λ e. IsClean (view e.1) → IsCloseFault self e.1 e.0) }
+        ensures cause { IfErr result (λ e. IsClean (view (store_of e.1))
+            → IsCloseFault self (store_of e.1) e.0) }
     {
         let CommandLog {
             conn,
@@ -191,28 +237,28 @@ impl<D: Disk + Drop> CommandLog<FileStore<D>> {
         let _schema = conn.schema();
         match conn.close_files() {
             Ok(files) => Ok(files),
-            Err((error, store)) => Err((error.into(), store)),
+            Err((error, store)) => Err((error.into(), LogFiles::new(store))),
         }
+    }
+
+    /// Drops a log, if there is one. It is called in place of a drop: that of a store is then proved in
+    /// this crate alone.
+    pub fn end(log: Option<Self>) {
+        drop(log);
     }
 
     /// Gives the log up, whether it is open or a failed commit has shut it, and returns its files as
     /// a store in which nothing is under way.
-    pub fn into_store(self) -> FileStore<D>
+    pub fn into_store(self) -> LogFiles<D>
         // Whatever a crash then leaves of the files, an open of them as a log finds lines that this
         // log might have been found to hold.
-        ensures found { IsClean (view result) → FindsOnlySuch result (MayHold over_files self) }
+        ensures found { IsClean (view (store_of result))
+            → FindsOnlySuch (store_of result) (MayHold over_files self) }
 
         // Of a log that is open these are its lines.
-        ensures again { IsClean (view result) → IsFoundAgain self }
+        ensures again { IsClean (view (store_of result)) → IsFoundAgain self }
     {
-        let CommandLog {
-            conn,
-            alloc: _,
-            digest: _,
-        } = self;
-        // Called for its clause alone: what an open connection knows of its tables.
-        let _schema = conn.schema();
-        conn.into_store()
+        LogFiles::new(self.settled_store())
     }
 }
 

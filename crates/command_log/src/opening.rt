@@ -44,8 +44,9 @@ impl<S: Start> CommandLog<FileStore<FileFrom<S>>> {
         ensures opened { IfOk result (λ log. HasCleanDisk (state over_files log)
             → IsOpen over_files log) }
     {
+        let options = options(rt)?;
         let files = open_pair(rt, path, start)?;
-        CommandLog::open_files(rt.alloc(), files, options(rt)?)
+        CommandLog::open_files(rt.alloc(), files, options)
     }
 }
 
@@ -131,9 +132,6 @@ impl<D: Disk + Drop> CommandLog<FileStore<D>> {
             Ok(conn) => conn,
             Err((error, _)) => return Err(error.into()),
         };
-        match CommandLog::over(alloc, conn) {
-            Ok(log) => Ok(log),
-            Err((fault, _)) => Err(fault),
-        }
+        CommandLog::taken(alloc, conn)
     }
 }

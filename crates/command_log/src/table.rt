@@ -17,7 +17,7 @@ const CREATE: &str =
     "CREATE TABLE command (number INTEGER PRIMARY KEY, line TEXT NOT NULL, digest BLOB NOT NULL) STRICT";
 
 /// What the objects of a database are to a log.
-#[derive(Clone, Copy, Debug, PartialEq, Eq)]
+#[derive(Clone, Copy)]
 pub(crate) enum Holds {
     Nothing,
     Log,

@@ -1,6 +1,6 @@
 //! Serving files on any disk, until a moment.
 ghost use Rattle.std.specs.Prelude.{◌≡◌, false, IfOk, IfErr, IfSome, IsTrue};
-ghost use Rattle.command_log.specs.Found.{FindsOnlySuch};
+ghost use Rattle.command_log.specs.Found.{FindsOnlySuch, store_of};
 ghost use Rattle.crash_points.specs.Stopped.{inner_image, sink_of};
 ghost use Rattle.site_start.specs.Started.{IsLeftBy};
 ghost use Rattle.site_tasks.specs.Lasting.{Lasts};
@@ -10,13 +10,13 @@ ghost use Rattle.sqlite.specs.View.{IsClean};
 
 use crate::stopping::Stopping;
 use byte_io::{Sink, Source};
-use command_log::CommandLog;
+use command_log::{CommandLog, LogFiles};
 use page_trace::Watch;
 use site_journal::Steady;
 use site_serving::Commands;
 use site_start::StartFault;
 use site_tasks::{Served, serve_log};
-use sqlite::{FileStore, Options};
+use sqlite::Options;
 use sqlite_disk::{Disk, Files, Fuse};
 use std::alloc::Global;
 
@@ -34,7 +34,7 @@ pub fn serve_until<C: Commands, D: Disk + Drop, R: Source, W: Steady + Drop, V: 
     reader: &mut R,
     sink: Stopping<W>,
     watch: &mut V,
-) -> Result<Served<Fuse<D>, Stopping<W>>, (StartFault, Option<FileStore<Fuse<D>>>)>
+) -> Result<Served<Fuse<D>, Stopping<W>>, (StartFault, Option<LogFiles<Fuse<D>>>)>
     requires log { IsTrue (⟦<Fuse<D> as Disk>⟧.is_usable files.log) }
     requires db { IsTrue (⟦<Fuse<D> as Disk>⟧.is_usable files.db) }
     requires reader { R.has_failed reader.old ≡ false }
@@ -42,13 +42,13 @@ pub fn serve_until<C: Commands, D: Disk + Drop, R: Source, W: Steady + Drop, V: 
 
     // Whatever a crash leaves of the files is found as `serve_log` says it, and so is what was
     // written to the client.
-    ensures lasts { IfOk result (λ served. IsClean (view served.files)
-        → FindsOnlySuch served.files (Lasts (C.steps (C.fixed site.old))
+    ensures lasts { IfOk result (λ served. IsClean (view (store_of served.files))
+        → FindsOnlySuch (store_of served.files) (Lasts (C.steps (C.fixed site.old))
         (C.replies (C.fixed site.old)) C.keeps (inner_image D.Disk files) identity.now
         (C.state site.old) (C.state site.new) (R.remaining reader.old)
         (W.contents (sink_of sink)) (W.contents (sink_of served.sink)))) }
-    ensures refused { IfErr result (λ e. IfSome e.1 (λ left. IsClean (view left)
-        → FindsOnlySuch left (IsLeftBy (inner_image D.Disk files) identity.now))) }
+    ensures refused { IfErr result (λ e. IfSome e.1 (λ left. IsClean (view (store_of left))
+        → FindsOnlySuch (store_of left) (IsLeftBy (inner_image D.Disk files) identity.now))) }
 {
     serve_files(alloc, files, options, site, identity, reader, sink, watch)
 }
@@ -66,18 +66,18 @@ pub fn serve_files<C: Commands, D: Disk + Drop, R: Source, W: Steady + Drop, V: 
     reader: &mut R,
     sink: W,
     watch: &mut V,
-) -> Result<Served<D, W>, (StartFault, Option<FileStore<D>>)>
+) -> Result<Served<D, W>, (StartFault, Option<LogFiles<D>>)>
     requires log { IsTrue (D.Disk.is_usable files.log) }
     requires db { IsTrue (D.Disk.is_usable files.db) }
     requires reader { R.has_failed reader.old ≡ false }
     requires sink { W.has_failed sink ≡ false }
-    ensures lasts { IfOk result (λ served. IsClean (view served.files)
-        → FindsOnlySuch served.files (Lasts (C.steps (C.fixed site.old))
+    ensures lasts { IfOk result (λ served. IsClean (view (store_of served.files))
+        → FindsOnlySuch (store_of served.files) (Lasts (C.steps (C.fixed site.old))
         (C.replies (C.fixed site.old)) C.keeps (image_of D.Disk files) identity.now
         (C.state site.old) (C.state site.new) (R.remaining reader.old)
         (W.contents sink) (W.contents served.sink))) }
-    ensures refused { IfErr result (λ e. IfSome e.1 (λ left. IsClean (view left)
-        → FindsOnlySuch left (IsLeftBy (image_of D.Disk files) identity.now))) }
+    ensures refused { IfErr result (λ e. IfSome e.1 (λ left. IsClean (view (store_of left))
+        → FindsOnlySuch (store_of left) (IsLeftBy (image_of D.Disk files) identity.now))) }
 {
     let log = match CommandLog::open_files(alloc, files, options) {
         Ok(log) => log,

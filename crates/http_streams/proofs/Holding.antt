@@ -12,9 +12,11 @@ use Rattle.http_server.specs.Exchange.{Call}
 use Rattle.http_server.specs.Rounds.{Round, Rounds}
 use Rattle.http_streams.specs.Deeds.{Deed, IsTaken, output_of, pieces_bytes, rounds_of}
 use Rattle.http_streams.specs.Tables.{AreKnown, IsDone, IsServed, IsTableOf}
+use Rattle.http_streams.specs.Taking.{AllButOne}
 use Rattle.http_streams.specs.declared.table.Table.{Table}
 use Rattle.http_streams.proofs.Parts.{IsKept, on_no_ok, stops_nowhere}
 use Rattle.http_streams.proofs.Stretch.{reads_one}
+use Rattle.http_streams.proofs.Taking.{all_but_last, all_taken}
 
 pub if_no_ok : {A E : Type 0} (r : Result A E) (P : A → Type 0) → IsErr r → IfOk r P
 if_no_ok (Ok a) P is = absurd (cc)
@@ -71,6 +73,7 @@ module _ {S : Type 0} (answers : S → Request (List ℕ) → Response → S →
       read = i.read;
       left = left;
       taken = i.taken;
+      all_but_one = all_taken (deeds ++ i.more) i.table.taken;
       output = i.output;
       served = i.served;
       stops = stops_nowhere (rounds_of i.more) i.kept;
@@ -122,6 +125,7 @@ module _ {S : Type 0} (answers : S → Request (List ℕ) → Response → S →
         read = read_is;
         left = if_no_ok ends _ failed;
         taken = All-push IsTaken i.more done.deed i.taken done.taken;
+        all_but_one = subst AllButOne (append_assoc deeds i.more (done.deed ∷ [])) (all_but_last (deeds ++ i.more) done.deed i.table.taken);
         output = output_is;
         served = served_is;
         stops = subst StopsAtALoss (sym (rounds_push i.more done.deed)) (stops_then (rounds_of i.more) done.deed.rounds i.kept done.stops);

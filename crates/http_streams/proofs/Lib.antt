@@ -5,3 +5,4 @@ pub mod Pieces
 pub mod Sessions
 pub mod Stretch
 pub mod Streams
+pub mod Taking

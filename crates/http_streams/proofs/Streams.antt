@@ -1,7 +1,7 @@
 -- A stream of frames, chunk after chunk.
-use Rattle.std.proofs.Common.{inl, ◌≡◌, ◌∙◌, ℕ, Bool, true, false, List, [], ◌∷◌, ◌++◌, Option, None, Some, Result, Ok, Err, refl, sym, ap, subst, append_assoc, append-nil}
+use Rattle.std.proofs.Common.{arith, inl, ◌≡◌, ◌∙◌, ℕ, Bool, true, false, List, [], ◌∷◌, ◌++◌, Option, None, Some, Result, Ok, Err, refl, sym, ap, subst, append_assoc, append-nil}
 use Rattle.std.specs.Prelude.{All, IsErr, OnErr, OnOk, is_err, map}
-use Rattle.std.specs.BTreeMap.{get}
+use Rattle.std.specs.BTreeMap.{btree_map_len, get}
 use Rattle.std.specs.Io.KnownBytes.{Appends, Consumes, Keeps}
 use Rattle.std.specs.Ordering.{nat_cmp}
 use Rattle.std.proofs.KnownBytes.{Appends-nil, Consumes-kept, Consumes-nil}
@@ -20,9 +20,10 @@ use Rattle.http_streams.specs.Deeds.{Deed, IsTaken, output_of, pieces_bytes, rou
 use Rattle.http_streams.specs.Tables.{AreKnown, IsServed, IsTableOf, ServesMany}
 use Rattle.http_streams.specs.declared.table.Table.{Table}
 use Rattle.http_streams.proofs.Holding.{rounds_then, stops_then}
-use Rattle.http_streams.proofs.Parts.{IsKept, on_no_ok, stops_nowhere}
+use Rattle.http_streams.proofs.Parts.{IsKept, on_any_ok, on_no_ok, stops_nowhere}
 use Rattle.http_streams.proofs.Sessions.{IsWhole}
 use Rattle.http_streams.proofs.Stretch.{reads_more, reads_then}
+use Rattle.http_streams.proofs.Taking.{all_taken}
 
 -- rounds of deeds that were all committed
 pub whole_rounds : (deeds : List Deed) → All IsWhole deeds → All IsKept (rounds_of deeds)
@@ -37,13 +38,18 @@ output_append : (deeds later : List Deed) → output_of (deeds ++ later) ≡ out
 output_append deeds later = flat_map-append (λ (e : Deed). pieces_bytes e.frame.connection e.sent) deeds later
 
 -- a table without connections is that of no deeds
-pub table_none : (table : Table) → ((number : ℕ) → get nat_cmp table.connections number ≡ None) → IsTableOf [] table
-table_none table none = record {
+pub table_none : (table : Table) → ((number : ℕ) → get nat_cmp table.connections number ≡ None) → btree_map_len table.connections ≡ 0 → table.last ≡ 0
+    → IsTableOf [] table
+table_none table none few last = record {
   session = λ number c at. let bad : None ≡ Some c = sym (none number) ∙ at in absurd (cc);
   known = λ number. inl (record { taken = refl; sent = refl; calls = refl; kept = refl });
   kept = All-nil IsWhole;
   within = λ number c at. let bad : None ≡ Some c = sym (none number) ∙ at in absurd (cc);
   unused = λ number above. record { taken = refl; sent = refl; calls = refl; kept = refl };
+  latest = λ number positive below. omega (arith, positive, last);
+  few = omega (arith, few);
+  ends = λ number c at. let bad : None ≡ Some c = sym (none number) ∙ at in absurd (cc);
+  taken = tt;
 }
 
 module _ {S : Type 0} (answers : S → Request (List ℕ) → Response → S → Type 0) (settles : S → Bool → S → Type 0) (config : Config) (before : S)
@@ -60,9 +66,9 @@ module _ {S : Type 0} (answers : S → Request (List ℕ) → Response → S →
     pub table : IsTableOf deeds t
     pub config_is : t.config ≡ config
 
-  pub serving_none : (table : Table) → ((number : ℕ) → get nat_cmp table.connections number ≡ None) → table.config ≡ config
-      → IsServing table before in_before out_before []
-  serving_none table none config_is = record {
+  pub serving_none : (table : Table) → ((number : ℕ) → get nat_cmp table.connections number ≡ None) → btree_map_len table.connections ≡ 0
+      → table.last ≡ 0 → table.config ≡ config → IsServing table before in_before out_before []
+  serving_none table none few last config_is = record {
     deeds = [];
     stretch = [];
     consumed = Consumes-nil in_before;
@@ -70,7 +76,7 @@ module _ {S : Type 0} (answers : S → Request (List ℕ) → Response → S →
     taken = All-nil IsTaken;
     served = refl;
     written = Appends-nil out_before;
-    table = table_none table none;
+    table = table_none table none few last;
     config_is = config_is;
   }
 
@@ -107,6 +113,8 @@ module _ {S : Type 0} (answers : S → Request (List ℕ) → Response → S →
     read = i.read;
     whole = whole;
     taken = i.taken;
+    all_but_one = all_taken i.deeds i.table.taken;
+    all_taken = on_any_ok result i.table.taken;
     served = i.served;
     stops = stops_nowhere (rounds_of i.deeds) (whole_rounds i.deeds i.table.kept);
     known = subst (λ k. AreKnown k i.deeds) i.config_is i.table.known;
@@ -163,6 +171,8 @@ module _ {S : Type 0} (answers : S → Request (List ℕ) → Response → S →
       read = read_is;
       whole = on_no_ok _ ends failed;
       taken = taken_is;
+      all_but_one = was.all_but_one;
+      all_taken = on_no_ok _ ends failed;
       served = served_is;
       stops = stops_is;
       known = subst (λ k. AreKnown k deeds) i.config_is was.known;

@@ -129,7 +129,7 @@ reads_tail input (frame ∷ frames) rest (after, first, later) =
     let size : length (drop here.0 input) ≡ length after = ap length here.3 in
     (here.0 + there.0, omega (arith, cut, size, here.2, there.1), tails here.0 there.0 input after rest here.3 there.2)
 
--- so many bytes of the input are used as it is longer than what is left
+-- how many bytes of the input are used: its length less that of what is left
 pub used_of : (input : List ℕ) (frames : List FrameData) (rest : List ℕ) → ReadsAs input frames rest
     → (length rest ≤ length input) × (drop (length input - length rest) input ≡ rest)
 used_of input frames rest is =

@@ -1,3 +1,4 @@
 pub mod Deeds
 pub mod Part
 pub mod Tables
+pub mod Taking

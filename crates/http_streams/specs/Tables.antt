@@ -1,6 +1,6 @@
 -- The connections that are open, and what was done for each number.
 use Rattle.std.specs.Prelude.{◌≡◌, ◌⊎◌, ℕ, ◌<◌, ◌≤◌, Bool, true, List, [], ◌∷◌, ◌++◌, All, Option, Some, Result, IfOk, OnOk, drop, length, map}
-use Rattle.std.specs.BTreeMap.{get}
+use Rattle.std.specs.BTreeMap.{btree_map_len, get}
 use Rattle.std.specs.Io.KnownBytes.{Appends, Consumes}
 use Rattle.std.specs.Ordering.{nat_cmp}
 use Rattle.byte_io.specs.Known.{AppendsFront}
@@ -10,8 +10,10 @@ use Rattle.http_rounds.specs.Losses.{StopsAtALoss}
 use Rattle.http_server.specs.declared.connection.Connection.{Connection}
 use Rattle.http_server.specs.declared.response.Response.{Response}
 use Rattle.http_server.specs.declared.state.Config.{Config}
+use Rattle.http_server.specs.Connection.{history}
 use Rattle.http_server.specs.Rounds.{Rounds}
 use Rattle.http_streams.specs.Deeds.{Deed, IsSession, IsTaken, IsUntouched, output_of, pieces_bytes, rounds_of}
+use Rattle.http_streams.specs.Taking.{AllButOne, AreTakenAfter, has_ended, most_open}
 use Rattle.http_streams.specs.declared.table.Table.{Table}
 
 -- for each number nothing was done, or a connection has done what the deeds say
@@ -25,6 +27,20 @@ pub record IsTableOf (deeds : List Deed) (table : Table) : Type 0 where
   pub kept : All (λ d. All (λ r. r.1 ≡ true) d.rounds) deeds
   pub within : (number : ℕ) (c : Connection) → get nat_cmp table.connections number ≡ Some c → number ≤ table.last
   pub unused : (number : ℕ) → table.last < number → IsUntouched number deeds
+  -- the last number is one of theirs, and no more connections are open than there were frames
+  pub latest : (number : ℕ) → 0 < number → All (λ d. d.frame.connection < number) deeds → table.last < number
+  pub few : btree_map_len table.connections ≤ length deeds
+  -- a connection ends only if its client did
+  pub ends : (number : ℕ) (c : Connection) → get nat_cmp table.connections number ≡ Some c → (history c).ended ≡ true
+      → has_ended number deeds ≡ true
+  pub taken : AreTakenAfter [] deeds
+
+-- no connection is made for the number, nor will be
+pub record TurnsAway (old new : Table) (number : ℕ) : Type 0 where
+  pub grows : old.last ≤ new.last
+  pub seen : number ≤ new.last
+  pub latest : (new.last ≡ old.last) ⊎ (new.last ≡ number)
+  pub full : old.last < number → most_open ≤ btree_map_len old.connections
 
 -- one frame was dealt with
 pub record IsDone {S E : Type 0} (answers : S → Request (List ℕ) → Response → S → Type 0) (settles : S → Bool → S → Type 0)
@@ -48,6 +64,7 @@ pub record IsServed {S E : Type 0} (answers : S → Request (List ℕ) → Respo
   pub read : ReadsAs input (map (λ d. d.frame) more) rest
   pub left : IfOk result (λ n. (n ≤ length input) × (drop n input ≡ rest) × (front_of rest ≡ part))
   pub taken : All IsTaken more
+  pub all_but_one : AllButOne (deeds ++ more)
   pub output : out_after ≡ out_before ++ output_of more
   pub served : Rounds answers settles before (rounds_of more) after
   pub stops : StopsAtALoss (rounds_of more)
@@ -65,6 +82,8 @@ pub record ServesMany {S E : Type 0} (answers : S → Request (List ℕ) → Res
   pub read : ReadsAs stretch (map (λ d. d.frame) deeds) rest
   pub whole : OnOk result (rest ≡ [])
   pub taken : All IsTaken deeds
+  pub all_but_one : AllButOne deeds
+  pub all_taken : OnOk result (AreTakenAfter [] deeds)
   pub served : Rounds answers settles before (rounds_of deeds) after
   pub stops : StopsAtALoss (rounds_of deeds)
   pub known : AreKnown config deeds

@@ -1,5 +1,5 @@
 //! One frame of any connection.
-ghost use Rattle.std.specs.Prelude.{◌≡◌, ◌++◌, [], List, ℕ, OnOk, flat_map};
+ghost use Rattle.std.specs.Prelude.{◌≡◌, ◌++◌, ◌∷◌, [], List, OnErr, OnOk};
 ghost use Rattle.http_frames.specs.Frame.{FrameData};
 ghost use Rattle.http_streams.specs.Deeds.{Deed, pieces_bytes};
 ghost use Rattle.http_streams.specs.Tables.{IsDone, IsServed, IsTableOf};
@@ -14,9 +14,8 @@ use std::io::ErrorKind;
 
 /// Appends the frame that says that nothing more comes of a connection.
 fn push_end(out: &mut Vec<u8>, number: u32) -> io::Result<()>
-    ensures { (pieces : List (List ℕ))
-        × (out.new.items ≡ out.old.items ++ pieces_bytes number pieces)
-        × (flat_map (λ piece. piece) pieces ≡ []) }
+    ensures ok { OnOk result (out.new.items ≡ out.old.items ++ pieces_bytes number ([] ∷ [])) }
+    ensures err { OnErr result (out.new.items ≡ out.old.items) }
 {
     push_frame(
         out,
@@ -29,8 +28,8 @@ fn push_end(out: &mut Vec<u8>, number: u32) -> io::Result<()>
 }
 
 /// Hands a frame to the connection of its number, and appends what that then has to send, in frames. A
-/// number that is new opens a connection. To a frame of a connection that isn't open, and can't be
-/// opened, the answer is that nothing more comes of it.
+/// number that is new opens a connection. A frame of a number that was used, or that comes while no
+/// more connections may be open, is refused: its client is told that nothing more comes.
 ///
 /// On `Err` nothing more can be served, as `serve_part` says.
 pub(crate) fn serve_frame<S: Commits>(

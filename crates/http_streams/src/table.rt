@@ -1,9 +1,25 @@
 //! The connections that are open.
-ghost use Rattle.std.specs.Prelude.{◌≡◌, ◌⊎◌, ◌<◌, ℕ, List, Some, None, IfSome, IfNone, OnOk, [], cond};
-ghost use Rattle.std.specs.BTreeMap.{get};
+ghost use Rattle.std.specs.Prelude.{
+  ◌≡◌,
+  ◌⊎◌,
+  ◌+◌,
+  ◌<◌,
+  ◌≤◌,
+  ℕ,
+  List,
+  Some,
+  None,
+  IfSome,
+  IfNone,
+  OnOk,
+  [],
+  cond,
+};
+ghost use Rattle.std.specs.BTreeMap.{btree_map_len, get};
 ghost use Rattle.std.specs.Ordering.{is_eq, nat_cmp};
 ghost use Rattle.http_server.specs.Connection.{config_of, history};
 ghost use Rattle.http_server.specs.History.{new_history};
+ghost use Rattle.http_streams.specs.Tables.{TurnsAway};
 
 use http_server::{Config, Connection};
 use std::alloc::{AllocError, Global};
@@ -28,6 +44,7 @@ impl Table {
     /// Makes a table without connections.
     pub(crate) fn new(alloc: Global, keys: RandomState, config: Config) -> Self
         ensures none { (number : ℕ) → get nat_cmp result.connections number ≡ None }
+        ensures few { btree_map_len result.connections ≡ 0 }
         ensures last { result.last ≡ 0 }
         ensures config { result.config ≡ config }
     {
@@ -40,14 +57,15 @@ impl Table {
         }
     }
 
-    /// Takes out the connection of a number, which is a new one if the number is; `None` if the number
-    /// was used, or if no more connections may be open.
+    /// Takes out the connection of a number, which is a new one if the number is. `None` refuses the
+    /// number for good: it was used, or no more connections may be open.
     pub(crate) fn take(&mut self, number: u32) -> Option<Connection>
         ensures taken { IfSome result (λ c.
             ((get nat_cmp self.old.connections number ≡ Some c) × (self.new.last ≡ self.old.last))
             ⊎ ((self.old.last < number) × (self.new.last ≡ number)
             × (history c ≡ new_history) × (config_of c ≡ self.old.config))) }
-        ensures refused { IfNone result (self.new.last ≡ self.old.last) }
+        ensures refused { IfNone result (TurnsAway self.old self.new number) }
+        ensures few { btree_map_len self.new.connections ≤ btree_map_len self.old.connections }
         ensures left { (other : ℕ) → get nat_cmp self.new.connections other
             ≡ cond (is_eq (nat_cmp number other)) None (get nat_cmp self.old.connections other) }
         ensures config { self.new.config ≡ self.old.config }
@@ -55,10 +73,13 @@ impl Table {
         if let Some(connection) = self.connections.remove(&number) {
             return Some(connection);
         }
-        if number <= self.last || self.connections.len() >= MAX_OPEN {
+        if number <= self.last {
             return None;
         }
         self.last = number;
+        if self.connections.len() >= MAX_OPEN {
+            return None;
+        }
         Some(Connection::new(self.alloc, self.keys, self.config))
     }
 
@@ -68,6 +89,8 @@ impl Table {
             ≡ cond (is_eq (nat_cmp number other)) (Some connection)
             (get nat_cmp self.old.connections other)) }
         ensures last { self.new.last ≡ self.old.last }
+        ensures few { OnOk result
+            (btree_map_len self.new.connections ≤ btree_map_len self.old.connections + 1) }
         ensures config { self.new.config ≡ self.old.config }
     {
         match self.connections.insert(number, connection) {

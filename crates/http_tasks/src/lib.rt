@@ -1,4 +1,4 @@
-//! What a program does with a site that it serves over HTTP, to the client of its standard input and
+//! What a program does with a site that it serves over HTTP, to the clients of its standard input and
 //! output.
 //!
 //! Each task ends with the program's exit status, after a line on standard error if something
@@ -9,5 +9,5 @@ mod reader;
 mod serving;
 mod token;
 
-pub use serving::{serve, serve_path};
+pub use serving::{Clients, serve, serve_path};
 pub use token::read_token;

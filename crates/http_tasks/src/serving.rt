@@ -1,29 +1,40 @@
-//! Serving one client of HTTP.
+//! Serving clients of HTTP.
 ghost use Rattle.std.specs.Prelude.{◌≡◌, false};
 
 use crate::reader::SourceReader;
 use byte_io::{Journal, Reading, Source, Writing};
+use command_log::{CommandLog, LogFault};
 use page_trace::Watch;
-use site_http::{SitePages, serve_site};
+use site_http::{SitePages, serve_site, serve_site_frames};
 use site_journal::LogJournal;
 use site_replies::ServeFault;
 use site_serving::Commands;
 use site_tasks::{WhileThere, ended, failed, opened};
+use sqlite_trees::store::Alter;
 use std::hash::RandomState;
 use std::io;
 use std::io::Read;
 use std::process::ExitCode;
 use std::random::RandomSource;
 
-/// Serves a site that ends with the program. Edits need the token; without one, none are taken.
+/// Who is served, and who may edit.
+#[derive(Drop)]
+pub struct Clients {
+    /// Whether there are many clients, whose bytes are in frames, in place of one.
+    pub framed: bool,
+    /// The token that edits need; without one, none are taken.
+    pub token: Option<String>,
+}
+
+/// Serves a site that ends with the program.
 pub fn serve<C: Commands + Drop, V: Watch>(
     rt: &HostRuntime,
     site: C,
-    token: Option<String>,
+    clients: Clients,
     watch: V,
 ) -> ExitCode {
     let journal = Writing::new(Vec::new(rt.alloc()));
-    let (_, served) = serve_pages(rt, site, journal, watch, token, &mut rt.reader());
+    let (_, served) = serve_pages(rt, site, journal, watch, clients, &mut rt.reader());
     match served {
         Ok(()) => ExitCode::SUCCESS,
         Err(error) => failed(rt, error),
@@ -39,10 +50,9 @@ pub fn serve_path<C: Commands + Drop, V: Watch>(
     path: &str,
     mut site: C,
     identity: &str,
-    token: Option<String>,
+    clients: Clients,
     watch: V,
 ) -> ExitCode {
-    let alloc = rt.alloc();
     let Ok(source) = WhileThere::new(rt, path, Reading::new(rt.reader())) else {
         return failed(rt, ServeFault::OutOfMemory);
     };
@@ -51,10 +61,7 @@ pub fn serve_path<C: Commands + Drop, V: Watch>(
         Ok(log) => log,
         Err(status) => return status,
     };
-    let journal = LogJournal::new(alloc, log, Writing::new(Vec::new(alloc)));
-    let (journal, served) = serve_pages(rt, site, journal, watch, token, &mut reader);
-    let fault = journal.fault();
-    let (log, _) = journal.into_parts();
+    let (log, fault, served) = serve_log(rt, site, log, watch, clients, &mut reader);
     ended(
         rt,
         path,
@@ -65,13 +72,32 @@ pub fn serve_path<C: Commands + Drop, V: Watch>(
     )
 }
 
-/// Serves one client, and returns the journal beside how that ended.
+/// Serves the clients, and returns the log to which edits are committed, beside why that failed and how
+/// serving ended. It is over any store, since a call of such a function over the store of files takes
+/// the prover long: so there is one.
+fn serve_log<C: Commands + Drop, S: Alter, V: Watch, R: Read>(
+    rt: &HostRuntime,
+    site: C,
+    log: CommandLog<S>,
+    watch: V,
+    clients: Clients,
+    reader: &mut R,
+) -> (CommandLog<S>, Option<LogFault>, io::Result<()>) {
+    let alloc = rt.alloc();
+    let journal = LogJournal::new(alloc, log, Writing::new(Vec::new(alloc)));
+    let (journal, served) = serve_pages(rt, site, journal, watch, clients, reader);
+    let fault = journal.fault();
+    let (log, _) = journal.into_parts();
+    (log, fault, served)
+}
+
+/// Serves the clients, and returns the journal beside how that ended.
 fn serve_pages<C: Commands + Drop, J: Journal, V: Watch, R: Read>(
     rt: &HostRuntime,
     site: C,
     journal: J,
     watch: V,
-    token: Option<String>,
+    clients: Clients,
     reader: &mut R,
 ) -> (J, io::Result<()>)
     requires { J.has_failed journal ≡ false }
@@ -82,7 +108,14 @@ fn serve_pages<C: Commands + Drop, J: Journal, V: Watch, R: Read>(
     };
     let alloc = rt.alloc();
     let pages = SitePages::new(alloc, site, journal, watch, start);
-    serve_site(alloc, pages, token, keys, reader, &mut io::writer(rt))
+    let Clients { framed, token } = clients;
+    let mut writer = io::writer(rt);
+    if framed {
+        let mut sink = Writing::new(writer);
+        serve_site_frames(alloc, pages, token, keys, reader, &mut sink)
+    } else {
+        serve_site(alloc, pages, token, keys, reader, &mut writer)
+    }
 }
 
 /// Draws the keys of a connection's tables, and the number of this start in its tags.

@@ -23,12 +23,12 @@ unfolding site_app
 app_is bare served filed logged whole is_bare is_served is_filed is_logged is_whole =
     is_whole ∙ ap http_rules (is_logged ∙ ap history_rules (is_filed ∙ ap file_rules (is_served ∙ ap serving_rules is_bare)))
 
--- the ten options
+-- the eleven options
 abbrev pub all_rules : List Rule
 all_rules =
     number_rule (codes "calls") 100000 ∷ number_rule (codes "cache") 4096 ∷ flag_rule (codes "trace") ∷ path_rule (codes "database")
     ∷ flag_rule (codes "must-exist") ∷ flag_rule (codes "export") ∷ flag_rule (codes "compact")
-    ∷ flag_rule (codes "check") ∷ flag_rule (codes "http") ∷ path_rule (codes "token-file") ∷ []
+    ∷ flag_rule (codes "check") ∷ flag_rule (codes "http") ∷ flag_rule (codes "framed") ∷ path_rule (codes "token-file") ∷ []
 
 pub rules_are : (c : Command) → app_of c ≡ site_app → map rule_of (args_of c) ≡ all_rules
 unfolding site_app

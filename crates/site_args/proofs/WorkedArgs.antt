@@ -3,7 +3,7 @@ use Rattle.std.proofs.Common.{◌≡◌, List, [], ◌∷◌, codes, refl, true,
 use Rattle.clap.proofs.OnLiterals.{clap_on_literals}
 use Rattle.clap.specs.Words.{Text}
 use Rattle.clap.specs.declared.error.kind.ErrorKind.TheVariants as kind
-use Rattle.site_args.specs.CommandLine.{calls_of, cache_of, trace_of, database_of, export_of, compact_of, check_of, must_exist_of, http_of, token_file_of, reasons, site_app}
+use Rattle.site_args.specs.CommandLine.{calls_of, cache_of, trace_of, database_of, export_of, compact_of, check_of, must_exist_of, http_of, framed_of, token_file_of, reasons, site_app}
 
 pub no_words : reasons [] ≡ []
 unfolding clap_on_literals site_app
@@ -157,6 +157,14 @@ token_file = refl
 pub served_as_lines : http_of [] ≡ false
 unfolding clap_on_literals site_app
 served_as_lines = refl
+
+pub framed : framed_of (codes "--http" ∷ codes "--framed" ∷ []) ≡ true
+unfolding clap_on_literals site_app
+framed = refl
+
+pub one_client : framed_of (codes "--http" ∷ []) ≡ false
+unfolding clap_on_literals site_app
+one_client = refl
 
 pub no_token : token_file_of (codes "--http" ∷ []) ≡ None
 unfolding clap_on_literals site_app

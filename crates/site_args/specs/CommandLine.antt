@@ -38,14 +38,14 @@ history_rules app = with_rule (with_rule (with_rule app (flag_rule (codes "expor
 
 -- and those for HTTP
 abbrev pub http_rules : App → App
-http_rules app = with_rule (with_rule app (flag_rule (codes "http"))) (path_rule (codes "token-file"))
+http_rules app = with_rule (with_rule (with_rule app (flag_rule (codes "http"))) (flag_rule (codes "framed"))) (path_rule (codes "token-file"))
 
 -- `site`, of the command-line arguments; clap adds `--help`
 abbrev pub bare_app : App
 bare_app = on_top (λ s. record s { no_binary_name = true }) (new_app (codes "site"))
 
 -- `site [--calls N] [--cache N] [--trace] [--database FILE] [--must-exist] [--export] [--compact] [--check] [--http]
--- [--token-file FILE]`
+-- [--framed] [--token-file FILE]`
 unfoldable pub site_app : App
 site_app = http_rules (history_rules (file_rules (serving_rules bare_app)))
 
@@ -98,6 +98,10 @@ check_of words = is_given (first_of (codes "check") (matches_of site_app words))
 -- whether the site is served over HTTP
 abbrev pub http_of : List Text → Bool
 http_of words = is_given (first_of (codes "http") (matches_of site_app words))
+
+-- whether it is served so to many clients, on one stream of frames
+abbrev pub framed_of : List Text → Bool
+framed_of words = is_given (first_of (codes "framed") (matches_of site_app words))
 
 -- the file with the token that edits over HTTP need, if the arguments name one
 abbrev pub token_file_of : List Text → Option Text

@@ -11,6 +11,7 @@ ghost use Rattle.site_args.specs.CommandLine.{
   compact_of,
   check_of,
   http_of,
+  framed_of,
   token_file_of,
   is_given,
   reasons,
@@ -54,6 +55,8 @@ pub enum ArgsAnswer {
         must_exist: bool,
         /// Whether what is served is served over HTTP: not if no argument says so.
         http: bool,
+        /// Whether that is to many clients, on one stream of frames: not if no argument says so.
+        framed: bool,
         /// The file with the token that edits over HTTP need, if there is one.
         token_file: Option<String>,
         /// What is done, and with which file.
@@ -75,8 +78,8 @@ const APART: &str =
 
 // What is said of options for HTTP that don't suit what is asked for.
 const UNSUITED: &str =
-    "error: '--token-file <FILE>' needs '--http', and '--http' excludes '--export', '--compact' and \
-    '--check'\n\n\
+    "error: '--framed' and '--token-file <FILE>' need '--http', and '--http' excludes '--export', \
+    '--compact' and '--check'\n\n\
     For more information, try '--help'.\n";
 
 /// What is read of the options, before it is known whether they go together.
@@ -90,15 +93,16 @@ struct Options {
     compact: bool,
     check: bool,
     http: bool,
+    framed: bool,
     token_file: Option<String>,
 }
 
 /// Parses the command-line arguments: `--calls N`, `--cache N` (also as `--calls=N`), `--trace`,
-/// `--database FILE`, `--must-exist`, `--export`, `--compact`, `--check`, `--http`, `--token-file FILE`
-/// and `--help`. An option given twice, a number out of its range, any other argument, one of
-/// `--must-exist`, `--export`, `--compact` and `--check` without a database, two of the last three, one
-/// of them with `--http`, and `--token-file` without it are [`ArgsAnswer::Bad`]. The last clause says
-/// in clap's terms which answer it is.
+/// `--database FILE`, `--must-exist`, `--export`, `--compact`, `--check`, `--http`, `--framed`,
+/// `--token-file FILE` and `--help`. An option given twice, a number out of its range, any other
+/// argument, one of `--must-exist`, `--export`, `--compact` and `--check` without a database, two of
+/// the last three, one of them with `--http`, and `--framed` or `--token-file` without it are
+/// [`ArgsAnswer::Bad`]. The last clause says in clap's terms which answer it is.
 pub fn read_args(alloc: Global, words: &[String]) -> ArgsAnswer
     ensures ranges { HasRanges result }
     ensures numbers { HasNumbers (map string_bytes words.now) result }
@@ -127,15 +131,17 @@ fn answer(alloc: Global, options: Options) -> ArgsAnswer
         compact,
         check,
         http,
+        framed,
         token_file,
     } = options;
     match task_for(database, must_exist, export, compact, check) {
-        Some(task) if suits(http, token_file.is_none(), &task) => ArgsAnswer::Run {
+        Some(task) if suits(http, framed, token_file.is_none(), &task) => ArgsAnswer::Run {
             calls,
             cache,
             trace,
             must_exist,
             http,
+            framed,
             token_file,
             task,
         },
@@ -155,11 +161,11 @@ fn bad(alloc: Global, why: &str) -> ArgsAnswer
 }
 
 /// Returns whether a task suits the options for HTTP.
-fn suits(http: bool, no_token: bool, task: &Task) -> bool
-    ensures { result ≡ suits http no_token task.now }
+fn suits(http: bool, framed: bool, no_token: bool, task: &Task) -> bool
+    ensures { result ≡ suits http framed no_token task.now }
 {
     match task {
-        _ if !http => no_token,
+        _ if !http => no_token && !framed,
         Task::Serve | Task::ServeFile(_) => true,
         Task::Export(_) | Task::Compact(_) | Task::Check(_) => false,
     }
@@ -201,6 +207,7 @@ fn read_options(alloc: Global, words: &[String]) -> Result<Options, Error>
     ensures compact { IfOk result (λ o. o.compact ≡ compact_of (map string_bytes words.now)) }
     ensures check { IfOk result (λ o. o.check ≡ check_of (map string_bytes words.now)) }
     ensures http { IfOk result (λ o. o.http ≡ http_of (map string_bytes words.now)) }
+    ensures framed { IfOk result (λ o. o.framed ≡ framed_of (map string_bytes words.now)) }
     ensures token_file { IfOk result (λ o. option_map string_bytes o.token_file
         ≡ token_file_of (map string_bytes words.now)) }
     ensures kinds { FailsBy (reasons (map string_bytes words.now)) result }
@@ -215,6 +222,7 @@ fn read_options(alloc: Global, words: &[String]) -> Result<Options, Error>
     let compact = is_given(matches.get_str("compact"));
     let check = is_given(matches.get_str("check"));
     let http = is_given(matches.get_str("http"));
+    let framed = is_given(matches.get_str("framed"));
     let database = copy_of(alloc, matches.get_str("database"))?;
     let token_file = copy_of(alloc, matches.get_str("token-file"))?;
     Ok(Options {
@@ -227,6 +235,7 @@ fn read_options(alloc: Global, words: &[String]) -> Result<Options, Error>
         compact,
         check,
         http,
+        framed,
         token_file,
     })
 }

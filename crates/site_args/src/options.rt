@@ -120,6 +120,17 @@ fn http_flag<'a>(alloc: Global) -> Arg<'a>
         .action(ArgAction::SetTrue)
 }
 
+/// Makes the flag `--framed`.
+fn framed_flag<'a>(alloc: Global) -> Arg<'a>
+    ensures rule { rule_of result ≡ flag_rule (codes "framed") }
+    ensures local { result.global ≡ false }
+{
+    Arg::new(alloc, "framed")
+        .long("framed")
+        .help("With --http, serves many clients, on one stream of frames")
+        .action(ArgAction::SetTrue)
+}
+
 /// Makes the option `--token-file FILE`.
 fn token_file_option<'a>(alloc: Global) -> Arg<'a>
     ensures rule { rule_of result ≡ path_rule (codes "token-file") }
@@ -176,7 +187,10 @@ fn with_history_options<'a>(alloc: Global, command: Command<'a>) -> Result<Comma
 fn with_http_options<'a>(alloc: Global, command: Command<'a>) -> Result<Command<'a>, AllocError>
     ensures { IfOk result (λ more. app_of more ≡ http_rules (app_of command.entry)) }
 {
-    command.arg(http_flag(alloc))?.arg(token_file_option(alloc))
+    command
+        .arg(http_flag(alloc))?
+        .arg(framed_flag(alloc))?
+        .arg(token_file_option(alloc))
 }
 
 /// Makes the whole command line, for arguments that begin after the program's name.

@@ -2,7 +2,7 @@
 ghost use Rattle.std.specs.Prelude.{◌≡◌, ◌∷◌, [], codes, true, false, Some, None};
 ghost use Rattle.site_args.specs.CommandLine.{calls_of, cache_of, trace_of, database_of, export_of};
 ghost use Rattle.site_args.specs.CommandLine.{check_of, compact_of, must_exist_of, http_of};
-ghost use Rattle.site_args.specs.CommandLine.{token_file_of, reasons};
+ghost use Rattle.site_args.specs.CommandLine.{framed_of, token_file_of, reasons};
 
 use clap::error::ErrorKind;
 
@@ -42,6 +42,8 @@ pub fn worked_args()
     ensures token_file { token_file_of (codes "--http" ∷ codes "--token-file" ∷ codes "key" ∷ [])
         ≡ Some (codes "key") }
     ensures served_as_lines { http_of [] ≡ false }
+    ensures framed { framed_of (codes "--http" ∷ codes "--framed" ∷ []) ≡ true }
+    ensures one_client { framed_of (codes "--http" ∷ []) ≡ false }
     ensures no_token { token_file_of (codes "--http" ∷ []) ≡ None }
 
     // What clap refuses, and why.

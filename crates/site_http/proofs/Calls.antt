@@ -18,7 +18,7 @@ use Rattle.site_serving.specs.Served.{Replied, Serves, lines_in, history_of}
 use Rattle.site_serving.proofs.Histories.{Serves-append, history-append}
 use Rattle.site_serving.proofs.Journals.{Grows-trans}
 use Rattle.site_http.specs.declared.site_pages.SitePages.{SitePages}
-use Rattle.site_http.specs.Ahead.{AreLinesOf, lines_wanted}
+use Rattle.site_http.specs.Ahead.{AreLinesOf, HoldsEdits, lines_wanted}
 use Rattle.site_http.specs.Pages.{CarriesOutAll, CarriesOutSome, CommitsWaiting, Follows, ShowsPage, page_line, waiting_of}
 use Rattle.site_http.proofs.Following.{Follows-nil, Follows-then}
 
@@ -81,19 +81,8 @@ module _ {C J V : Type 0} (c : carrying.Ghosts C) (j : journals.Ghosts J) (g : p
     pub none : waiting_of s ≡ []
     pub sound : s.is_lost ≡ false
 
-  -- what the log holds after some rounds
-  pub record Holds (token : Option (List ℕ)) (rounds : List (Round Call)) (old new : SitePages C J V) (held : List (List ℕ)) : Type 0 where
-    pub more : List Call
-    pub lost : List Call
-    pub calls : all_of rounds ≡ kept_of rounds ++ (more ++ lost)
-    pub told_lines : List Replied
-    pub more_lines : List Replied
-    pub lost_lines : List Replied
-    pub are_told : AreLinesOf token (kept_of rounds) told_lines
-    pub are_more : AreLinesOf token more more_lines
-    pub are_lost : AreLinesOf token lost lost_lines
-    pub served : Serves (c.replies (c.fixed old.commands)) (c.state old.commands) (told_lines ++ (more_lines ++ lost_lines)) (c.state new.commands)
-    pub edits : Grows (j.noted old.journal) (Some held) (history_of c.keeps (told_lines ++ more_lines))
+  abbrev Holds : Option (List ℕ) → List (Round Call) → SitePages C J V → SitePages C J V → List (List ℕ) → Type 0
+  Holds = HoldsEdits c j
 
   -- a settled log holds what was noted
   rest_holds : (s : SitePages C J V) (held : List (List ℕ)) → IsAtRest s → j.may_hold s.journal held → Grows (j.noted s.journal) (Some held) []

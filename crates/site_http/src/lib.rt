@@ -10,5 +10,5 @@ mod serving;
 mod site_pages;
 
 pub use laws::the_log_is_not_older;
-pub use serving::serve_site;
+pub use serving::{serve_site, serve_site_frames};
 pub use site_pages::SitePages;

@@ -1,5 +1,5 @@
 //! Serving a site over HTTP.
-ghost use Rattle.std.specs.Prelude.{◌≡◌, ℕ, List, [], false, option_map};
+ghost use Rattle.std.specs.Prelude.{◌≡◌, ℕ, List, [], false, map, option_map};
 ghost use Rattle.std.specs.Io.KnownBytes.{Appends, Consumes};
 ghost use Rattle.std.specs.String.{string_bytes};
 ghost use Rattle.byte_io.specs.Journal.{IsSettled};
@@ -7,13 +7,18 @@ ghost use Rattle.http_pages.specs.declared.serve.TheConstants.{CONFIG};
 ghost use Rattle.http_server.specs.Connection.{history};
 ghost use Rattle.http_server.specs.History.{IsServed};
 ghost use Rattle.http_server.specs.declared.connection.Connection.{Connection};
-ghost use Rattle.site_http.specs.Ahead.{IsAhead};
+ghost use Rattle.byte_io.specs.Known.{AppendsFront};
+ghost use Rattle.http_streams.specs.Deeds.{Deed, output_of, rounds_of};
+ghost use Rattle.http_streams.specs.Tables.{AreKnown};
+ghost use Rattle.http_frames.specs.Frame.{ReadsAs};
+ghost use Rattle.site_http.specs.Ahead.{HoldsEdits, IsAhead};
 ghost use Rattle.site_http.specs.Pages.{waiting_of};
 ghost use Rattle.site_http.specs.declared.site_pages.SitePages.{SitePages as PagesOf};
 
 use crate::site_pages::SitePages;
-use byte_io::Journal;
-use http_pages::{PageService, serve_http};
+use byte_io::{Journal, Sink};
+use http_pages::{CONFIG, PageService, serve_http};
+use http_streams::serve_frames;
 use page_trace::Watch;
 use site_serving::Commands;
 use std::alloc::Global;
@@ -52,6 +57,49 @@ pub fn serve_site<C: Commands + Drop, J: Journal, V: Watch, R: Read, W: Write>(
         alloc,
     };
     let served = serve_http(&mut service, keys, reader, writer);
+    let PageService {
+        pages,
+        token: _,
+        alloc: _,
+    } = service;
+    (pages.into_journal(), served)
+}
+
+/// Serves a site to the clients whose bytes the reader has in frames, and writes what they are sent in
+/// frames, as [`serve_frames`](http_streams::serve_frames) does. Returns the journal beside how that
+/// ended. With no token no edit is taken.
+pub fn serve_site_frames<C: Commands + Drop, J: Journal, V: Watch, R: Read, W: Sink>(
+    alloc: Global,
+    pages: SitePages<C, J, V>,
+    token: Option<String>,
+    keys: RandomState,
+    reader: &mut R,
+    writer: &mut W,
+) -> (J, io::Result<()>)
+    requires journal { J.has_failed pages.journal ≡ false }
+    requires writer { W.has_failed writer.old ≡ false }
+
+    // Each client was sent what its own connection has to send, and whatever the log is found to hold
+    // has each edit of a round that was committed: no byte that was sent tells of another.
+    ensures ahead { IsSettled J.written J.contents J.is_open J.may_hold J.noted pages.journal
+        → waiting_of pages ≡ []
+        → pages.is_lost ≡ false
+        → (held : List (List ℕ))
+        → J.may_hold result.0 held
+        → (deeds : List Deed) × (stretch : List ℕ) × (rest : List ℕ) × (after : PagesOf C J V)
+        × Consumes (R.remaining reader.old) (R.remaining reader.new) stretch
+        × ReadsAs stretch (map (λ d. d.frame) deeds) rest
+        × AppendsFront (W.contents writer.old) (W.contents writer.new) (output_of deeds)
+        × AreKnown CONFIG deeds
+        × HoldsEdits C.Commands J.Journal (option_map string_bytes token) (rounds_of deeds) pages
+        after held }
+{
+    let mut service = PageService {
+        pages,
+        token,
+        alloc,
+    };
+    let served = serve_frames(alloc, keys, CONFIG, &mut service, reader, writer);
     let PageService {
         pages,
         token: _,

@@ -70,7 +70,11 @@ impl<C: Commands, J: Journal, V: Watch> SitePages<C, J, V> {
         ensures { Follows C.Commands
             (record { line = line.now; reply = reply_data result } ∷ []) self.old self.new }
     {
-        let LineReply { reply, is_kept } = self.commands.carry_out(line, &mut self.watch);
+        let LineReply {
+            reply,
+            is_kept,
+            is_look: _,
+        } = self.commands.carry_out(line, &mut self.watch);
         if is_kept {
             self.tag.edits = self.tag.edits.saturating_add(1);
             if hold(self.alloc, &mut self.waiting, line).is_err() {

@@ -5,6 +5,8 @@ use crate::files::missing_file;
 use crate::http::{serve_http, serve_http_file, token_in};
 use crate::serving::{serve, serve_file};
 use callback_store::{Plugins, Stated};
+use http_tasks::Clients;
+use kept_pages::KeptPages;
 use site_args::{ArgsAnswer, Task, read_args};
 use site_program::{Site, StoreFault};
 use site_start::identity_of;
@@ -31,13 +33,14 @@ pub fn run<S: Stated>(rt: &HostRuntime, plugins: &Plugins<S>) -> ExitCode {
             trace,
             must_exist,
             http,
+            framed,
             token_file,
             task,
         } => {
             if let Some(status) = missing_file(rt, &task, must_exist) {
                 return status;
             }
-            match way_of(rt, http, token_file) {
+            match way_of(rt, http, framed, token_file) {
                 Ok(way) => with_site(rt, plugins, calls, cache, trace, &task, way),
                 Err(status) => status,
             }
@@ -59,20 +62,26 @@ pub fn run<S: Stated>(rt: &HostRuntime, plugins: &Plugins<S>) -> ExitCode {
 enum Way {
     /// A command on each line.
     Lines,
-    /// Over HTTP, with the token that edits need.
-    Http(Option<String>),
+    /// Over HTTP, to these clients.
+    Http(Clients),
 }
 
 /// Returns how a site is served, with the token from its file. If that cannot be read, returns the
 /// program's exit status.
-fn way_of(rt: &HostRuntime, http: bool, token_file: Option<String>) -> Result<Way, ExitCode> {
+fn way_of(
+    rt: &HostRuntime,
+    http: bool,
+    framed: bool,
+    token_file: Option<String>,
+) -> Result<Way, ExitCode> {
     if !http {
         return Ok(Way::Lines);
     }
-    match token_file {
-        Some(path) => Ok(Way::Http(Some(token_in(rt, path.as_str())?))),
-        None => Ok(Way::Http(None)),
-    }
+    let token = match token_file {
+        Some(path) => Some(token_in(rt, path.as_str())?),
+        None => None,
+    };
+    Ok(Way::Http(Clients { framed, token }))
 }
 
 /// Returns the command-line arguments.
@@ -109,21 +118,15 @@ fn with_site<S: Stated>(
     let identity = identity.as_str();
     match Site::new(alloc, plugins, calls, cache) {
         Ok(mut site) => match task {
-            Task::Serve => match way {
-                Way::Lines => serve(rt, &mut site, trace),
-                Way::Http(token) => serve_http(rt, site, token, trace),
-            },
-            Task::ServeFile(path) => match way {
-                Way::Lines => serve_file(rt, &mut site, identity, path.as_str(), trace),
-                Way::Http(token) => serve_http_file(
-                    rt,
-                    site,
-                    identity,
-                    token,
-                    path.as_str(),
-                    trace,
-                ),
-            },
+            Task::Serve => with_pages(rt, site, None, identity, trace, way),
+            Task::ServeFile(path) => with_pages(
+                rt,
+                site,
+                Some(path.as_str()),
+                identity,
+                trace,
+                way,
+            ),
             Task::Export(path) => export(rt, &mut site, identity, path.as_str()),
             Task::Check(path) => check(rt, &mut site, identity, path.as_str()),
             Task::Compact(path) => match Site::new(alloc, plugins, calls, cache) {
@@ -132,5 +135,27 @@ fn with_site<S: Stated>(
             },
         },
         Err(fault) => failed(rt, fault),
+    }
+}
+
+/// Serves a site whose pages are kept until a line changes something, in memory or in a file.
+fn with_pages<S: Stated>(
+    rt: &HostRuntime,
+    site: Site<'_, S>,
+    path: Option<&str>,
+    identity: &str,
+    trace: bool,
+    way: Way,
+) -> ExitCode {
+    let Ok(mut site) = KeptPages::new(rt.alloc(), site) else {
+        return failed(rt, StoreFault::OutOfMemory);
+    };
+    match (path, way) {
+        (None, Way::Lines) => serve(rt, &mut site, trace),
+        (Some(path), Way::Lines) => serve_file(rt, &mut site, identity, path, trace),
+        (None, Way::Http(clients)) => serve_http(rt, site, clients, trace),
+        (Some(path), Way::Http(clients)) => serve_http_file(
+            rt, site, identity, clients, path, trace,
+        ),
     }
 }

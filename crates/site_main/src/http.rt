@@ -1,7 +1,6 @@
-//! Serving one client of HTTP on standard input and output.
-use callback_store::Stated;
-use http_tasks::{read_token, serve, serve_path};
-use site_program::{PageTrace, Site, Unwatched, Writing};
+//! Serving clients of HTTP on standard input and output.
+use http_tasks::{Clients, read_token, serve, serve_path};
+use site_program::{Commands, PageTrace, Unwatched, Writing};
 use site_tasks::failed_at;
 use std::process::ExitCode;
 
@@ -15,33 +14,35 @@ pub(crate) fn token_in(rt: &HostRuntime, path: &str) -> Result<String, ExitCode>
 }
 
 /// Serves a site in memory. With `trace` each invocation is told on standard error.
-pub(crate) fn serve_http<S: Stated>(
+#[inline(never)]
+pub(crate) fn serve_http<C: Commands + Drop>(
     rt: &HostRuntime,
-    site: Site<'_, S>,
-    token: Option<String>,
+    site: C,
+    clients: Clients,
     trace: bool,
 ) -> ExitCode {
     if trace {
         let log = PageTrace::new(rt.alloc(), Writing::new(rt.stderr()));
-        serve(rt, site, token, log)
+        serve(rt, site, clients, log)
     } else {
-        serve(rt, site, token, Unwatched)
+        serve(rt, site, clients, Unwatched)
     }
 }
 
 /// Makes the site anew by the log in a file, and serves it into that log.
-pub(crate) fn serve_http_file<S: Stated>(
+#[inline(never)]
+pub(crate) fn serve_http_file<C: Commands + Drop>(
     rt: &HostRuntime,
-    site: Site<'_, S>,
+    site: C,
     identity: &str,
-    token: Option<String>,
+    clients: Clients,
     path: &str,
     trace: bool,
 ) -> ExitCode {
     if trace {
         let log = PageTrace::new(rt.alloc(), Writing::new(rt.stderr()));
-        serve_path(rt, path, site, identity, token, log)
+        serve_path(rt, path, site, identity, clients, log)
     } else {
-        serve_path(rt, path, site, identity, token, Unwatched)
+        serve_path(rt, path, site, identity, clients, Unwatched)
     }
 }

@@ -2,13 +2,24 @@
 ghost use Rattle.std.specs.Prelude.{◌≡◌, false};
 
 use callback_store::Stated;
-use site_program::{Journal, PageTrace, Reading, ServeFault, Site, Unwatched, Writing};
+use kept_pages::KeptPages;
+use site_program::{
+    Commands, Journal, PageTrace, Reading, ServeFault, Site, Source, Unwatched, Writing, serve_site,
+};
 use site_tasks::{failed, serve_path};
 use std::io;
 use std::process::ExitCode;
 
+// None of these is inlined: the buffers of all ways to serve would lie in one frame, and the stack be
+// half as large again.
+
 /// Serves standard input to standard output.
-pub(crate) fn serve<S: Stated>(rt: &HostRuntime, site: &mut Site<'_, S>, trace: bool) -> ExitCode {
+#[inline(never)]
+pub(crate) fn serve<S: Stated>(
+    rt: &HostRuntime,
+    site: &mut KeptPages<Site<'_, S>>,
+    trace: bool,
+) -> ExitCode {
     let mut writer = Writing::new(io::writer(rt));
     match serve_into(rt, site, &mut writer, trace) {
         Ok(()) => ExitCode::SUCCESS,
@@ -18,9 +29,10 @@ pub(crate) fn serve<S: Stated>(rt: &HostRuntime, site: &mut Site<'_, S>, trace: 
 
 /// Makes the site anew by the log in a file, whose first line has to be the identity, and serves
 /// standard input into that log. With `trace` each invocation is told on standard error.
-pub(crate) fn serve_file<S: Stated>(
+#[inline(never)]
+pub(crate) fn serve_file<C: Commands>(
     rt: &HostRuntime,
-    site: &mut Site<'_, S>,
+    site: &mut C,
     identity: &str,
     path: &str,
     trace: bool,
@@ -38,7 +50,7 @@ pub(crate) fn serve_file<S: Stated>(
 /// Serves standard input into a journal. With `trace` each invocation is told on standard error.
 fn serve_into<S: Stated, W: Journal>(
     rt: &HostRuntime,
-    site: &mut Site<'_, S>,
+    site: &mut KeptPages<Site<'_, S>>,
     writer: &mut W,
     trace: bool,
 ) -> Result<(), ServeFault>
@@ -46,9 +58,23 @@ fn serve_into<S: Stated, W: Journal>(
 {
     let mut reader = Reading::new(rt.reader());
     if trace {
-        let mut log = PageTrace::new(rt.alloc(), Writing::new(rt.stderr()));
-        site_serving::serve(rt.alloc(), site, &mut reader, writer, &mut log)
+        serve_traced(rt, site, &mut reader, writer)
     } else {
-        site.serve(&mut reader, writer)
+        serve_site(rt.alloc(), site, &mut reader, writer)
     }
+}
+
+/// Serves a source into a journal, and tells each invocation on standard error.
+#[inline(never)]
+fn serve_traced<C: Commands, R: Source, W: Journal>(
+    rt: &HostRuntime,
+    site: &mut C,
+    reader: &mut R,
+    writer: &mut W,
+) -> Result<(), ServeFault>
+    requires reader { R.has_failed reader.old ≡ false }
+    requires writer { W.has_failed writer.old ≡ false }
+{
+    let mut log = PageTrace::new(rt.alloc(), Writing::new(rt.stderr()));
+    site_serving::serve(rt.alloc(), site, reader, writer, &mut log)
 }

@@ -6,6 +6,7 @@ pub mod Refusals
 pub mod Limits
 pub mod Rebuilding
 mod LogAndSite
+pub mod Looks
 pub mod Bounds
 pub mod Isolation
 pub mod OtherPrograms

@@ -87,6 +87,11 @@ is_edit (Some (asked.begin path)) = false
 is_edit (Some (asked.turns page count)) = false
 is_edit (Some _) = true
 
+-- whether a command changes nothing
+abbrev pub is_look : Option Asked → Bool
+is_look (Some (asked.get path)) = true
+is_look _ = false
+
 -- Whether a refusal by the database may replace this reply to a command: to an edit as `may_be_late` says; to a command that
 -- only reads rows if there is a limit on the steps of a statement; never to `turns`, which runs no statement.
 abbrev pub may_be_late_at : Option Asked → Option ℕ → ReplyData → Bool

@@ -24,6 +24,7 @@ pub use history::{
     a_copy_agrees, history_goes_on_over_a_copy, history_rebuilds_the_site,
     kept_lines_are_enough_ever, replies_are_written, sites_of_one_history_agree,
 };
+pub use kept_pages::KeptPages;
 pub use laws::{
     inactive_plugins_have_no_say, inactive_plugins_have_no_say_ever,
     inactive_plugins_have_no_say_in_replies, open_pages_stay, site_pages_keep_to_their_bounds,
@@ -31,6 +32,7 @@ pub use laws::{
 pub use log_law::the_log_is_the_site;
 pub use page_trace::{PageEnd, PageName, PageTrace, Told, Unwatched, Watch};
 pub use programs::{rows_rest_on_names, sites_given_the_same_edits_agree};
+pub use serve::serve_site;
 pub use site::Site;
 pub use site_edits::StoreFault;
 pub use site_replies::{Refusal, ServeFault, SiteReply};

@@ -3,7 +3,7 @@ ghost use Rattle.std.specs.Prelude.{◌≡◌, ◌≤◌, IfOk};
 ghost use Rattle.site_commands.specs.Asked.{asked_by};
 ghost use Rattle.site_replies.specs.Reply.{reply_data};
 
-use crate::edits::{is_done, is_edit};
+use crate::edits::{is_done, is_edit, is_look};
 use crate::setup::Setup;
 use crate::state::SiteState;
 use callback_store::{Plugins, Stated};
@@ -138,11 +138,11 @@ impl<'p, S: Stated> Site<'p, S> {
 }
 
 impl<'p, S: Stated> Setup<'p, S> {
-    ghost use Rattle.std.specs.Prelude.{Some};
+    ghost use Rattle.std.specs.Prelude.{Some, true};
     ghost use Rattle.site_replies.specs.declared.reply.Refusal.{Refusal};
     ghost use Rattle.site_replies.specs.Reply.{refused};
     ghost use Rattle.site_program.specs.Site.{engine_of, calls_of, seen_by};
-    ghost use Rattle.site_program.specs.Step.{IsReply, steps_of, carried_out};
+    ghost use Rattle.site_program.specs.Step.{IsReply, steps_of, carried_out, is_look};
     ghost use Rattle.site_program.specs.Carried.{CarriesOn};
     ghost use Rattle.site_program.specs.History.{is_kept};
     ghost use Rattle.site_commands.specs.Worked.{line_command};
@@ -161,6 +161,7 @@ impl<'p, S: Stated> Setup<'p, S> {
             line.now (reply_data result.reply) (seen_by S.says S.number self.now state.new) }
         ensures kept { result.is_kept
             ≡ is_kept (record { line = line.now; reply = reply_data result.reply }) }
+        ensures look { result.is_look ≡ true → is_look (line_command line.now) ≡ true }
         ensures refused { (r : Refusal) → reply_data result.reply ≡ refused r → state.new.stored
             ≡ state.old.stored }
         ensures limit { state.new.stored.step_limit ≡ state.old.stored.step_limit }
@@ -176,9 +177,11 @@ impl<'p, S: Stated> Setup<'p, S> {
             return LineReply::refused(Refusal::BadCommand);
         };
         let edits = is_edit(command);
+        let looks = is_look(command);
         match self.carry_out(state, command, watch) {
             Ok(reply) => LineReply {
                 is_kept: edits && is_done(&reply),
+                is_look: looks,
                 reply,
             },
             Err(StoreFault::OutOfMemory) => LineReply::refused(Refusal::OutOfMemory),

@@ -51,6 +51,7 @@ pub trait Commands {
         ensures kept { result.is_kept
             ≡ keeps (record { line = line.now; reply = reply_data result.reply }) }
         ensures edit { result.is_kept ≡ true → edits line.now ≡ true }
+        ensures look { result.is_look ≡ true → state self.new ≡ state self.old }
         ensures fixed { fixed self.new ≡ fixed self.old };
 
     /// Returns lines that rebuild what lasts of the state, each without its newline. It fails as a

@@ -11,6 +11,8 @@ pub struct LineReply {
     pub reply: SiteReply,
     /// Whether the line is an edit that was done, so that the history has it.
     pub is_kept: bool,
+    /// Whether it is known that the line changed nothing: it may get this reply again.
+    pub is_look: bool,
 }
 
 impl LineReply {
@@ -18,10 +20,12 @@ impl LineReply {
     pub fn refused(refusal: Refusal) -> Self
         ensures reply { reply_data result.reply ≡ refused refusal }
         ensures kept { result.is_kept ≡ false }
+        ensures look { result.is_look ≡ false }
     {
         LineReply {
             reply: SiteReply::Refused(refusal),
             is_kept: false,
+            is_look: false,
         }
     }
 }

@@ -1,9 +1,8 @@
 -- What a log makes of a site.
 use Rattle.std.specs.Prelude.{◌≡◌, ◌≢◌, ◌⊎◌, ⊤, ℕ, ◌+◌, ◌^◌, ◌<◌, ◌≤◌, Bool, List, [], ◌∷◌, ◌++◌, length, true, All}
-use Rattle.sqlite_disk.specs.declared.Disk.{Ghosts}
-use Rattle.sqlite_store.specs.declared.store.FileStore.{FileStore}
-use Rattle.sqlite.specs.Files.{file_state, over_files}
-use Rattle.sqlite.specs.Held.{Held}
+use Rattle.sqlite.specs.Held.{Held, state}
+use Rattle.sqlite.specs.State.{HasCleanDisk}
+use Rattle.sqlite.specs.Store.{Ghosts}
 use Rattle.sqlite.specs.Order.{Row}
 use Rattle.sqlite.specs.Recovery.{Image}
 use Rattle.command_log.specs.Faults.{AreText, IsCaused, Unstorable}
@@ -39,6 +38,17 @@ AreEdits edits lines = All (λ line. edits line ≡ true) lines
 -- after its first line a log has edits alone
 abbrev pub HasEdits : (List ℕ → Bool) → List ℕ → List (List ℕ) → Type 0
 HasEdits edits identity lines = (later : List (List ℕ)) × (lines ≡ identity ∷ later) × AreEdits edits later
+
+-- An open of files with this image made the log: unless the disk has returned what was not written, it is open, and has the
+-- lines that the files held.
+pub record IsOpenedFrom {S : Type 0} (g : Ghosts S) (image : Image) (log : Held S) : Type 0 where
+  pub opened : HasCleanDisk (state g log) → IsOpen g log
+  pub finds : IsOpen g log → Finds image (lines_of g log)
+
+-- and it was taken over: its lines are those that the files held, the first of which is the identity, or it alone
+pub record IsTakenFrom {S : Type 0} (g : Ghosts S) (image : Image) (identity : List ℕ) (log : Held S) : Type 0 where
+  pub opened : HasCleanDisk (state g log) → IsOpen g log
+  pub found : HasCleanDisk (state g log) → (held : List (List ℕ)) × Finds image held × IsTakenOver identity held (lines_of g log)
 
 -- ---- why a start failed
 
@@ -117,10 +127,8 @@ module _ {X : Type 0} (steps : X → List ℕ → X × ReplyData) (replies : X �
   IsReplayFault OfLog old lines fault = StopsAmong old 1 lines fault
 
   -- why a start failed in files with this image: a log was opened with their lines, and the start then left it as this one
-  pub record IsOpenFault {D : Type 0} {g : Ghosts D} (image : Image) (old : X) (identity : List ℕ) (log : Held (FileStore D g)) (fault : StartFault)
-      : Type 0 where
-    pub opened : Held (FileStore D g)
-    pub up : IsOpen over_files opened
-    pub held : Finds image (lines_of over_files opened)
-    pub cause : IsStartFault (IsCaused (file_state opened) (file_state log) (Untaken identity (lines_of over_files opened))) old identity
-        (lines_of over_files opened) fault
+  pub record IsOpenFault {S : Type 0} (g : Ghosts S) (image : Image) (old : X) (identity : List ℕ) (log : Held S) (fault : StartFault) : Type 0 where
+    pub opened : Held S
+    pub up : IsOpen g opened
+    pub held : Finds image (lines_of g opened)
+    pub cause : IsStartFault (IsCaused (state g opened) (state g log) (Untaken identity (lines_of g opened))) old identity (lines_of g opened) fault

@@ -9,7 +9,8 @@ ghost use Rattle.sqlite.specs.WalFiles.{image_at};
 ghost use Rattle.command_log.specs.Lines.{IsOpen, KeepsLines, MayHold, lines_of};
 ghost use Rattle.site_serving.specs.Served.{state_after};
 ghost use Rattle.site_start.specs.Compacted.{IsShort, IsShortIn};
-ghost use Rattle.site_start.specs.Started.{IsLeftBy};
+ghost use Rattle.site_start.specs.Started.{IsLeftBy, IsTakenFrom};
+ghost use Rattle.sqlite.specs.Recovery.{Image};
 
 use crate::fault::StartFault;
 use crate::opening::{FileLog, open_site};
@@ -58,14 +59,47 @@ pub fn compact_file<C: Commands, S: Start>(
         ⊎ IsShortIn C.Commands identity.now site.new lines)) }
 {
     match open_site(rt, path, files, site, identity) {
-        Ok(mut log) => {
-            log.law_left_by_a_crash();
-            match compact(rt.alloc(), site, copy, &mut log, identity) {
-                Ok(()) => Ok(log),
-                Err(fault) => Err((fault, Some(log))),
-            }
-        }
+        Ok(log) => match compact_opened(rt.alloc(), site, copy, log, identity) {
+            Ok(log) => Ok(log),
+            Err((fault, log)) => Err((fault, Some(log))),
+        },
         Err(failed) => Err(failed),
+    }
+}
+
+/// Puts short lines in the place of those of a log that was taken over, as [`compact`] does. On any
+/// end the log comes back. It is over any store, since a call of such a function over the store of
+/// files takes the prover long: so [`compact_file`] has one.
+fn compact_opened<C: Commands, S: Alter>(
+    alloc: Global,
+    site: &mut C,
+    copy: &mut C,
+    mut log: CommandLog<S>,
+    identity: &str,
+) -> Result<CommandLog<S>, (StartFault, CommandLog<S>)>
+    ensures before { IfOk result (λ it. HasCleanDisk (state S.Store it)
+        → HasCleanDisk (state S.Store log)) }
+    ensures replayed { IfOk result (λ it. HasCleanDisk (state S.Store it)
+        → C.state copy.new
+        ≡ state_after (C.steps (C.fixed copy.old))
+        (C.state copy.old)
+        (lines_of S.Store it)) }
+    ensures short { IfOk result (λ it. HasCleanDisk (state S.Store it)
+        → IsShort C.Commands identity.now site.new copy.new (lines_of S.Store it)) }
+    ensures opened { IfOk result (λ it. HasCleanDisk (state S.Store it) → IsOpen S.Store it) }
+    ensures err { (image : Image) → IsTakenFrom S.Store image identity.now log
+        → IfErr result (λ e. IsOpen S.Store e.1
+        → IsLeftBy image identity.now (lines_of S.Store e.1)) }
+    ensures survives { (image : Image) → IsTakenFrom S.Store image identity.now log
+        → IfErr result (λ e. (lines : List (List ℕ)) → MayHold S.Store e.1 lines
+        → IsLeftBy image identity.now lines
+        ⊎ IsShortIn C.Commands identity.now site.new lines) }
+    ensures same { C.state site.new ≡ C.state site.old }
+{
+    log.law_left_by_a_crash();
+    match compact(alloc, site, copy, &mut log, identity) {
+        Ok(()) => Ok(log),
+        Err(fault) => Err((fault, log)),
     }
 }
 

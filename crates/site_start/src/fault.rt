@@ -6,7 +6,7 @@ use thiserror::Error;
 
 /// Why a site was not started from its log, or its log not made shorter. No line of the log has
 /// changed.
-#[derive(Clone, Copy, Debug, PartialEq, Eq, Drop, Error)]
+#[derive(Clone, Copy, Debug, Drop, Error)]
 pub enum StartFault {
     /// The log cannot be opened or read, or its first line could not be appended.
     #[error("{0}")]

@@ -3,6 +3,7 @@ ghost use Rattle.std.specs.Prelude.{◌≡◌, ◌≢◌, ℕ, List, ◌∷◌, 
 ghost use Rattle.std.specs.Prelude.{IfErr, IfNone, IfOk, IfSome, OnOk, OnErr};
 ghost use Rattle.sqlite.specs.Files.{over_files};
 ghost use Rattle.sqlite.specs.Held.{state};
+ghost use Rattle.sqlite.specs.Recovery.{Image};
 ghost use Rattle.sqlite.specs.State.{HasCleanDisk, Survives};
 ghost use Rattle.sqlite.specs.WalFiles.{image_at};
 ghost use Rattle.command_log.specs.Faults.{IsCaused, Unstorable};
@@ -11,7 +12,7 @@ ghost use Rattle.command_log.specs.Lines.{IsOpen, IsAppended, KeepsLines, MayHol
 ghost use Rattle.command_log.specs.Lines.{lines_of, rows_of};
 ghost use Rattle.command_log.specs.declared.fault.LogFault.{LogFault};
 ghost use Rattle.site_serving.specs.Served.{state_after};
-ghost use Rattle.site_start.specs.Started.{HasEdits, IsLeftBy, IsOfAnother, IsOpenFault};
+ghost use Rattle.site_start.specs.Started.{HasEdits, IsLeftBy, IsOfAnother, IsOpenedFrom, IsOpenFault};
 ghost use Rattle.site_start.specs.Started.{IsStartFault, IsTakenOver, Untaken};
 ghost use Rattle.site_start.specs.declared.fault.StartFault.TheVariants.{Log, OtherProgram};
 
@@ -61,7 +62,7 @@ pub fn open_site<C: Commands, S: Start>(
     // It comes as a start from them names it. Without a log it is a fault of the open.
     ensures cause { IfErr result (λ e. IfSome e.1 (λ log. HasCleanDisk (state over_files log)
         → IsOpenFault (C.steps (C.fixed site.old)) (C.replies (C.fixed site.old)) C.keeps
-        (image_at S.Start) (C.state site.old) identity.now log e.0)) }
+        over_files (image_at S.Start) (C.state site.old) identity.now log e.0)) }
     ensures unopened { IfErr result
         (λ e. IfNone e.1 ((fault : LogFault) × (e.0 ≡ Log fault))) }
 
@@ -71,14 +72,50 @@ pub fn open_site<C: Commands, S: Start>(
     ensures fixed { C.fixed site.new ≡ C.fixed site.old }
 {
     match CommandLog::open(rt, path, files) {
-        Ok(mut log) => {
-            log.law_left_by_a_crash();
-            match start(rt.alloc(), site, &mut log, identity) {
-                Ok(()) => Ok(log),
-                Err(fault) => Err((fault, Some(log))),
-            }
-        }
+        Ok(log) => match start_opened(rt.alloc(), site, log, identity) {
+            Ok(log) => Ok(log),
+            Err((fault, log)) => Err((fault, Some(log))),
+        },
         Err(fault) => Err((StartFault::Log(fault), None)),
+    }
+}
+
+/// Starts from a log that an open of files has made, as [`start`] does. On any end the log comes back.
+/// It is over any store, since a call of such a function over the store of files takes the prover
+/// long: so [`open_site`] has one.
+fn start_opened<C: Commands, S: Alter>(
+    alloc: Global,
+    site: &mut C,
+    mut log: CommandLog<S>,
+    identity: &str,
+) -> Result<CommandLog<S>, (StartFault, CommandLog<S>)>
+    ensures replayed { IfOk result (λ it. HasCleanDisk (state S.Store it)
+        → C.state site.new
+        ≡ state_after (C.steps (C.fixed site.old))
+        (C.state site.old)
+        (lines_of S.Store it)) }
+    ensures found { (image : Image) → IsOpenedFrom S.Store image log
+        → IfOk result (λ it. HasCleanDisk (state S.Store it)
+        → (held : List (List ℕ)) × Finds image held
+        × IsTakenOver identity.now held (lines_of S.Store it)) }
+    ensures edits { IfOk result (λ it. HasCleanDisk (state S.Store it)
+        → HasEdits C.edits identity.now (lines_of S.Store it)) }
+    ensures opened { IfOk result (λ it. HasCleanDisk (state S.Store it) → IsOpen S.Store it) }
+    ensures err { (image : Image) → IsOpenedFrom S.Store image log
+        → IfErr result (λ e. IsOpen S.Store e.1 → Finds image (lines_of S.Store e.1)) }
+    ensures cause { (image : Image) → IsOpenedFrom S.Store image log
+        → IfErr result (λ e. HasCleanDisk (state S.Store e.1)
+        → IsOpenFault (C.steps (C.fixed site.old)) (C.replies (C.fixed site.old)) C.keeps
+        S.Store image (C.state site.old) identity.now e.1 e.0) }
+    ensures survives { (image : Image) → IsOpenedFrom S.Store image log
+        → IfErr result (λ e. (lines : List (List ℕ)) → MayHold S.Store e.1 lines
+        → IsLeftBy image identity.now lines) }
+    ensures fixed { C.fixed site.new ≡ C.fixed site.old }
+{
+    log.law_left_by_a_crash();
+    match start(alloc, site, &mut log, identity) {
+        Ok(()) => Ok(log),
+        Err(fault) => Err((fault, log)),
     }
 }
 

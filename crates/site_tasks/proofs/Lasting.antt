@@ -4,14 +4,13 @@ use Rattle.std.specs.Prelude.{IsTrue, IfSome, if◌then◌else◌}
 use Rattle.byte_io.specs.Journal.{Grows}
 use Rattle.byte_io.specs.Known.{AppendsFront}
 use Rattle.byte_io.specs.declared.journal.Journal.{Ghosts}
-use Rattle.sqlite_disk.specs.declared.Disk as disk
-use Rattle.sqlite.specs.Files.{file_state, over_files}
-use Rattle.sqlite.specs.Held.{Held}
+use Rattle.sqlite.specs.Held.{Held, state}
+use Rattle.sqlite.specs.Store as store
 use Rattle.sqlite.specs.Recovery.{Image}
 use Rattle.sqlite.specs.State.{HasCleanDisk}
-use Rattle.sqlite_store.specs.declared.store.FileStore.{FileStore}
 use Rattle.command_log.specs.Found.{Finds}
 use Rattle.command_log.specs.Lines.{lines_of}
+use Rattle.command_log.proofs.States.{ShutsIfDirty, clean_of}
 use Rattle.site_journal.specs.Known.{known_lines}
 use Rattle.site_replies.specs.Reply.{ReplyData}
 use Rattle.site_serving.specs.Journaled.{KeepsAhead}
@@ -19,7 +18,6 @@ use Rattle.site_serving.specs.Lines as input
 use Rattle.site_serving.specs.Served.{Replied, Serves, history_of, lines_in, state_after, written_for}
 use Rattle.site_serving.proofs.Histories.{Serves-split}
 use Rattle.site_start.specs.Started.{IsTakenOver}
-use Rattle.site_start.proofs.Leaving.{clean_if_open}
 use Rattle.site_tasks.specs.Lasting.{Lasts}
 
 -- lines that are found after those of a log were known
@@ -29,22 +27,22 @@ grown true lines found more grows = (refl, grows ∙ ap (λ l. l ++ more) (appen
 grown false lines found more grows = absurd grows
 
 module _ {F X J : Type 0} (j : Ghosts J) (steps : F → X → List ℕ → X × ReplyData) (replies : F → X → List ℕ → ReplyData → X → Type 0)
-    (keeps : Replied → Bool) {D : Type 0} {g : disk.Ghosts D} (log : Held (FileStore D g)) (image : Image) (identity : List ℕ) (fixed still : F)
+    (keeps : Replied → Bool) {S : Type 0} (g : store.Ghosts S) (law : ShutsIfDirty g) (log : Held S) (image : Image) (identity : List ℕ) (fixed still : F)
     (first started last : X) (given before after : Option (List ℕ)) (old new : J) where
   -- what a log may be found to hold after a run over it
-  pub lasts : still ≡ fixed → (HasCleanDisk (file_state log) → started ≡ state_after (steps fixed) first (lines_of over_files log))
-      → (HasCleanDisk (file_state log) → (held : List (List ℕ)) × Finds image held × IsTakenOver identity held (lines_of over_files log))
-      → j.noted old ≡ known_lines over_files log [] → j.written old ≡ before → j.written new ≡ after
+  pub lasts : still ≡ fixed → (HasCleanDisk (state g log) → started ≡ state_after (steps fixed) first (lines_of g log))
+      → (HasCleanDisk (state g log) → (held : List (List ℕ)) × Finds image held × IsTakenOver identity held (lines_of g log))
+      → j.noted old ≡ known_lines g log [] → j.written old ≡ before → j.written new ≡ after
       → KeepsAhead j keeps (replies still) started given old new last
       → (found : List (List ℕ)) → j.may_hold new found
       → Lasts (steps fixed) (replies fixed) keeps image identity first last given before after found
   lasts same replayed held knew wrote writes kept found may =
       let keep = subst (λ f. KeepsAhead j keeps (replies f) started given old new last) same kept in
       let ahead = keep.ahead found may in
-      let noted = lines_of over_files log in
+      let noted = lines_of g log in
       let more = history_of keeps ahead.front in
-      let is = grown (file_state log).is_open noted found more (subst (λ known. Grows known (Some found) more) knew ahead.edits) in
-      let clean = clean_if_open log is.0 in
+      let is = grown (state g log).is_open noted found more (subst (λ known. Grows known (Some found) more) knew ahead.edits) in
+      let clean = clean_of g law log is.0 in
       let was = held clean in
       let whole : keep.replied ≡ ahead.front ++ ahead.back = sym ahead.whole in
       let cut = Serves-split (replies fixed) started last ahead.front ahead.back (subst (λ r. Serves (replies fixed) started r last) whole keep.served) in

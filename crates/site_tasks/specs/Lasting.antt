@@ -2,17 +2,11 @@
 use Rattle.std.specs.Prelude.{◌≡◌, ℕ, Bool, List, ◌++◌, Option, IfSome}
 use Rattle.byte_io.specs.Known.{AppendsFront}
 use Rattle.command_log.specs.Found.{Finds}
-use Rattle.command_log.specs.Lines.{IsOpen, lines_of}
 use Rattle.site_replies.specs.Reply.{ReplyData}
 use Rattle.site_serving.specs.Lines.{lines_of as input_lines}
 use Rattle.site_serving.specs.Served.{Replied, Serves, history_of, lines_in, state_after, written_for}
 use Rattle.site_start.specs.Started.{IsTakenOver}
-use Rattle.sqlite.specs.Files.{file_state, over_files}
-use Rattle.sqlite.specs.Held.{Held}
 use Rattle.sqlite.specs.Recovery.{Image}
-use Rattle.sqlite.specs.State.{HasCleanDisk}
-use Rattle.sqlite_disk.specs.declared.Disk.{Ghosts}
-use Rattle.sqlite_store.specs.declared.store.FileStore.{FileStore}
 
 -- What lines mean: `steps` if nothing refuses them, and `replies` which reply and which state may come of one; `keeps` says
 -- which lines the history has.
@@ -40,9 +34,3 @@ module _ {X : Type 0} (steps : X → List ℕ → X × ReplyData) (replies : X �
     pub is_found : found ≡ noted ++ history_of keeps front
     -- and what was sent to the client is the beginning of the replies to these very lines
     pub was_sent : AppendsFront before after (written_for front)
-
--- An open of files with this image made the log: unless the disk has returned what was not written, it is open, and has the
--- lines that the files held.
-pub record IsOpenedFrom {D : Type 0} {g : Ghosts D} (image : Image) (log : Held (FileStore D g)) : Type 0 where
-  pub opened : HasCleanDisk (file_state log) → IsOpen over_files log
-  pub finds : IsOpen over_files log → Finds image (lines_of over_files log)

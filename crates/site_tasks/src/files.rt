@@ -1,9 +1,11 @@
 //! Serving an input into the log in a file.
 ghost use Rattle.std.specs.Prelude.{◌≡◌, ℕ, List, false, IfOk, IfErr, IfSome};
-ghost use Rattle.command_log.specs.Found.{FindsOnlySuch};
-ghost use Rattle.site_start.specs.Started.{IsLeftBy};
-ghost use Rattle.site_tasks.specs.Lasting.{IsOpenedFrom, Lasts};
+ghost use Rattle.command_log.specs.Found.{FindsOnlySuch, store_of};
+ghost use Rattle.command_log.specs.Lines.{MayHold};
+ghost use Rattle.site_start.specs.Started.{IsLeftBy, IsOpenedFrom};
+ghost use Rattle.site_tasks.specs.Lasting.{Lasts};
 ghost use Rattle.sqlite.specs.FileStore.{view};
+ghost use Rattle.sqlite.specs.Files.{over_files};
 ghost use Rattle.sqlite.specs.Recovery.{Image};
 ghost use Rattle.sqlite.specs.View.{IsClean};
 ghost use Rattle.sqlite.specs.WalFiles.{image_at};
@@ -11,7 +13,7 @@ ghost use Rattle.sqlite.specs.WalFiles.{image_at};
 use crate::file_ids::WhileThere;
 use crate::status::{failed, failed_at, not_started};
 use byte_io::Source;
-use command_log::{CommandLog, LogFault};
+use command_log::{CommandLog, LogFault, LogFiles};
 use page_trace::Watch;
 use site_journal::{LogJournal, Steady};
 use site_replies::ServeFault;
@@ -19,6 +21,7 @@ use site_serving::{Commands, serve};
 use site_start::{FileLog, StartFault, open_site, start};
 use sqlite::{FileFrom, FileStore, Start, Wary};
 use sqlite_disk::Disk;
+use sqlite_trees::store::Alter;
 use std::alloc::Global;
 use std::fmt::Display;
 use std::process::ExitCode;
@@ -34,41 +37,47 @@ pub struct Served<D: Disk, W> {
     /// Why edits could not be committed, if that ended it.
     pub fault: Option<LogFault>,
     /// The files, in which nothing is under way.
-    pub files: FileStore<D>,
+    pub files: LogFiles<D>,
     /// The end that the replies were written to.
     pub sink: W,
 }
 
+/// What is left of a log and of the client's end after an input was served into the log.
+struct Ran<S: Alter, W> {
+    result: Result<(), ServeFault>,
+    fault: Option<LogFault>,
+    log: CommandLog<S>,
+    sink: W,
+}
+
 /// Makes the site anew by a log, whose first line has to be the identity, and serves the input into
-/// that log: edits are committed before the replies to them are written.
-///
-/// On `Err` no line of the input was read. However serving ends, the log's files come back.
-pub fn serve_log<C: Commands, D: Disk + Drop, R: Source, W: Steady + Drop, V: Watch>(
+/// that log, as [`serve_log`] does. It is over any store, since a call of such a function over the
+/// store of files takes the prover long: so there is one.
+fn run_log<C: Commands, S: Alter, R: Source, W: Steady + Drop, V: Watch>(
     alloc: Global,
-    mut log: CommandLog<FileStore<D>>,
+    mut log: CommandLog<S>,
     site: &mut C,
     identity: &str,
     reader: &mut R,
     sink: W,
     watch: &mut V,
-) -> Result<Served<D, W>, (StartFault, FileStore<D>)>
+) -> Result<Ran<S, W>, (StartFault, CommandLog<S>)>
     requires reader { R.has_failed reader.old ≡ false }
     requires sink { W.has_failed sink ≡ false }
 
-    // Whatever a crash leaves of the files, an open of them finds the lines that they held and then
-    // the edits done at some first lines of the input; and what was written to the sink is the
-    // beginning of the replies to exactly these lines.
-    ensures lasts { (image : Image) → IsOpenedFrom image log
-        → IfOk result (λ served. IsClean (view served.files)
-        → FindsOnlySuch served.files (Lasts (C.steps (C.fixed site.old))
-        (C.replies (C.fixed site.old)) C.keeps image identity.now
-        (C.state site.old) (C.state site.new) (R.remaining reader.old)
-        (W.contents sink) (W.contents served.sink))) }
+    // What a crash leaves of the log are the lines that the files held and then the edits done at
+    // some first lines of the input; and what was written to the sink is the beginning of the replies
+    // to exactly these lines.
+    ensures lasts { (image : Image) → IsOpenedFrom S.Store image log
+        → IfOk result (λ ran. (lines : List (List ℕ)) → MayHold S.Store ran.log lines
+        → Lasts (C.steps (C.fixed site.old)) (C.replies (C.fixed site.old)) C.keeps
+        image identity.now (C.state site.old) (C.state site.new) (R.remaining reader.old)
+        (W.contents sink) (W.contents ran.sink) lines) }
 
-    // If the log was not taken over, it finds the lines that they held, or the identity alone.
-    ensures refused { (image : Image) → IsOpenedFrom image log
-        → IfErr result (λ e. IsClean (view e.1)
-        → FindsOnlySuch e.1 (IsLeftBy image identity.now)) }
+    // If the log was not taken over, they are the lines that the files held, or the identity alone.
+    ensures refused { (image : Image) → IsOpenedFrom S.Store image log
+        → IfErr result (λ e. (lines : List (List ℕ)) → MayHold S.Store e.1 lines
+        → IsLeftBy image identity.now lines) }
 {
     log.law_left_by_a_crash();
     match start(alloc, site, &mut log, identity) {
@@ -77,6 +86,56 @@ pub fn serve_log<C: Commands, D: Disk + Drop, R: Source, W: Steady + Drop, V: Wa
             let result = serve(alloc, site, reader, &mut journal, watch);
             let fault = journal.fault();
             let (log, sink) = journal.into_parts();
+            Ok(Ran {
+                result,
+                fault,
+                log,
+                sink,
+            })
+        }
+        Err(fault) => Err((fault, log)),
+    }
+}
+
+/// Makes the site anew by a log, whose first line has to be the identity, and serves the input into
+/// that log: edits are committed before the replies to them are written.
+///
+/// On `Err` no line of the input was read. However serving ends, the log's files come back.
+pub fn serve_log<C: Commands, D: Disk + Drop, R: Source, W: Steady + Drop, V: Watch>(
+    alloc: Global,
+    log: CommandLog<FileStore<D>>,
+    site: &mut C,
+    identity: &str,
+    reader: &mut R,
+    sink: W,
+    watch: &mut V,
+) -> Result<Served<D, W>, (StartFault, LogFiles<D>)>
+    requires reader { R.has_failed reader.old ≡ false }
+    requires sink { W.has_failed sink ≡ false }
+
+    // Whatever a crash leaves of the files, an open of them finds the lines that they held and then
+    // the edits done at some first lines of the input; and what was written to the sink is the
+    // beginning of the replies to exactly these lines.
+    ensures lasts { (image : Image) → IsOpenedFrom over_files image log
+        → IfOk result (λ served. IsClean (view (store_of served.files))
+        → FindsOnlySuch (store_of served.files) (Lasts (C.steps (C.fixed site.old))
+        (C.replies (C.fixed site.old)) C.keeps image identity.now
+        (C.state site.old) (C.state site.new) (R.remaining reader.old)
+        (W.contents sink) (W.contents served.sink))) }
+
+    // If the log was not taken over, it finds the lines that they held, or the identity alone.
+    ensures refused { (image : Image) → IsOpenedFrom over_files image log
+        → IfErr result (λ e. IsClean (view (store_of e.1))
+        → FindsOnlySuch (store_of e.1) (IsLeftBy image identity.now)) }
+{
+    match run_log(alloc, log, site, identity, reader, sink, watch) {
+        Ok(ran) => {
+            let Ran {
+                result,
+                fault,
+                log,
+                sink,
+            } = ran;
             Ok(Served {
                 result,
                 fault,
@@ -84,7 +143,7 @@ pub fn serve_log<C: Commands, D: Disk + Drop, R: Source, W: Steady + Drop, V: Wa
                 sink,
             })
         }
-        Err(fault) => Err((fault, log.into_store())),
+        Err((fault, log)) => Err((fault, log.into_store())),
     }
 }
 
@@ -100,22 +159,22 @@ pub fn serve_file<C: Commands, S: Start, R: Source, W: Steady + Drop, V: Watch>(
     reader: &mut R,
     sink: W,
     watch: &mut V,
-) -> Result<Served<FileFrom<S>, W>, (StartFault, Option<FileStore<FileFrom<S>>>)>
+) -> Result<Served<FileFrom<S>, W>, (StartFault, Option<LogFiles<FileFrom<S>>>)>
     requires reader { R.has_failed reader.old ≡ false }
     requires sink { W.has_failed sink ≡ false }
 
     // Whatever a crash leaves of the files, an open of them finds the lines that they held and then
     // the edits done at some first lines of the input; and what was written to the sink is the
     // beginning of the replies to exactly these lines.
-    ensures lasts { IfOk result (λ served. IsClean (view served.files)
-        → FindsOnlySuch served.files (Lasts (C.steps (C.fixed site.old))
+    ensures lasts { IfOk result (λ served. IsClean (view (store_of served.files))
+        → FindsOnlySuch (store_of served.files) (Lasts (C.steps (C.fixed site.old))
         (C.replies (C.fixed site.old)) C.keeps (image_at S.Start) identity.now
         (C.state site.old) (C.state site.new) (R.remaining reader.old)
         (W.contents sink) (W.contents served.sink))) }
 
     // If the log was not taken over, it finds the lines that they held, or the identity alone.
-    ensures refused { IfErr result (λ e. IfSome e.1 (λ files. IsClean (view files)
-        → FindsOnlySuch files (IsLeftBy (image_at S.Start) identity.now))) }
+    ensures refused { IfErr result (λ e. IfSome e.1 (λ files. IsClean (view (store_of files))
+        → FindsOnlySuch (store_of files) (IsLeftBy (image_at S.Start) identity.now))) }
 {
     let log = match CommandLog::open(rt, path, files) {
         Ok(log) => log,
@@ -172,7 +231,10 @@ pub fn opened<C: Commands>(
 ) -> Result<FileLog<Wary>, ExitCode> {
     match open_site(rt, path, Wary, site, identity) {
         Ok(log) => Ok(log),
-        Err((fault, _log)) => Err(not_started(rt, path, fault)),
+        Err((fault, log)) => {
+            CommandLog::end(log);
+            Err(not_started(rt, path, fault))
+        }
     }
 }
 
@@ -182,7 +244,7 @@ pub fn opened<C: Commands>(
 pub fn ended<D: Disk + Drop, E: Display + Drop>(
     rt: &HostRuntime,
     path: &str,
-    mut files: FileStore<D>,
+    mut files: LogFiles<D>,
     is_gone: bool,
     served: Result<(), E>,
     fault: Option<LogFault>,

@@ -7,7 +7,7 @@ use Rattle.http_streams.proofs.serving.serve_frames.Goals as goal
 pub loop-init : goal.loop-init
 loop-init g c = record {
   serving = rw c.new-held.ensures.items (serving_none g.S.Service.answers g.S.Commits.settles c.args.config c.args.service.now
-      (g.R.Read.remaining c.args.reader.now) (g.W.Sink.contents c.args.writer.now) c.new-table.result c.new-table.ensures.none c.new-table.ensures.config);
+      (g.R.Read.remaining c.args.reader.now) (g.W.Sink.contents c.args.writer.now) c.new-table.result c.new-table.ensures.none c.new-table.ensures.few c.new-table.ensures.last c.new-table.ensures.config);
   out = c.new-out.ensures.items;
   sound = c.requires.sound;
   writes = c.requires.writer;

@@ -68,11 +68,15 @@ pub returns-clause-http : goal.returns-clause-http
 returns-clause-http c = c.is_given-http.ensures
     ∙ ap is_given (c.get_str-6.ensures ∙ first_value-rows (found_of c.in_ok-matches.matches) (codes "http") ∙ ap (first_of (codes "http")) (rows_are c))
 
+pub returns-clause-framed : goal.returns-clause-framed
+returns-clause-framed c = c.is_given-framed.ensures
+    ∙ ap is_given (c.get_str-7.ensures ∙ first_value-rows (found_of c.in_ok-matches.matches) (codes "framed") ∙ ap (first_of (codes "framed")) (rows_are c))
+
 pub returns-clause-token_file : goal.returns-clause-token_file
 returns-clause-token_file c = c.in_ok-token_file.ensures
-    ∙ (c.get_str-8.ensures ∙ first_value-rows (found_of c.in_ok-matches.matches) (codes "token-file")
+    ∙ (c.get_str-9.ensures ∙ first_value-rows (found_of c.in_ok-matches.matches) (codes "token-file")
     ∙ ap (first_of (codes "token-file")) (rows_are c))
 
 pub returns-clause-database : goal.returns-clause-database
 returns-clause-database c = c.in_ok-database.ensures
-    ∙ (c.get_str-7.ensures ∙ first_value-rows (found_of c.in_ok-matches.matches) (codes "database") ∙ ap (first_of (codes "database")) (rows_are c))
+    ∙ (c.get_str-8.ensures ∙ first_value-rows (found_of c.in_ok-matches.matches) (codes "database") ∙ ap (first_of (codes "database")) (rows_are c))

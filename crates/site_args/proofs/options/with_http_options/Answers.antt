@@ -7,5 +7,7 @@ pub returns : goal.returns
 returns c =
     let app = app_of c.args.command in
     let first : app_of c.in_ok-arg.field-0 ≡ with_rule app (rule_of c.http_flag.result) = c.in_ok-arg.ensures.shape c.http_flag.ensures.local in
-    IfOk-weaker c.arg-2.result _ _
-    (λ command added. added.shape c.token_file_option.ensures.local ∙ ap₂ with_rule (first ∙ ap (with_rule app) c.http_flag.ensures.rule) c.token_file_option.ensures.rule) c.arg-2.ensures
+    let second = c.in_ok-arg-2.ensures.shape c.framed_flag.ensures.local ∙ ap₂ with_rule (first ∙ ap (with_rule app) c.http_flag.ensures.rule)
+    c.framed_flag.ensures.rule in
+    IfOk-weaker c.arg-3.result _ _ (λ command added. added.shape c.token_file_option.ensures.local ∙ ap₂ with_rule second c.token_file_option.ensures.rule)
+    c.arg-3.ensures

@@ -38,6 +38,8 @@ returns c = record {
   http = computed.http;
   token_file = computed.token_file;
   served_as_lines = computed.served_as_lines;
+  framed = computed.framed;
+  one_client = computed.one_client;
   no_token = computed.no_token;
   help = computed.help;
 }

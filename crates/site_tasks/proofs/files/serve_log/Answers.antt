@@ -1,33 +1,12 @@
-use Rattle.std.proofs.Common.{sym}
 use Rattle.std.proofs.Math.Logic.{∥∥₁_map}
-use Rattle.sqlite.specs.Files.{over_files}
-use Rattle.command_log.specs.Lines.{lines_of}
-use Rattle.site_start.proofs.Leaving.{left_by_start}
-use Rattle.site_start.proofs.Replaying.{clean_before}
-use Rattle.site_tasks.proofs.Lasting.{lasts}
 use Rattle.site_tasks.proofs.files.serve_log.Goals as goal
 
 pub returns-in-Ok-clause-lasts : goal.returns-in-Ok-clause-lasts
 returns-in-Ok-clause-lasts g c =
-    let commands = g.C.Commands in
-    let log = c.args.log in
-    let started = c.start.new.log in
-    let did = c.in-Ok.ensures in
     λ image from clean left may lines finds.
-    ∥∥₁_map (c.into_store.ensures.found clean left may lines finds)
-    (λ held.
-    lasts _ commands.steps commands.replies commands.keeps started image c.args.identity.now
-    (commands.fixed c.args.site.now) (commands.fixed c.start.new.site) (commands.state c.args.site.now) (commands.state c.start.new.site)
-    (commands.state c.serve-result.new.commands) (g.R.Source.remaining c.args.reader.now) (g.W.Sink.contents c.args.sink)
-    (g.W.Sink.contents c.into_parts-log.result.1) c.new-journal.result c.serve-result.new.writer
-    did.fixed did.replayed
-    (λ ok. let up = from.opened (clean_before over_files log started _ c.start.ensures.survives ok) in (lines_of over_files log, from.finds up, did.lines ok))
-    c.new-journal.ensures.noted c.new-journal.ensures.written
-    (sym c.into_parts-log.ensures.written) (c.serve-result.ensures.ahead (c.new-journal.ensures.settled did.opened)) lines
-    (c.into_parts-log.ensures.held lines held))
+    ∥∥₁_map (c.into_store.ensures.found clean left may lines finds) (c.in-Ok.ensures.lasts image from lines)
 
 pub returns-in-Err-clause-refused : goal.returns-in-Err-clause-refused
 returns-in-Err-clause-refused g c =
     λ image from clean left may lines finds.
-    ∥∥₁_map (c.into_store-in-Err.ensures.found clean left may lines finds)
-    (left_by_start image c.args.identity.now c.args.log c.start.new.log from.opened c.law_left_by_a_crash.ensures.holds c.start.ensures.survives from.finds lines)
+    ∥∥₁_map (c.into_store-in-Err.ensures.found clean left may lines finds) (c.in-Err.ensures.refused image from lines)

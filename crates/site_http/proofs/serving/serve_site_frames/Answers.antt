@@ -1,0 +1,22 @@
+use Rattle.std.proofs.Common.{refl, subst}
+use Rattle.http_streams.specs.Deeds.{rounds_of}
+use Rattle.site_http.proofs.Calls.{rounds_hold}
+use Rattle.site_http.proofs.serving.serve_site_frames.Goals as goal
+
+pub returns : goal.returns
+returns g c = record {
+  ahead = λ settled none sound held may.
+      let s = c.serve_frames-served.ensures.served in
+      let after = c.serve_frames-served.new.service in (
+        s.deeds,
+        s.stretch,
+        s.rest,
+        after.pages,
+        s.consumed,
+        s.read,
+        s.written,
+        s.known,
+        rounds_hold g.C.Commands g.J.Journal _ refl refl refl refl _ after (rounds_of s.deeds) held s.served s.stops
+            (record { settled = settled; none = none; sound = sound }) (subst (λ x. g.J.Journal.may_hold x held) c.into_journal.ensures may),
+      );
+}
