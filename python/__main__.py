@@ -13,6 +13,7 @@ COMMANDS = {
     "bench/gate/run": "benches.gate",
     "bench/hooks/run": "benches.hooks",
     "bench/hostile/run": "benches.hostile",
+    "bench/http/run": "benches.http",
     "bench/import/run": "benches.imports",
     "bench/instructions/run": "benches.instructions",
     "bench/queries/run": "benches.queries",
@@ -32,6 +33,7 @@ COMMANDS = {
     "examples/publish": "commands.publish",
     "examples/refusals": "commands.refusals",
     "examples/salvage": "commands.salvage",
+    "examples/serve": "commands.serve",
     "examples/snippets": "commands.snippets",
     "examples/step": "commands.step",
     "examples/undo": "commands.undo",
@@ -52,6 +54,7 @@ COMMANDS = {
     "tests/links/run": "checks.links.run",
     "tests/memory/run": "checks.memory",
     "tests/press/run": "checks.press",
+    "tests/pump/run": "checks.pump.run",
     "tests/quick": "checks.quick",
     "tests/reach/run": "checks.reach",
     "tests/refusals/run": "checks.refusals",
@@ -71,6 +74,7 @@ COMMANDS = {
 PARTS = {
     "bench/cluster/asking": "benches.asking",
     "tests/database/disks": "checks.database.disks",
+    "tests/pump/strict": "checks.pump.strict",
 }
 
 if __name__ == "__main__":

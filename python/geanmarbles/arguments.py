@@ -3,6 +3,7 @@
 import argparse
 import os
 import sys
+from collections.abc import Callable
 from typing import Any, NoReturn
 
 
@@ -16,3 +17,14 @@ class Parser(argparse.ArgumentParser):
         self.print_usage(sys.stderr)
         name = self.prog.replace(sys.argv[0], os.path.basename(sys.argv[0]), 1)
         self.exit(2, f"{name}: error: {message}\n")
+
+
+def count_in(first: int, last: int) -> Callable[[str], int]:
+    """A reader of whole numbers in a range."""
+
+    def read(text: str) -> int:
+        if not text.isascii() or not text.isdigit() or not first <= int(text) <= last:
+            raise argparse.ArgumentTypeError(f"a number from {first} to {last}, not {text}")
+        return int(text)
+
+    return read

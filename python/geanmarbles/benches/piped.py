@@ -18,7 +18,7 @@ from statistics import median
 from typing import NamedTuple, NoReturn
 
 from geanmarbles.benches.measured import difference
-from geanmarbles.client.exchanges import Exchange
+from geanmarbles.client.exchanges import Exchange, apart
 from geanmarbles.client.program import Ended, NoReply, Program, Reply, pipe
 
 # A batch lasts for BATCH seconds. A program is asked for SECONDS in all, and for at least FEWEST batches, but not for
@@ -31,6 +31,10 @@ class Request(NamedTuple):
 
     line: bytes
     reply: bytes
+
+    def numbered(self, number: int) -> "Request":
+        """The same by a line that differs from those of other numbers."""
+        return Request(apart(self.line.decode().removesuffix("\n"), number).encode() + b"\n", self.reply)
 
 
 class Figure(NamedTuple):
@@ -52,6 +56,7 @@ class Piped(Program):
         self.name = " ".join(words)
         self.given, self.taken = self.input.fileno(), pipe(self.child.stdout).fileno()
         self.room = bytearray()
+        self.count = 0
 
     def fail(self, why: str) -> NoReturn:
         sys.exit(f"{self.name}: {why}")
@@ -108,22 +113,25 @@ class Piped(Program):
             self.fail(f"its reply to {request.line!r} isn't the first one")
         return seconds
 
-    def batch(self, request: Request, before: Request | None = None) -> Figure:
-        """The mean of a batch of requests. What is asked before each counts for the processor alone."""
+    def batch(self, request: Request, before: Request | None = None, again: bool = False) -> Figure:
+        """The mean of a batch of requests, each by a line of its own unless `again`. What is asked before each counts
+        for the processor alone."""
         processor, clock, count = self.processor(), 0.0, 0
         while clock < BATCH:
             if before:
                 self.seconds(before)
-            clock += self.seconds(request)
+            self.count += 1
+            clock += self.seconds(request if again else request.numbered(self.count))
             count += 1
         return Figure(clock / count, (self.processor() - processor) / count)
 
 
 class Asked:
-    """A program that is asked for a page, perhaps after a change each time, and what its batches took."""
+    """A program that is asked for a page, perhaps after a change each time, or by the same line again, and what its
+    batches took."""
 
-    def __init__(self, program: Piped, page: Request, change: Request | None = None) -> None:
-        self.program, self.page, self.change = program, page, change
+    def __init__(self, program: Piped, page: Request, change: Request | None = None, again: bool = False) -> None:
+        self.program, self.page, self.change, self.again = program, page, change, again
         self.batches: list[Figure] = []
         # What a change alone takes of a processor, after each batch.
         self.changing: list[float] = []
@@ -131,8 +139,8 @@ class Asked:
 
     def turn(self) -> None:
         begin = time.perf_counter()
-        self.batches.append(self.program.batch(self.page, self.change))
-        self.changing.append(self.program.batch(self.change).processor if self.change else 0.0)
+        self.batches.append(self.program.batch(self.page, self.change, self.again))
+        self.changing.append(self.program.batch(self.change, again=True).processor if self.change else 0.0)
         self.spent += time.perf_counter() - begin
 
     def is_done(self, seconds: float) -> bool:

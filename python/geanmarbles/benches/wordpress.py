@@ -11,7 +11,8 @@ script installs nothing:
 
 All are asked by the same lines of JSON over a pipe, in turn: the program; PHP without its opcode cache, with opcache
 and its tracing JIT, and with a page cache; and a loop that makes no page, so that the pipe's share is known. Pages are
-timed by the clock, from the line to the last byte of the reply, and the last table has what each takes of a processor.
+timed by the clock, from the line to the last byte of the reply, each by a line of its own; a table has what each takes
+of a processor, and the last one pages that the same line asks for again.
 If the pages differ, the row says so. The passes over 1 to 1,000 callbacks are timed apart: those of crates/test_bench,
 if it is built, as bench/hooks does, and a loop within PHP.
 
@@ -149,6 +150,26 @@ class Comparison:
             self.processor.append((page.title, [it.processor for it in figures]))
         return milliseconds
 
+    def asked_again(self, cases: Iterable[Page]) -> None:
+        """Prints a row for each case that isn't changed: what the same line takes that came before."""
+        print_head("A page, by the same line again", "Here", "Page cache", "Pipe alone", "than a page cache")
+        for page in cases:
+            if page.changed:
+                continue
+            asked = get(page.path).lines.encode()
+            with contextlib.ExitStack() as programs, tempfile.NamedTemporaryFile() as file:
+                turns = []
+                for words in (self.words[0], self.words[-1]):
+                    program = programs.enter_context(Piped(words))
+                    program.make(page.site)
+                    turns.append(Asked(program, program.request(asked), again=True))
+                file.write(turns[0].page.reply)
+                file.flush()
+                pipe = programs.enter_context(Piped([*PLAIN, str(HERE / "pipe.php"), file.name]))
+                turns.append(Asked(pipe, pipe.request(asked), again=True))
+                clock = [it.clock for it in figures_of(turns, self.seconds)]
+            print(f"| {' | '.join([page.title, *map(readable, clock), ratio(clock[1], clock[0])])} |", flush=True)
+
     def print_processor(self) -> None:
         print_head("A page, by the processor", *NAMES, *RATIOS)
         for title, seconds in self.processor:
@@ -247,6 +268,7 @@ def compare(bench: Bench, wordpress: Path) -> None:
     else:
         print(f"\n{PASSES.name} isn't built (`rt run` in its folder), so passes aren't timed.")
     compared.print_processor()
+    compared.asked_again([*single_posts(), *lists_of_posts()])
     draw(bench.svg, panels)
 
 

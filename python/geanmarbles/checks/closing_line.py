@@ -19,21 +19,25 @@ def pytest_pycollect_makeitem(collector: Any, name: str, obj: object) -> Any:
 
 
 def pytest_runtest_call(item: Any) -> None:
-    """Has a check that can't be made here count as skipped."""
+    """Has a check that can't be made here count as skipped, and one that is many count as these."""
     check = item.obj
 
     def run() -> None:
         try:
-            check()
+            found = check()
         except Skipped as why:
             import_module("pytest").skip(str(why))
+        if isinstance(found, Counted):
+            item.user_properties += found._asdict().items()
+            assert not found.failed, str(found)
 
     item.obj = run
 
 
 def pytest_runtest_logreport(report: Any) -> None:
     if report.when == "call" or report.outcome != "passed":
-        COUNTS[report.outcome] += 1
+        for outcome, count in report.user_properties or [(report.outcome, 1)]:
+            COUNTS[outcome] += count
 
 
 def pytest_collectreport(report: Any) -> None:

@@ -10,7 +10,8 @@ is named, so that it can be recorded. Without valgrind nothing is counted, which
 
 Among the requests are a site in a file: edits of which many come in one read and so in one commit, as many as fill a
 read, and edits that a start carries out; pages that are watched by a log, also by one that can't be written, and a page
-by single turns; large pages and texts; every plugin of `press`; and a site of 10,000 options.
+by single turns; large pages and texts; every plugin of `press`; and a site of 10,000 options. Lines that ask for one
+page differ, so that each is printed, but for two requests whose pages are kept.
 
 A snippet of the program `press`, which is crates/press/out/press, is counted beside a bundled plugin that prints the
 same: it may take twice as many instructions.
@@ -89,9 +90,11 @@ class Request(NamedTuple):
     errors: str = os.devnull
     # Whether the site is in a file; or the edits are there already, and the start that carries them out is counted.
     place: Place = Place.MEMORY
+    # Whether the same lines come again, so that pages are those that were kept.
+    again: bool = False
 
     def times(self, times: int) -> Exchange:
-        return self.before + self.counted * times
+        return self.before + (self.counted.again(times) if self.again else self.counted * times)
 
 
 class Cost(NamedTuple):
@@ -109,18 +112,21 @@ def posts(count: int, content: str = "", title: str = "", shows: str = "") -> tu
 def pages_in_turn() -> tuple[Exchange, Exchange]:
     """A site of three posts, and pages of them: with two texts kept, two of eight are scanned."""
     posts = joined(put(it, "[b]x[/b]" * 200) for it in (1, 2, 3))
-    page = {it: get(f"/?p={it}", shown("<b>x</b>" * 200)) for it in (1, 2, 3)}
-    return activate("bold") + posts, joined(page[it] for it in (1, 1, 2, 1, 2, 1, 3, 1))
+    body = shown("<b>x</b>" * 200)
+    pages = (get(f"/?p={it}", body, n=at) for at, it in enumerate((1, 1, 2, 1, 2, 1, 3, 1)))
+    return activate("bold") + posts, joined(pages)
 
 
 def requests() -> Iterator[Request]:
     nothing = Exchange()
     yield Request("the front of no post", nothing, get(body=NOTHING))
     yield Request("one empty post", *posts(1))
+    yield Request("one empty post, asked by the same line again", *posts(1), again=True)
     yield Request("one empty post, five plugins active", FIVE + put(1), get(body=OF_FIVE))
     yield Request("20 empty posts", *posts(20))
     site, front = posts(10, ARTICLE, shows=BOLD_ARTICLE)
     yield Request("ten posts of 3 KB, 14 shortcodes each", activate("bold") + site, front)
+    yield Request("the same ten, asked by the same line again", activate("bold") + site, front, again=True)
     site, front = posts(1, "[b]x[/b]" * 200, shows="<b>x</b>" * 200)
     yield Request("200 shortcodes", activate("bold") + site, front)
     site, front = posts(1, "[b]x[/b]" * 200, shows="<b>x</b>" * 200)

@@ -2,6 +2,7 @@
 
     tests/memory/run [--lines FILE --replies FILE] [PROGRAM]
     tests/memory/run --database [PROGRAM]
+    tests/memory/run --http [PROGRAM]
 
 PROGRAM is crates/site/out/site of this repository if it is left out. It reads script.jsonl, whose replies are
 script.out, or the lines and replies of other files, and refuse.c, loaded before the C library, refuses one allocation
@@ -29,6 +30,16 @@ the file is judged too. Besides a refused line and nothing, what may come is
 Each of these must come of some allocation. `--export` and `--compact` of the same file are either whole or refused as a
 start is, and then the history is as it was and nothing was printed.
 
+With `--http` the program serves requests so. What may come is
+
+- the end `site: out of memory`, at the start or as the next requests are read;
+- one response that is a 503, or of commands has `refused 11 OutOfMemory` for a line; those before it are as without the
+  refusal, and so are those after it, or if it is an edit, as without it;
+- the end `site: other error`, as no copy of an edit could be kept: no response tells of that edit;
+- the end of the connection, with status 0, as memory ran out for a request or a response that is under way.
+
+What was written before an end is the first responses, as they are without the refusal.
+
 refuse.c is compiled by the toolchain's own compiler. The last line is 'N passed, M failed', over the lines of the
 script and what else must come. The exit status is 0 if nothing failed.
 """
@@ -46,6 +57,8 @@ from typing import Any, NamedTuple
 
 from geanmarbles.checks.database.clients import done, get, is_edit, joined, line_of, over, put, replies, run
 from geanmarbles.checks.database.files import check_equal, copied, history, summary
+from geanmarbles.checks.memory_over_http import http_checks
+from geanmarbles.checks.over_http import Program
 from geanmarbles.checks.programs import compiled, missing, parser_of
 from geanmarbles.client.replies import Wrong, shown, whole_replies
 from geanmarbles.paths import TESTS
@@ -253,14 +266,12 @@ class FileRuns:
         return Came("refused", place)
 
     def printed(self, number: int) -> Came:
-        """What comes of a refused allocation as the file is exported: all its lines or none. After them it may be what
-        is said of the file that memory runs out for."""
+        """What comes of a refused allocation as the file is exported: all its lines, and what the file has, or none of
+        them."""
         with tempfile.TemporaryDirectory() as folder:
             file = copied(self.file, folder)
             ran = self.run(file, b"", "--export", REFUSE_AT=str(number))
             check_equal(history(file), self.before)
-            if (ran.returncode, ran.stdout, ran.stderr) == (1, self.export, f"site: {file}: out of memory\n".encode()):
-                return Came("start")
             return self.made(file, ran, self.export, f"site: {file}: {summary(self.before)}\n".encode())
 
     def compacted(self, number: int) -> Came:
@@ -328,7 +339,19 @@ def file_checks(program: str, folder: Path) -> Iterator[tuple[str, bool]]:
 def tried_over_a_file(program: str) -> tuple[int, int]:
     """Refuses each allocation of runs over a file once, and says what came and what never did."""
     with tempfile.TemporaryDirectory() as name:
-        checks = list(file_checks(program, Path(name)))
+        return counted(file_checks(program, Path(name)))
+
+
+def tried_over_http(program: str) -> tuple[int, int]:
+    """Refuses each allocation of a run over HTTP once, and says what came and what never did."""
+    with tempfile.TemporaryDirectory() as name:
+        folder = Path(name)
+        return counted(http_checks(Program(program, folder), compiled(HERE / "refuse.c", folder)))
+
+
+def counted(of: Iterable[tuple[str, bool]]) -> tuple[int, int]:
+    """How many of some checks hold, and how many don't; each is said."""
+    checks = list(of)
     for what, holds in checks:
         print(f"{what}{'' if holds else ': FAILED, it never came'}")
     passed = sum(holds for _, holds in checks)
@@ -341,6 +364,7 @@ def main() -> int:
     parser.add_argument("--lines", default=LINES, help="the lines to read", **how)
     parser.add_argument("--replies", default=REPLIES, help="the replies to them", **how)
     parser.add_argument("--database", action="store_true", help="serve a site in a file, and judge what it then holds")
+    parser.add_argument("--http", action="store_true", help="serve requests of HTTP")
     options = parser.parse_args()
     program = options.program
     if missing(program):
@@ -348,7 +372,9 @@ def main() -> int:
         passed, failed = 0, 1
     else:
         try:
-            if options.database:
+            if options.http:
+                passed, failed = tried_over_http(program)
+            elif options.database:
                 passed, failed = tried_over_a_file(program)
             else:
                 passed, failed = tried(program, options.lines, options.replies)

@@ -6,17 +6,22 @@ PROGRAM is crates/site/out/site of this repository if it is left out. What is sh
 
 - each exchange below: the bytes that are sent, and the whole of what comes back; the number that each tag begins with
   is drawn by chance at a start, and stands as START;
-- a stream of requests gets the same bytes however it is cut into writes;
+- a stream of requests gets the same bytes however it is cut into writes; so does one of 25,000 requests, each of which
+  is sent after the response to the one before;
+- the longest path and the longest body that are taken, all replies to such a body, a page of more than 65,536 bytes;
+- the number of a start differs each time, in every byte;
 - Python's own client reads what comes, also without a body (HEAD, 304), and a connection is used again;
 - a page that the client has isn't sent again until an edit is done;
-- a site in a file: an edit that a 200 tells of is there after a kill, at a start without HTTP too; a commit that fails
-  is told by no response, and ends the program by name;
-- arguments that don't go together, and a token that can't be read.
+- a site in a file: an edit that a 200 tells of is there after a kill, at a start without HTTP too; a commit that fails,
+  as the file is gone or can't grow, is told by no response, and ends the program by name;
+- a read or a write that fails ends the program with status 1;
+- arguments that don't go together, and a token that can't be read or isn't there.
 
 The last line is 'N passed, M failed'. The exit status is 0 if nothing failed.
 """
 
 import http.client
+import os
 import re
 import signal
 import socket
@@ -36,6 +41,16 @@ SECONDS = 60
 TOKEN = "a token"
 START = re.compile(rb'(?<=etag: ")\d+(?=-)')
 PUT = b'{"cmd":"put","title":"%s","date":"2024-05-01 10:00:00"}'
+# The longest path of a page and the longest body of a request, in bytes.
+MAX_PATH, MAX_BODY = 8_192, 1_048_576
+# How many requests come one after another on one connection, and how many starts are compared.
+REQUESTS, STARTS = 25_000, 8
+# Becomes the program, no file of which may have more than some 500 kB.
+FULL = "trap '' XFSZ; ulimit -f 1000; exec \"$@\""
+# A post whose page is longer than a frame, or than what a connection gathers before it writes.
+CONTENT = b"x" * 100_000
+LARGE = b'{"cmd":"put","title":"Large","content":"%s","date":"2024-05-01 10:00:00"}' % CONTENT
+LARGE_PAGE = b"<h2>Large</h2>" + CONTENT
 
 
 def same(got: object, wanted: object, what: str) -> None:
@@ -99,6 +114,12 @@ OPEN = [
         came("404 Not Found", body=NONE, kind="text/html"),
     ),
     Exchange("the target as a proxy has it", sent("GET", "http://other/?p=1"), page(RYE, 1)),
+    Exchange("the longest path", sent("GET", "/?p=1&".ljust(MAX_PATH, "a")), page(RYE, 1)),
+    Exchange(
+        "a path that is a byte too long",
+        sent("GET", "/?p=1&".ljust(MAX_PATH + 1, "a")),
+        came("414 URI Too Long", body=b"the path is too long\n"),
+    ),
     Exchange("a body that a GET doesn't need", sent("GET", "/", body=b"GET /?p=9 HTTP/1.1\r\n"), page(RYE, 1)),
     Exchange("a head alone", sent("HEAD", "/"), page(RYE, 1)[: -len(RYE)]),
     Exchange("no path", sent("OPTIONS", "*"), NO_PATH),
@@ -230,6 +251,44 @@ def cut(program: Program, size: int) -> None:
     same(running.returncode, 0, "the status")
 
 
+def one_by_one(program: Program) -> None:
+    """Many requests on one connection, each after the response to the one before."""
+    request, response = sent("HEAD", "/?p=9"), came("404 Not Found", body=NONE, kind="text/html")[: -len(NONE)]
+    with subprocess.Popen(program.words(), stdin=subprocess.PIPE, stdout=subprocess.PIPE) as running:
+        assert running.stdin and running.stdout
+        for number in range(REQUESTS):
+            running.stdin.write(request)
+            running.stdin.flush()
+            same(running.stdout.read(len(response)), response, f"response {number}")
+        running.stdin.close()
+        same((running.stdout.read(), running.wait(SECONDS)), (b"", 0), "the end")
+
+
+def largest(program: Program) -> None:
+    """The longest body is carried out and all of its lines are replied to; one that is a byte longer is refused."""
+    lines = [b"x" * 15] * (MAX_BODY // 16)
+    body = b"\n".join([*lines, b""])
+    same(program.run(edit(body)), came("200 OK", body=b"refused 1 BadCommand\n" * len(lines)), "the replies")
+    same(program.run(edit(body + b"x")), came("413 Payload Too Large", *CLOSED), "the refusal")
+
+
+def large_page(program: Program) -> None:
+    """A page of more than 65,536 bytes comes whole, again and again."""
+    got = program.run(edit(LARGE) + sent("GET", "/") * 3)
+    same(got, DONE + page(LARGE_PAGE, 1) * 3, "the responses")
+
+
+def starts(program: Program) -> None:
+    """Each start draws a number of its own for its tags, and every byte of it."""
+    drawn = []
+    for _ in range(STARTS):
+        ran = subprocess.run(program.words(), input=sent("GET", "/"), capture_output=True, timeout=SECONDS, check=False)
+        found = START.search(ran.stdout)
+        drawn.append(int(found[0]) if found else 0)
+    # (a byte is the same in eight numbers once in 2^56 times)
+    same([len({number >> at & 0xFF for number in drawn}) > 1 for at in range(0, 64, 8)], [True] * 8, f"in {drawn}")
+
+
 def ends_within(program: Program, of: Exchange, at: int) -> None:
     """An input that ends within a request."""
     same(program.run(of.request[:at]), MALFORMED, "the responses")
@@ -303,20 +362,56 @@ def no_commit(program: Program) -> None:
     same(running.returncode, 1, "the status")
 
 
+def full(program: Program) -> None:
+    """A commit that fails, as the file can't grow any more: what was told of is there, and the program says why."""
+    file = program.folder / "full.db"
+    words = ["sh", "-c", FULL, "sh", *program.words("--database", str(file))]
+    stream = b"".join(edit(PUT % (b"%d " % at).ljust(200, b"x")) for at in range(10_000))
+    ran = subprocess.run(words, input=stream, capture_output=True, timeout=SECONDS, check=False)
+    said = ran.stderr.decode()
+    must(ran.returncode == 1 and said.startswith("site: the database failed: "), f"status {ran.returncode}, {said!r}")
+    told, found = ran.stdout.count(b"HTTP/1.1 200 OK"), len(history(file)) - 1
+    must(0 < told <= found < 10_000, f"{told} edits were told of, and {found} are there")
+
+
+def failing_ends(program: Program) -> None:
+    """A write that fails, and a read that does, end the program with status 1 and a line that says so."""
+    with open("/dev/full", "wb") as device:
+        ran = subprocess.run(
+            program.words(), input=sent("GET", "/"), stdout=device, stderr=subprocess.PIPE, timeout=SECONDS, check=False
+        )
+    must(ran.returncode == 1 and told_once(ran.stderr), f"of a write: status {ran.returncode}, {ran.stderr!r}")
+    folder = os.open(program.folder, os.O_RDONLY)
+    try:
+        ran = subprocess.run(program.words(), stdin=folder, capture_output=True, timeout=SECONDS, check=False)
+    finally:
+        os.close(folder)
+    must(ran.returncode == 1 and told_once(ran.stderr), f"of a read: status {ran.returncode}, {ran.stderr!r}")
+
+
+def told_once(errors: bytes) -> bool:
+    """Whether the program has said in one line why it ends."""
+    return errors.startswith(b"site: ") and errors.count(b"\n") == 1
+
+
 # Arguments that are refused, with what the line on standard error has.
 REFUSED: list[tuple[Sequence[str], int, str]] = [
-    (["--token-file", "a"], 2, "'--token-file <FILE>' needs '--http'"),
+    (["--token-file", "a"], 2, "'--token-file <FILE>' need '--http'"),
+    (["--framed"], 2, "'--framed' and '--token-file <FILE>' need '--http'"),
+    (["--framed", "--http", "--framed"], 2, "--framed"),
     (["--http", "--database", "a", "--export"], 2, "'--http' excludes"),
     (["--http", "--database", "a", "--compact"], 2, "'--http' excludes"),
     (["--http", "--database", "a", "--check"], 2, "'--http' excludes"),
     (["--http", "--http"], 2, "--http"),
     (["--http", "--token-file", "/nowhere/at/all"], 1, "site: /nowhere/at/all: "),
     (["--http", "--token-file", "/dev/null"], 1, "site: /dev/null: "),
+    (["--http", "--token-file", "blank"], 1, "site: blank: "),
 ]
 
 
 def refused(program: Program, words: Sequence[str], status: int, line: str) -> None:
     """The program ends at once, and says why."""
+    (program.folder / "blank").write_text(" \n\t\n", encoding="utf-8")
     ran = subprocess.run([program.path, *words], input=b"", capture_output=True, cwd=program.folder, check=False)
     same((ran.returncode, ran.stdout), (status, b""), "the end")
     must(line in ran.stderr.decode(), f"it said {ran.stderr!r}")
@@ -332,6 +427,8 @@ def cases(program: Program) -> Iterator[tuple[str, partial[None]]]:
         yield f"one stream in pieces of {size} bytes", partial(cut, program, size)
     for at in (1, 10, len(OPEN[0].request) - 1):
         yield f"an input that ends after {at} bytes", partial(ends_within, program, OPEN[0], at)
+    for check in (one_by_one, largest, large_page, starts, full, failing_ends):
+        yield str(check.__doc__), partial(check, program)
     yield "Python's client", partial(by_a_client, program)
     yield "a kill after an edit", partial(after_a_kill, program)
     yield "a file that is removed", partial(no_commit, program)

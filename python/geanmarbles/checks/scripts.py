@@ -52,7 +52,7 @@ OLD, NEW = 1_000_000_000, 2_000_000_000
 # The crates that docs/PLUGINS.md goes through.
 TUTORIAL = ["example_exclaim", "example_notices", "example_site", "example_gallery"]
 # What is used of Debian's packages for Python, where it is there.
-PACKAGES = {"hypothesis", "prometheus_client", "pytest"}
+PACKAGES = {"h11", "hypothesis", "prometheus_client", "pytest"}
 # What these scripts do takes no argument, or isn't theirs to say.
 WITHOUT_HELP = {".ci/run"}
 

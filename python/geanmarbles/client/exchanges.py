@@ -11,12 +11,21 @@ NOTHING = "<p>Nothing found.</p>"
 WORDS = "Some words of a post that a reader takes for real ones, and then " * 3
 ARTICLE = "".join(f"{WORDS}[b]word {number:02}[/b] " for number in range(14))
 BOLD_ARTICLE = ARTICLE.replace("[b]", "<b>").replace("[/b]", "</b>")
+# What a line that asks for a page begins with.
+ASKS = '{"cmd":"get"'
 # How many posts a page shows; and how many a month of 28 days has if they are dated one an hour.
 SHOWN, MONTH = 10, 28 * 24
 
 
+def apart(line: str, number: int) -> str:
+    """A line that means the same, and differs from those of other numbers by spaces and tabs at its end. The program
+    keeps pages by the lines that asked for them, so a page is printed again only if another line asks for it."""
+    return line + f"{number:b}".translate({48: " ", 49: "\t"})
+
+
 class Exchange:
-    """Lines, and the replies to them. Exchanges are added one after the other, and repeated by a factor."""
+    """Lines, and the replies to them. Exchanges are added one after the other, and repeated by a factor: then no two
+    requests for pages are the same line. `again` has them so."""
 
     def __init__(self, lines: str = "", replies: str = "") -> None:
         self.lines, self.replies = lines, replies
@@ -25,7 +34,18 @@ class Exchange:
         return Exchange(self.lines + other.lines, self.replies + other.replies)
 
     def __mul__(self, times: int) -> Exchange:
+        if ASKS not in self.lines:
+            return self.again(times)
+        return Exchange("".join(map(self.numbered, range(times))), self.replies * times)
+
+    def again(self, times: int) -> Exchange:
+        """The same lines a number of times."""
         return Exchange(self.lines * times, self.replies * times)
+
+    def numbered(self, number: int) -> str:
+        """The lines, of which those that ask for pages differ from the same of another number."""
+        lines = self.lines.split("\n")
+        return "\n".join(apart(it, number) if it.startswith(ASKS) else it for it in lines)
 
 
 def joined(exchanges: Iterable[Exchange]) -> Exchange:

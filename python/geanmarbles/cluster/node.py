@@ -41,7 +41,7 @@ from pathlib import Path
 from typing import Any, NoReturn
 from urllib.parse import urlsplit
 
-from geanmarbles.arguments import Parser
+from geanmarbles.arguments import Parser, count_in
 from geanmarbles.client.program import LINES, add_program_option, check_program
 from geanmarbles.cluster import snapshots
 from geanmarbles.cluster.etcd import Etcd, Refused, Unreachable, tls_context
@@ -72,17 +72,6 @@ FILES = 8192
 
 def stop(why: object) -> NoReturn:
     sys.exit(f"node: {why}")
-
-
-def count_in(first: int, last: int) -> Callable[[str], int]:
-    """A reader of whole numbers in a range."""
-
-    def read(text: str) -> int:
-        if not text.isascii() or not text.isdigit() or not first <= int(text) <= last:
-            raise argparse.ArgumentTypeError(f"a number from {first} to {last}, not {text}")
-        return int(text)
-
-    return read
 
 
 def endpoints(text: str) -> list[str]:

@@ -7,6 +7,9 @@ FILE is a command file, examples/bakery.jsonl of this repository if it and --dat
 first; none of its lines may be refused. Then the site is at the address that standard output names, on 127.0.0.1 alone,
 until Ctrl-C. Port 0 means any free one.
 
+This script looks at requests and at pages, for what follows here; examples/serve moves bytes alone, and the program
+itself speaks HTTP then.
+
 Each GET or HEAD becomes one line {"cmd":"get","path":PATH}, with the path and its query as the browser sent them, and
 the page's status becomes the response's. A program is sent one line at a time.
 
@@ -61,11 +64,11 @@ import signal
 import sys
 import threading
 import time
-from collections.abc import Callable, Iterator
+from collections.abc import Iterator
 from pathlib import Path
 from typing import Any, NamedTuple, Protocol
 
-from geanmarbles.arguments import Parser
+from geanmarbles.arguments import Parser, count_in
 from geanmarbles.client.program import LINES, Ended, NoReply, Reply, add_program_option, check_program, lines_of
 from geanmarbles.paths import EXAMPLES
 from geanmarbles.repository.unproved import MINUTES, NotRun
@@ -322,17 +325,6 @@ def port_number(text: str) -> int:
     if not text.isascii() or not text.isdigit() or int(text) > 65535:
         raise argparse.ArgumentTypeError(f"a port is a number from 0 to 65535, not {text}")
     return int(text)
-
-
-def count_in(first: int, last: int) -> Callable[[str], int]:
-    """A reader of whole numbers in a range."""
-
-    def read(text: str) -> int:
-        if not text.isascii() or not text.isdigit() or not first <= int(text) <= last:
-            raise argparse.ArgumentTypeError(f"a number from {first} to {last}, not {text}")
-        return int(text)
-
-    return read
 
 
 def read_arguments() -> argparse.Namespace:

@@ -1,7 +1,7 @@
 """Runs the program `site`, and proves and builds it first if need be.
 
     ./site [--built] [--calls N] [--cache N] [--trace] [--database FILE] < COMMANDS
-    ./site [--built] --http [--token-file FILE] [--calls N] [--cache N] [--trace] [--database FILE]
+    ./site [--built] --http [--framed] [--token-file FILE] [--calls N] [--cache N] [--trace] [--database FILE]
     ./site [--built] --database FILE --export | --compact | --check
     ./site --unproved [--calls N] [--cache N] < COMMANDS
     ./site --unproved [--calls N] [--cache N] FILE ..
@@ -18,6 +18,7 @@ Each line of standard input is a JSON command, and each gets a reply on standard
     --check          says how many edits the file has and their digest, and serves nothing
     --must-exist     refuses a file that isn't there or is empty, in place of making it
     --http           serves one client of HTTP on standard input and output, in place of lines
+    --framed         with --http, serves many clients, on one stream of frames
     --token-file FILE  takes edits over HTTP from whoever sends the token in this file
     --built          runs the program that is there, also if a source is newer, and builds nothing
     --unproved       proves and keeps nothing: compiles the sources, which takes two to five minutes, and runs them
@@ -60,7 +61,7 @@ TRACE = "--trace"
 # The heading of a version in CHANGELOG.md.
 RELEASED = re.compile(r"^## \[(\d+\.\d+\.\d+)\]", re.M)
 DATABASE, MUST_EXIST, ALONE = "--database", "--must-exist", ("--export", "--compact", "--check")
-HTTP, TOKEN_FILE = "--http", "--token-file"
+HTTP, FRAMED, TOKEN_FILE = "--http", "--framed", "--token-file"
 # Options that take a path.
 PATHS = (DATABASE, TOKEN_FILE)
 NEEDS = (
@@ -103,8 +104,9 @@ def check_options(seen: list[str]) -> None:
         raise BadArguments(f"{' beside '.join(alone)}: one of them")
     if HTTP in seen and alone:
         raise BadArguments(f"{HTTP} beside {alone[0]}: one of them")
-    if TOKEN_FILE in seen and HTTP not in seen:
-        raise BadArguments(f"{TOKEN_FILE} needs {HTTP}")
+    for option in (FRAMED, TOKEN_FILE):
+        if option in seen and HTTP not in seen:
+            raise BadArguments(f"{option} needs {HTTP}")
 
 
 def check_value(option: str, value: str) -> None:
@@ -134,7 +136,7 @@ def read_arguments(given: Sequence[str]) -> Asked:
             check_value(option, value)
             seen.append(option)
             words += [option, value]
-        elif word in (TRACE, MUST_EXIST, HTTP, *ALONE):
+        elif word in (TRACE, MUST_EXIST, HTTP, FRAMED, *ALONE):
             seen.append(word)
             words.append(word)
         elif word in ("-h", "--help", "--version"):

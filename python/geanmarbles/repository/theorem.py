@@ -130,7 +130,7 @@ The clause by which the program is proved, and each definition that it rests on,
 `tools/index` makes this page of them, and `tests/links/run` fails if it isn't up to date. [PROOFS](PROOFS.md) has the
 premises, the other promises, and what is trusted.
 
-From [`Site::serve`]({source}), which serves an input:
+From [`serve_site`]({source}), which serves an input:
 
 ```rust
 {clause}

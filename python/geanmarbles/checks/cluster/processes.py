@@ -159,6 +159,11 @@ class Processes:
         return found
 
     def kill_all(self) -> None:
+        # Not all have the mark: nginx writes over its environment.
+        for process in self.started:
+            if process.is_running():
+                with contextlib.suppress(OSError):
+                    os.killpg(process.child.pid, signal.SIGKILL)
         until = time.monotonic() + SECONDS
         while (left := self.left()) and time.monotonic() < until:
             for pid in left:

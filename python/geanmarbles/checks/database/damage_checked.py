@@ -41,8 +41,9 @@ def mode(path: Path) -> int:
 
 
 def check_tells(program: str, file: Path, lines: list[bytes]) -> None:
-    """--check and --export tell the number of edits and the digest that hashlib finds, and leave the history."""
-    told = f"{summary(lines)}\n"
+    """--check and --export tell the number of edits and the digest that hashlib finds, and leave the history. They copy
+    nothing into FILE."""
+    told, before = f"{summary(lines)}\n", file.read_bytes()
     ran = run(program, b"no line is read\n", *over(file, "--check"))
     if (ran.returncode, ran.stdout.decode(), ran.stderr) != (0, told, b""):
         raise Wrong(f"--check: status {ran.returncode}, {shown(ran.stdout)} {shown(ran.stderr)}, wanted {told!r}")
@@ -50,6 +51,8 @@ def check_tells(program: str, file: Path, lines: list[bytes]) -> None:
     ran = run(program, None, *over(file, "--export"))
     check_end((ran.returncode, ran.stderr), 0, f"site: {file}: {told}".encode())
     check_equal(history(file), lines)
+    if file.read_bytes() != before:
+        raise Wrong("FILE is another after --check and --export")
 
 
 class Checked:

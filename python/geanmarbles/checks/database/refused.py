@@ -287,6 +287,17 @@ def refuses_wrong_lines_far_on(program: str, folder: str) -> None:
         copy.unlink()
 
 
+def refuses_what_its_log_has(program: str, folder: str) -> None:
+    """A line that is refused is in FILE-wal alone: nothing of it is copied into FILE."""
+    file = doctored(made(program, folder), [], folder)
+    before = history(file)
+    wrong, reply = next(iter(WRONG_LINES.items()))
+    with opened(file) as connection:
+        append_to(connection, before, [wrong])
+        copy = copied(file, folder)
+    refuses_in_every_way(program, copy, f"line {len(before) + 1} of the history is refused: {reply}")
+
+
 def append_to(connection: Connection, before: Sequence[bytes], lines: Sequence[bytes]) -> None:
     """Appends lines to a history by one commit, each with its digest."""
     sealed = zip(lines, islice(digests_of([*before, *lines]), len(before), None))
@@ -357,9 +368,9 @@ def takes_the_shortest_edits(program: str, folder: str) -> None:
 
 def takes_a_million_lines(program: str, folder: str) -> None:
     """One line too many ends a run, and the edits right before it, which came in the same read, have their replies and
-    are there."""
+    are there, in FILE-wal alone."""
     file = made(program, folder)
-    before = history(file)
+    before, alone = history(file), file.read_bytes()
     edits = [put(title=f"late {it}") for it in range(5)]
     with tempfile.TemporaryFile() as given:
         given.write(b"{}\n" * (MOST - len(edits)) + joined([*edits, put(title="one too many")]))
@@ -370,6 +381,8 @@ def takes_a_million_lines(program: str, folder: str) -> None:
     if replied != [b"ok %d" % it for it in range(3, 3 + len(edits))]:
         raise Wrong(f"the last replies are {shown(b' '.join(replied))}")
     check_equal(history(file), [*before, *edits])
+    if file.read_bytes() != alone:
+        raise Wrong("what a run that fails has committed is copied into FILE")
 
 
 def refuses_on_a_full_disk(program: str, folder: str) -> None:
@@ -410,6 +423,7 @@ def cases(program: str) -> Cases:
         refuses_wrong_lines,
         refuses_wrong_lines_far_on,
         refuses_changed_lines,
+        refuses_what_its_log_has,
         refuses_on_a_full_disk,
         takes_a_long_log,
         takes_the_shortest_edits,

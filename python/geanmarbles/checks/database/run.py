@@ -29,8 +29,8 @@ reads a copy of FILE and FILE-wal. The parts, in this order, or one of them with
   is printed;
 - salvage: examples/salvage over files with a line that was changed, a page that was overwritten, a log that was turned
   or cut, and over sound ones: a front of the edits is saved, what is left is told, and the files stay as they are;
-- check: --check and --export tell how many edits a file has, and their digest, as Python's hashlib finds it; files that
-  are refused are left as they are; and the mode of new files;
+- check: --check and --export tell how many edits a file has, and their digest, as Python's hashlib finds it, and copy
+  nothing into FILE; files that are refused are left as they are; and the mode of new files;
 - replaced: FILE or FILE-wal is removed or replaced while the program has it: the program ends by name at the next line,
   which isn't carried out;
 - readme: the README's own example, with its `kill -9`;

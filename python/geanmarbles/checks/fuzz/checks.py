@@ -175,11 +175,12 @@ def values(program: Program, lines: Sequence[bytes], replies: Sequence[bytes]) -
 
 
 def toggles(program: Program, lines: Sequence[bytes], replies: Sequence[bytes]) -> None:
-    """A page is the same when asked for again, also if a plugin was turned off and on, or on and off, meanwhile."""
+    """A page is the same when asked for again, by the same line or another, also if a plugin was turned off and on, or
+    on and off, meanwhile."""
     stored = Stored().after(lines, replies)
     asked = [line for line in lines if command_of(line).get("cmd") == "get"][-2:]
     asked += [line_of(cmd="get", path=path) for path in ("/", "/?p=1", "/?page_id=2")]
-    rounds = [asked]
+    rounds = [asked, [line + b" " for line in asked]]
     for plugin in PLUGINS:
         there, back = stored.toggled(plugin)
         rounds.append([there, *asked, back, *asked])

@@ -1,14 +1,18 @@
 """Runs under limits on the address space and on the stack, over lines that need much of either."""
 
 import json
+import re
 import subprocess
 from bisect import bisect_left
 from collections import Counter
 from collections.abc import Callable, Iterable, Iterator, Sequence
 from functools import partial
+from pathlib import Path
 from typing import Any
 
-from geanmarbles.checks.judging import Cases
+from geanmarbles.checks.judging import Cases, must
+from geanmarbles.client.exchanges import get, put
+from geanmarbles.client.program import Program
 from geanmarbles.client.replies import Wrong, read_replies, shown
 
 # A command; and checks by their names.
@@ -35,6 +39,8 @@ STACKS = (8_192, 1_024, 256)
 ALL_TURNS = 1_000_000
 # No limit is needed beyond this one, in kilobytes.
 AMPLE = 4 * 1_048_576
+# How many lines ask for a page of some bytes, and how many kilobytes their pages may take: the program keeps 4 MiB.
+ASKED, PAGE_BYTES, KEPT = 2_000, 16_000, 6_144
 
 
 def post(number: int, title: str = "", content: str = "") -> Keys:
@@ -256,8 +262,27 @@ class Stack:
             raise Wrong("the replies are others than without a limit")
 
 
+def peak_after(program: str, numbers: Iterable[int]) -> int:
+    """Peak memory of a program, in kilobytes, after a line of each number has asked for a page."""
+    text = "x" * PAGE_BYTES
+    with Program(program) as site:
+        site.ask(put(1, text).lines.encode().strip())
+        for number in numbers:
+            site.ask(get("/?p=1", n=number).lines.encode().strip())
+        status = Path(f"/proc/{site.child.pid}/status").read_text(encoding="ascii")
+    found = re.search(r"^VmHWM:\s+(\d+) kB$", status, re.M)
+    return int(found[1]) if found else 0
+
+
+def keeps_few_pages(program: str) -> None:
+    """Pages by many lines take little more memory than one page by one line."""
+    one, many = (peak_after(program, numbers) for numbers in ([0] * ASKED, range(ASKED)))
+    must(0 < one <= many < one + KEPT, f"{many - one} kB are kept of {ASKED * PAGE_BYTES // 1_024} kB")
+
+
 def cases(program: str) -> Cases:
     """Each run by its name, with what judges it."""
+    yield "pages that are kept", partial(keeps_few_pages, program)
     stack = Stack(program)
     yield "the smallest stack", stack.measure
     for kilobytes in STACKS:

@@ -7,10 +7,10 @@ import sys
 from collections.abc import Callable
 from random import Random
 
-from geanmarbles.arguments import Parser
+from geanmarbles.arguments import Parser, count_in
 from geanmarbles.checks.units.drawn import each
 from geanmarbles.checks.units.test_etcd import raised
-from geanmarbles.cluster.node import address, count_in, endpoints, read_arguments as node_arguments, site_name
+from geanmarbles.cluster.node import address, endpoints, read_arguments as node_arguments, site_name
 from geanmarbles.repository.site import LARGEST, Asked, BadArguments, read_arguments
 
 

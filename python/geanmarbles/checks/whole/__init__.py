@@ -1,0 +1,1 @@
+"""The parts of `./test`, as checks that pytest runs."""

@@ -1,0 +1,1 @@
+"""The pump: many clients' sockets on one side, one program on the other."""
