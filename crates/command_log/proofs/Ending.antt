@@ -17,7 +17,7 @@ use Rattle.command_log.specs.Faults.{IsCaused, fault_of}
 use Rattle.sha2.specs.Sha256.{sha256}
 use Rattle.line_digests.specs.Digests.{digest_of, digests_after, digests_of}
 use Rattle.line_digests.proofs.Digests.{digests_more}
-use Rattle.command_log.specs.Lines.{HoldsLog, HoldsTable, IsOpen, IsIdle, IsLog, IsTabled, AreSealed, Makes, Puts, PutsAny, IsReplaced, GivesRows, lines_of}
+use Rattle.command_log.specs.Lines.{HoldsLog, HoldsTable, IsOpen, IsIdle, IsLog, IsTabled, AreSealed, Makes, Puts, PutsAny, PutsAnyAt, IsReplaced, GivesRows, lines_of}
 use Rattle.command_log.specs.Lines.{lines_in, rows_of, digest_in}
 use Rattle.command_log.specs.Inside.{IsInside, InLog, ReadsRows}
 use Rattle.command_log.proofs.Causes.{caused_longer, commit_fault}
@@ -102,16 +102,27 @@ module _ {S : Type 0} (g : Ghosts S) where
         (omega arith) (sym one.survives.limit) (fault_of e) (two.cause clean (opens up before));
   }
 
+  -- however it ends
+  pub then_any : {A B : Type 0} {Before : A → Type 0} {Does Did : B → Type 0} {First Own All : LogFault → Type 0} (first mid last : Transaction S) (a : A)
+      (r : Result B Error) → InLog g first mid (Ok a) Before First → InLog g mid last r Does Own → (IsOpen g first.conn.now → Before a → IsOpen g mid.conn.now)
+      → (Before a → (b : B) → Does b → Did b) → (Before a → (f : LogFault) → Own f → All f) → InLog g first last r Did All
+  then_any first mid last a (Ok b) one two opens both owns = then_ok first mid last a b b one two (λ before. both before b)
+  then_any first mid last a (Err e) one two opens both owns =
+      let it = then_err first mid last a e one two opens owns in
+      record { same_reference = it.same_reference; survives = it.survives; commit = it.commit; does = λ clean. tt; cause = it.cause }
+
   -- a failure that is passed on
-  pub passed_on : {A B : Type 0} {Does : A → Type 0} {Did : B → Type 0} {Own : LogFault → Type 0} (old new : Transaction S) (e : Error)
-      → InLog g old new (Err e) Does Own → (r : Result B Error) → IsErrAnd r (λ x. x ≡ e) → InLog g old new r Did Own
-  passed_on old new e it (Ok b) never = absurd never
-  passed_on {Own = Own} old new e it (Err x) same = record {
+  pub passed_on : {A B : Type 0} {Does : A → Type 0} {Did : B → Type 0} {Own All : LogFault → Type 0} (old new : Transaction S) (e : Error)
+      → InLog g old new (Err e) Does Own → ((f : LogFault) → Own f → All f) → (r : Result B Error) → IsErrAnd r (λ x. x ≡ e) → InLog g old new r Did All
+  passed_on old new e it owns (Ok b) never = absurd never
+  passed_on {Own = Own} {All = All} old new e it owns (Err x) same = record {
     same_reference = it.same_reference;
     survives = it.survives;
     commit = it.commit;
     does = λ clean. tt;
-    cause = λ clean up. subst (λ y. IsCaused (state g old.conn.now) (state g new.conn.now) Own (fault_of y)) (sym same) (it.cause clean up);
+    cause = λ clean up. subst (λ y. IsCaused (state g old.conn.now) (state g new.conn.now) All (fault_of y)) (sym same)
+        (caused_longer (state g old.conn.now) (state g old.conn.now) (state g new.conn.now) (state g new.conn.now) Own All owns (omega arith) (omega arith)
+        refl (fault_of e) (it.cause clean up));
   }
 
 -- ---- how a transaction ends
@@ -131,8 +142,8 @@ module _ {S : Type 0} (g : Ghosts S) where
   bare_log h table none = record { table = table; sealed = let rows = no_rows (rows_of g h) none in subst AreSealed (sym rows) refl }
 
   -- it has deleted all lines, and appended these
-  pub fills : (old mid new : Held S) (lines : List (List ℕ)) → Makes g old mid → PutsAny g mid new (sha256 []) lines → Fills old new lines
-  fills old mid new lines made (inl none) = subst (λ h. Fills old h lines) (sym none.1) (record {
+  pub fills : (old mid new : Held S) (number : ℤ) (lines : List (List ℕ)) → Makes g old mid → PutsAnyAt g number mid new (sha256 []) lines → Fills old new lines
+  fills old mid new number lines made (inl none) = subst (λ h. Fills old h lines) (sym none.1) (record {
     was_open = made.was_open;
     is_open = made.is_open;
     inside = made.inside;
@@ -140,7 +151,7 @@ module _ {S : Type 0} (g : Ghosts S) where
     sound = made.sound;
     lines_are = made.lines ∙ sym none.0;
   })
-  fills old mid new lines made (inr put) = record {
+  fills old mid new number lines made (inr put) = record {
     was_open = made.was_open;
     is_open = put.is_open;
     inside = put.inside;

@@ -27,12 +27,13 @@ use Rattle.log_tails.specs.Tails.{IsTailOf, Outgrows}
 use Rattle.sqlite_disk.specs.declared.Files.{Files}
 use Rattle.sqlite.specs.Start.{FindsIn}
 use Rattle.command_log.specs.Table.{IsOther, log_schema}
-use Rattle.std.proofs.Common.{◌≢◌, true≢false, false, Ok, Err, Result, IfOk, IfErr, arith}
+use Rattle.std.proofs.Common.{Option, ◌≢◌, true≢false, false, Ok, Err, Result, IfOk, IfErr, arith}
 use Rattle.sqlite.specs.State.{HasCleanDisk, Survives}
 use Rattle.sqlite_store.specs.Laws.{shut_if_dirty_at}
-use Rattle.command_log.specs.Lines.{IsRising, IsOrderly, HoldsLines, IsOpen, IsIdle, lines_of}
+use Rattle.command_log.specs.Lines.{FallsShort, IsRising, IsOrderly, HoldsLines, IsOpen, IsIdle, Reaches, lines_of}
 use Rattle.command_log.proofs.States.{ShutsIfDirty, clean_of}
-use Rattle.command_log.specs.Found.{FindsLines, ReadsLines, RefusesOther, IsCutShort, EndsWhole, CoversFile}
+use Rattle.command_log.specs.Found.{FindsLines, ReadsLines, RefusesOther, IsCutShort, EndsWhole, CoversFile, ReachesFile, IsOvertaken}
+use Rattle.log_tails.specs.Rows.{last_row_in}
 use Rattle.sqlite.specs.declared.error.Error.{Error}
 use Rattle.sqlite.specs.declared.error.Error.TheVariants.{SqliteFailure, SqlInputError, InvalidParameterCount, ExecuteReturnedResults, InvalidQuery}
 use Rattle.sqlite.specs.declared.error.Error.TheVariants.{MultipleStatement, QueryReturnedNoRows, InvalidColumnIndex, InvalidColumnType}
@@ -133,6 +134,42 @@ module _ {D : Type 0} {g : Ghosts D} (c : Held (FileStore D g)) (image : Image) 
       let clean : HasCleanDisk (file_state c) = omega (arith, survives.clean, after) in
       known clean
 
+  -- and what it reaches, said of what the file alone holds
+  pub reaches_file : {E : Type 0} (P : Trees → Type 0) (number : Option ℕ) → (HasCleanDisk (file_state c) → number ≡ last_row_in image.db)
+      → (r : Result (Held (FileStore D g)) E) → IfOk r (λ log. Survives (file_state c) (state over_files log) P)
+      → IfOk r (λ log. IsOpen over_files log → Reaches over_files log number) → IfOk r (λ log. IsOpen over_files log → ReachesFile image log)
+  reaches_file P number is (Err e) survives reaches = tt
+  reaches_file P number is (Ok log) survives reaches = λ up.
+      let after = clean_of over_files shuts log up in
+      let clean : HasCleanDisk (file_state c) = omega (arith, survives.clean, after) in
+      subst (Reaches over_files log) (is clean) (reaches up)
+
+  -- a log that falls short of what the file alone holds
+  pub overtaken : (db : D) (number : Option ℕ) → (HasCleanDisk (file_state c) → FindsIn image (file_state c)) → (HasCleanDisk (file_state c) → IsOpened c)
+      → (IsClean g db → number ≡ last_row_in image.db) → FallsShort over_files c number → IsOvertaken g image db
+  overtaken db number found opened is it =
+      let early : HasCleanDisk (state over_files it.log) → HasCleanDisk (file_state c) = (λ after. omega (arith, it.survives.clean, after)) in
+      record {
+        log = it.log;
+        found = λ after.
+            let clean = early after in
+            let up = (opened clean).0.is_open in
+            finds_lines c image (found clean) (opened clean) up (lines_of over_files it.log) (it.lines (it.opened after up));
+        short = λ read after reaches.
+            it.short after (opened (early after)).0.is_open (subst (Reaches over_files it.log) (sym (is read)) reaches);
+      }
+
+-- two looks at a file are one
+pub then_reads : {D : Type 0} {g : Ghosts D} (old mid new : D) → OnlyReads g old mid → OnlyReads g mid new → OnlyReads g old new
+then_reads old mid new one two = record {
+  seen = two.seen ∙ one.seen;
+  clean = λ clean. one.clean (two.clean clean);
+  usable = two.usable;
+  key = two.key ∙ one.key;
+  rot = two.rot ∙ one.rot;
+  crash = λ c may. one.crash c (two.crash c may);
+}
+
 -- no error of the database is of what the files hold
 pub plain : (e : Error) → IsPlain (fault_of e)
 plain (SqliteFailure (code.ConstraintViolation rule)) = tt
@@ -184,32 +221,34 @@ refuses_over {D} {g} c image found f other none = (c, other (fault_in none), fou
     fault_in : ◌≡◌ {A = Result (Held (FileStore D g)) LogFault} (Err f) (Err NotALog) → f ≡ NotALog
     fault_in h = cc
 
--- a fault that is not of the log's end
-pub not_cut : {D : Type 0} (g : Ghosts D) (image : Image) (f : LogFault) → (f ≡ NotALog) ⊎ IsPlain f → IsCutShort {D = D} {g = g} image (Err f)
-not_cut g image (DamagedTail commits following) (inl other) = absurd (let e = other in cc)
-not_cut g image (DamagedTail commits following) (inr plain) = absurd plain
-not_cut g image OlderLog (inl other) = absurd (let e = other in cc)
-not_cut g image OlderLog (inr plain) = absurd plain
-not_cut g image NotALog h = tt
-not_cut g image OutOfMemory h = tt
-not_cut g image Busy h = tt
-not_cut g image CannotOpen h = tt
-not_cut g image Damaged h = tt
-not_cut g image DiskFull h = tt
-not_cut g image Disk h = tt
-not_cut g image TooBig h = tt
-not_cut g image NumbersUsedUp h = tt
-not_cut g image Shut h = tt
-not_cut g image NotText h = tt
-not_cut g image (Altered n) h = tt
-not_cut g image Interrupted h = tt
-not_cut g image Store h = tt
+-- a fault that is not of the log's end, or that of an older log
+pub not_cut : {D : Type 0} (g : Ghosts D) (image : Image) (f : LogFault) → (f ≡ OlderLog → IsCutShort {D = D} {g = g} image (Err OlderLog))
+    → (f ≡ NotALog) ⊎ ((f ≡ OlderLog) ⊎ IsPlain f) → IsCutShort {D = D} {g = g} image (Err f)
+not_cut g image (DamagedTail commits following) older (inl other) = absurd (let e = other in cc)
+not_cut g image (DamagedTail commits following) older (inr (inl other)) = absurd (let e = other in cc)
+not_cut g image (DamagedTail commits following) older (inr (inr plain)) = absurd plain
+not_cut g image OlderLog older h = older refl
+not_cut g image NotALog older h = tt
+not_cut g image OutOfMemory older h = tt
+not_cut g image Busy older h = tt
+not_cut g image CannotOpen older h = tt
+not_cut g image Damaged older h = tt
+not_cut g image DiskFull older h = tt
+not_cut g image Disk older h = tt
+not_cut g image TooBig older h = tt
+not_cut g image NumbersUsedUp older h = tt
+not_cut g image Shut older h = tt
+not_cut g image NotText older h = tt
+not_cut g image (Altered n) older h = tt
+not_cut g image Interrupted older h = tt
+not_cut g image Store older h = tt
 
 -- nor is a log, or what isn't taken for one
-pub not_cut_by : {D : Type 0} (g : Ghosts D) (image : Image) (r : Result (Held (FileStore D g)) LogFault) → IfErr r (λ f. (f ≡ NotALog) ⊎ IsPlain f)
+pub not_cut_by : {D : Type 0} (g : Ghosts D) (image : Image) (r : Result (Held (FileStore D g)) LogFault)
+    → IfErr r (λ f. f ≡ OlderLog → IsCutShort {D = D} {g = g} image (Err OlderLog)) → IfErr r (λ f. (f ≡ NotALog) ⊎ ((f ≡ OlderLog) ⊎ IsPlain f))
     → IsCutShort image r
-not_cut_by g image (Ok log) h = tt
-not_cut_by g image (Err f) h = not_cut g image f h
+not_cut_by g image (Ok log) older h = tt
+not_cut_by g image (Err f) older h = not_cut g image f older h
 
 pub refuses_by : {D : Type 0} {g : Ghosts D} (c : Held (FileStore D g)) (image : Image) → (HasCleanDisk (file_state c) → FindsIn image (file_state c))
     → (r : Result (Held (FileStore D g)) LogFault) → IfErr r (λ f. f ≡ NotALog → IsOther (file_state c).now.schema) → RefusesOther image r
@@ -232,6 +271,14 @@ ends_whole g image files tail is no_damage clean = record {
     then_true : (b : Bool) → not b ≡ false → IsTrue b
     then_true true h = refl
     then_true false h = absurd (true≢false h)
+
+-- of two files that are clean, the second
+pub last_clean : {D : Type 0} (g : Ghosts D) (log db : D) → AreClean g log db → IsClean g db
+last_clean g log db = second (g.is_clean log) (g.is_clean db)
+  where
+    second : (a b : Bool) → IsTrue (a && b) → IsTrue b
+    second true b h = h
+    second false b h = absurd (true≢false (sym h))
 
 -- and of the length of the database file
 pub covers_file : {D : Type 0} (g : Ghosts D) (image : Image) (files : Files D) (tail : Tail) (longer : Bool) → (IsClean g files.log → IsTailOf image.log tail)

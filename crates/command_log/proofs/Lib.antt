@@ -18,3 +18,4 @@ pub mod Ending
 pub mod Statements
 pub mod Sealing
 pub mod Passing
+pub mod Reaching

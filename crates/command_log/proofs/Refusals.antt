@@ -1,5 +1,5 @@
 -- Why INSERT of a line, and DELETE of all, are refused.
-use Rattle.std.proofs.Common.{◌≡◌, ◌⊎◌, inl, inr, ℕ, zero, suc, ◌+◌, ◌^◌, ◌≤◌, ℤ, List, [], ◌∷◌, true, false, Bool, not, ◌&&◌, Err, Result, Option, Some, None}
+use Rattle.std.proofs.Common.{◌≡◌, ◌⊎◌, inl, inr, ℕ, zero, suc, ◌+◌, ◌^◌, ◌≤◌, ℤ, List, [], ◌∷◌, true, false, Bool, not, ◌&&◌, Ok, Err, Result, Option, Some, None}
 use Rattle.std.proofs.Common.{option_map, length, length-append, lit<, lit≤, refl, sym, ap, subst, ◌∙◌, arith}
 use Rattle.std.proofs.Common.{true≢false, Less, pos, negsuc}
 use Rattle.std.specs.Prelude.{IsSome, nat_lt}
@@ -38,18 +38,18 @@ use Rattle.sqlite.specs.declared.error.Error.TheVariants.{SqliteFailure}
 use Rattle.sqlite.specs.declared.error.ErrorCode.TheVariants as code
 use Rattle.sqlite.specs.Program.{overlay}
 use Rattle.sqlite.specs.Effect.{edit_error}
-use Rattle.sqlite.specs.Rows.{Task, Written, Edited, Then, Sourced, Queried, Inserts, Deletes}
+use Rattle.sqlite.specs.Rows.{stamped, Task, Written, Edited, Then, Sourced, Queried, Inserts, Deletes}
 use Rattle.sqlite.specs.Does.{Does, Concludes}
 use Rattle.sqlite.specs.Listing.{understood}
 use Rattle.sqlite.specs.State.{State, mode_of}
 use Rattle.sqlite.proofs.Callers.{statement_of}
-use Rattle.table_rows.proofs.Casting.{cast_null}
+use Rattle.table_rows.proofs.Casting.{cast_int, cast_null}
 use Rattle.table_rows.proofs.Answering as answering
 use Rattle.table_rows.proofs.Deleting as deleting
 use Rattle.command_log.specs.Table.{log_schema, command_table}
 use Rattle.command_log.specs.Lines.{HoldsTable, IsRising}
 use Rattle.command_log.specs.Faults.{IsTooLong}
-use Rattle.command_log.proofs.Texts.{insert_text, insert_command, clear_text, clear_command}
+use Rattle.command_log.proofs.Texts.{insert_text, insert_command, insert_at_text, insert_at_command, clear_text, clear_command}
 use Rattle.command_log.proofs.Inserting.{rest_of}
 use Rattle.command_log.proofs.Numbers.{all_before}
 
@@ -116,85 +116,119 @@ storable n line sum long small = (
 )
 
 module _ (old : State) (holds : HoldsTable old.now) (line sum : List ℕ) (long : length sum ≡ 32) where
-  abbrev given : Row
-  given = Text line ∷ Blob sum ∷ []
-
   abbrev rows : List Row
   rows = old.now.trees 0
 
-  abbrev new : Row
-  new = Int (next_rowid rows) ∷ rest_of line sum
-
-  -- why it stops: the row is too large, the numbers are used up, or a limit on steps was met
-  abbrev pub PutStops : Option Error → Type 0
-  PutStops None = IsTooLong line
-  PutStops (Some e) = ((e ≡ SqliteFailure code.OperationInterrupted) × IsSome old.step_limit)
-      ⊎ ((e ≡ SqliteFailure code.NoRowid) × (fits_i64 (next_rowid rows) ≡ false))
+  -- why a row with this number isn't put: it is too large, its number is, or a limit on steps was met
+  abbrev pub PutStops : ℤ → Option Error → Type 0
+  PutStops n None = IsTooLong line
+  PutStops n (Some e) = ((e ≡ SqliteFailure code.OperationInterrupted) × IsSome old.step_limit)
+      ⊎ ((e ≡ SqliteFailure code.NoRowid) × (fits_i64 n ≡ false))
 
   abbrev put : List Row → Edit
   put sources = edit_of old.now.trees command_table [] Chosen 0 sources
 
-  module _ (sources : List Row) (news : (put sources).news ≡ new ∷ []) where
-    refused : (why : Refusal) → IsRefused log_schema Enforced old.now.trees (put sources) why → PutStops (Some (edit_error why))
-    refused (Violates Datatype) h = absurd (true≢false (subst (λ l. list_all (passes Datatype log_schema old.now.trees command_table) l ≡ false) news h))
-    refused (Violates NotNull) h = absurd (true≢false (subst (λ l. list_all (passes NotNull log_schema old.now.trees command_table) l ≡ false) news h))
-    refused (Violates Check) h = absurd (true≢false (subst (λ l. list_all (passes Check log_schema old.now.trees command_table) l ≡ false) news h))
-    refused (Violates PrimaryKey) h =
-        let taken : (not (is_taken rows new) && true) ≡ false = subst (λ l. are_fresh rows l ≡ false) news h in
-        absurd (true≢false (subst (λ b. (not b && true) ≡ false) (is_new rows (rest_of line sum) holds.rising) taken))
-    refused (Violates Unique) h = absurd (h (all_keep _, tt))
-    refused (Violates ForeignKey) h = absurd h
-    refused Mismatch h = absurd (true≢false (subst (λ l. have_rowids l ≡ false) news h))
-    refused NoRowid h = inr (refl, only _ (subst (λ l. list_all (λ r. fits_i64 (id_in (rowid r))) l ≡ false) news h))
-    refused BadReference h = absurd (true≢false (subst (λ l. references_fit log_schema command_table (nat_lt 0 (length l)) false ≡ false) news h))
-    refused TooDeep h = absurd h
+  module _ (n : ℤ) (free : is_taken rows (Int n ∷ rest_of line sum) ≡ false) where
+    abbrev new : Row
+    new = Int n ∷ rest_of line sum
 
-    oversized : (row : Row) → Has (put sources).news row → IsOversized log_schema command_table row → IsTooLong line
-    oversized row has (inr (i, none, at, other)) = absurd none
-    oversized row has (inl unstorable) = elim (subst (λ l. Has l row) news has) [
-      | inl is ↦ elim (cases_order (10 ^ 9) (104 + length line)) [
-        | inl same ↦ absurd (unstorable (subst (IsStorableRow (table_reals command_table)) (sym is) (storable (next_rowid rows) line sum long (omega (arith, same)))))
-        | inr (inl big) ↦ big
-        | inr (inr small) ↦ absurd
-            (unstorable (subst (IsStorableRow (table_reals command_table)) (sym is) (storable (next_rowid rows) line sum long (omega (arith, small)))))
+    module _ (sources : List Row) (news : (put sources).news ≡ new ∷ []) where
+      refused : (why : Refusal) → IsRefused log_schema Enforced old.now.trees (put sources) why → PutStops n (Some (edit_error why))
+      refused (Violates Datatype) h = absurd (true≢false (subst (λ l. list_all (passes Datatype log_schema old.now.trees command_table) l ≡ false) news h))
+      refused (Violates NotNull) h = absurd (true≢false (subst (λ l. list_all (passes NotNull log_schema old.now.trees command_table) l ≡ false) news h))
+      refused (Violates Check) h = absurd (true≢false (subst (λ l. list_all (passes Check log_schema old.now.trees command_table) l ≡ false) news h))
+      refused (Violates PrimaryKey) h =
+          let taken : (not (is_taken rows new) && true) ≡ false = subst (λ l. are_fresh rows l ≡ false) news h in
+          absurd (true≢false (subst (λ b. (not b && true) ≡ false) free taken))
+      refused (Violates Unique) h = absurd (h (all_keep _, tt))
+      refused (Violates ForeignKey) h = absurd h
+      refused Mismatch h = absurd (true≢false (subst (λ l. have_rowids l ≡ false) news h))
+      refused NoRowid h = inr (refl, only _ (subst (λ l. list_all (λ r. fits_i64 (id_in (rowid r))) l ≡ false) news h))
+      refused BadReference h = absurd (true≢false (subst (λ l. references_fit log_schema command_table (nat_lt 0 (length l)) false ≡ false) news h))
+      refused TooDeep h = absurd h
+
+      oversized : (row : Row) → Has (put sources).news row → IsOversized log_schema command_table row → IsTooLong line
+      oversized row has (inr (i, none, at, other)) = absurd none
+      oversized row has (inl unstorable) = elim (subst (λ l. Has l row) news has) [
+        | inl is ↦ elim (cases_order (10 ^ 9) (104 + length line)) [
+          | inl same ↦ absurd (unstorable (subst (IsStorableRow (table_reals command_table)) (sym is) (storable n line sum long (omega (arith, same)))))
+          | inr (inl big) ↦ big
+          | inr (inr small) ↦ absurd (unstorable (subst (IsStorableRow (table_reals command_table)) (sym is) (storable n line sum long (omega (arith, small)))))
+        ]
+        | inr none ↦ absurd none
       ]
-      | inr none ↦ absurd none
-    ]
 
-    edited : (stop : Option Error) → Edited log_schema Enforced old.now.trees (put sources) (Err stop) → PutStops stop
-    edited stop (why, inl (w, h, same), is) = subst PutStops (sym (is ∙ ap (option_map edit_error) (ended_by same))) (refused w h)
-    edited stop (why, inr (inl (row, has, big, same)), is) = subst PutStops (sym (is ∙ ap (option_map edit_error) (ended_by same))) (oversized row has big)
-    edited stop (why, inr (inr (next, applies, settles)), is) = absurd (never_settles settles.0 next [] why refl settles.1)
+      edited : (stop : Option Error) → Edited log_schema Enforced old.now.trees (put sources) (Err stop) → PutStops n stop
+      edited stop (why, inl (w, h, same), is) = subst (PutStops n) (sym (is ∙ ap (option_map edit_error) (ended_by same))) (refused w h)
+      edited stop (why, inr (inl (row, has, big, same)), is) = subst (PutStops n) (sym (is ∙ ap (option_map edit_error) (ended_by same))) (oversized row has big)
+      edited stop (why, inr (inr (next, applies, settles)), is) = absurd (never_settles settles.0 next [] why refl settles.1)
 
-  abbrev source : Source
-  source = Values (lit Null ∷ lit Null ∷ col 0 0 ∷ col 0 1 ∷ []) 4
+    module _ (given : Row) (source : Source)
+        (sourced : (stop : Option Error) → Sourced old.step_limit (record { schema = log_schema; trees = old.now.trees }) (stamped command_table given) source (Err stop)
+        → PutStops n stop)
+        (gives : (sources : List Row) → Sourced old.step_limit (record { schema = log_schema; trees = old.now.trees }) (stamped command_table given) source (Ok sources)
+        → (put sources).news ≡ new ∷ [])
+      where
+        inserts : (stop : Option Error) → Inserts (task old given) source old.now.trees (Err stop) → PutStops n stop
+        inserts stop (inl (s, h, same)) = subst (PutStops n) (sym (stopped_by same)) (sourced s h)
+        inserts stop (inr (sources, h, inl (s, counted, same))) = absurd (let e = counted in cc)
+        inserts stop (inr (sources, h, inr (c, counted, inl (s, it, same)))) = subst (PutStops n) (sym (stopped_by same)) (edited sources (gives sources h) s it)
+        inserts stop (inr (sources, h, inr (c, counted, inr (mid, it, inl (s, counts, same))))) = absurd (let e = counts in cc)
+        inserts stop (inr (sources, h, inr (c, counted, inr (mid, it, inr (next, counts, made))))) = absurd (let e = made in cc)
 
-  accepted : accepts_terms (lit Null ∷ lit Null ∷ col 0 0 ∷ col 0 1 ∷ []) given ≡ true
-  accepted = refl
+        ends : (stop : Option Error) → Then (Inserts (task old given) source old.now.trees) (Concludes (task old given) (mode_of old) None) (Err stop)
+            → PutStops n stop
+        ends stop (inl (s, it, same)) = subst (PutStops n) (sym (stopped_by same)) (inserts s it)
+        ends stop (inr (w, it, end)) = absurd (never_concludes old given w stop end)
 
-  sourced : (stop : Option Error) → Sourced old.step_limit (record { schema = log_schema; trees = old.now.trees }) given source (Err stop) → PutStops stop
-  sourced None h = absurd h
-  sourced (Some e) (inl typed) = absurd (true≢false (sym accepted ∙ typed.1))
-  sourced (Some e) (inr late) = inl late
+  -- the line after the others
+  abbrev given_last : Row
+  given_last = Text line ∷ Blob sum ∷ []
 
-  inserts : (stop : Option Error) → Inserts (task old given) source old.now.trees (Err stop) → PutStops stop
-  inserts stop (inl (s, h, same)) = subst PutStops (sym (stopped_by same)) (sourced s h)
-  inserts stop (inr (sources, h, inl (s, counted, same))) = absurd (let e = counted in cc)
-  inserts stop (inr (sources, h, inr (c, counted, inl (s, it, same)))) =
-      let news : (put sources).news ≡ new ∷ [] = ap (λ all. (put all).news) h.1 ∙ rw cast_null refl in subst PutStops (sym (stopped_by same))
-      (edited sources news s it)
-  inserts stop (inr (sources, h, inr (c, counted, inr (mid, it, inl (s, counts, same))))) = absurd (let e = counts in cc)
-  inserts stop (inr (sources, h, inr (c, counted, inr (mid, it, inr (next, counts, gives))))) = absurd (let e = gives in cc)
+  abbrev source_last : Source
+  source_last = Values (lit Null ∷ lit Null ∷ col 0 0 ∷ col 0 1 ∷ []) 4
 
-  pub put_stops : (stop : Option Error) → Does old.step_limit (mode_of old) given old.now (statement_of insert_text (understood log_schema insert_text)) None
-      insert_command (Err stop) → PutStops stop
-  put_stops stop h = go
-      (subst (λ s. Does old.step_limit (mode_of old) given (record old.now { schema = s }) (statement_of insert_text (understood log_schema insert_text)) None
+  accepts_last : accepts_terms (lit Null ∷ lit Null ∷ col 0 0 ∷ col 0 1 ∷ []) given_last ≡ true
+  accepts_last = refl
+
+  sourced_last : (stop : Option Error) → Sourced old.step_limit (record { schema = log_schema; trees = old.now.trees }) given_last source_last (Err stop)
+      → PutStops (next_rowid rows) stop
+  sourced_last None h = absurd h
+  sourced_last (Some e) (inl typed) = absurd (true≢false (sym accepts_last ∙ typed.1))
+  sourced_last (Some e) (inr late) = inl late
+
+  pub put_stops : (stop : Option Error) → Does old.step_limit (mode_of old) given_last old.now (statement_of insert_text (understood log_schema insert_text)) None
+      insert_command (Err stop) → PutStops (next_rowid rows) stop
+  put_stops stop h =
+      ends (next_rowid rows) (is_new rows (rest_of line sum) holds.rising) given_last source_last sourced_last
+      (λ sources h. ap (λ all. (put all).news) h.1 ∙ rw cast_null refl) stop
+      (subst (λ s. Does old.step_limit (mode_of old) given_last (record old.now { schema = s }) (statement_of insert_text (understood log_schema insert_text)) None
       insert_command (Err stop)) holds.schema_is h)
-    where
-      go : Then (Inserts (task old given) source old.now.trees) (Concludes (task old given) (mode_of old) None) (Err stop) → PutStops stop
-      go (inl (s, it, same)) = subst PutStops (sym (stopped_by same)) (inserts s it)
-      go (inr (w, it, ends)) = absurd (never_concludes old given w stop ends)
+
+  -- the first line of a table that has none, with this number
+  module _ (n : ℤ) (none : rows ≡ []) where
+    abbrev given_at : Row
+    given_at = Int n ∷ Text line ∷ Blob sum ∷ []
+
+    abbrev source_at : Source
+    source_at = Values (col 0 0 ∷ lit Null ∷ col 0 1 ∷ col 0 2 ∷ []) 4
+
+    accepts_at : accepts_terms (col 0 0 ∷ lit Null ∷ col 0 1 ∷ col 0 2 ∷ []) given_at ≡ true
+    accepts_at = refl
+
+    sourced_at : (stop : Option Error) → Sourced old.step_limit (record { schema = log_schema; trees = old.now.trees }) given_at source_at (Err stop)
+        → PutStops n stop
+    sourced_at None h = absurd h
+    sourced_at (Some e) (inl typed) = absurd (true≢false (sym accepts_at ∙ typed.1))
+    sourced_at (Some e) (inr late) = inl late
+
+    pub put_at_stops : (stop : Option Error) → Does old.step_limit (mode_of old) given_at old.now (statement_of insert_at_text (understood log_schema insert_at_text))
+        None insert_at_command (Err stop) → PutStops n stop
+    put_at_stops stop h =
+        ends n (ap (λ l. is_taken l (Int n ∷ rest_of line sum)) none) given_at source_at sourced_at
+        (λ sources h. ap (λ all. (put all).news) h.1 ∙ rw (cast_int, cast_null) refl) stop
+        (subst (λ s. Does old.step_limit (mode_of old) given_at (record old.now { schema = s }) (statement_of insert_at_text (understood log_schema insert_at_text))
+        None insert_at_command (Err stop)) holds.schema_is h)
 
 -- ---- DELETE
 

@@ -1,10 +1,13 @@
 -- What a log is left as, however its calls end.
 use Rattle.std.proofs.Common.{◌≡◌, ◌≤◌, inl, inr, ℕ, List, [], ◌∷◌, ◌++◌, true, false, Ok, Err, Result, OnOk, IfErr, map, length, ◌<◌, refl, sym, ap}
 use Rattle.std.proofs.Common.{subst, ◌∙◌, true≢false, length-append, arith}
-use Rattle.std.proofs.Common.{zero, suc, pos, ◌+ℤ◌, take, Contains}
-use Rattle.std.proofs.Common.{get_or}
+use Rattle.std.proofs.Common.{zero, suc, ◌+◌, ℤ, pos, negsuc, ◌+ℤ◌, take, Contains}
+use Rattle.std.proofs.lemmas.Bool.Decides.{nat_tests}
+use Rattle.sha2.specs.Sha256.{sha256}
+use Rattle.std.proofs.Common.{get_or, drop, ◌-◌}
 use Rattle.std.proofs.lemmas.List.Elements.{Contains-get_or}
 use Rattle.std.proofs.lemmas.List.{length-take, length-map, get_or-map}
+use Rattle.std.proofs.Math.Seq.{take-length}
 use Rattle.sqlite_sql.specs.Ops.{fits_i64}
 use Rattle.sqlite_rules.specs.Edit.{next_rowid}
 use Rattle.command_log.specs.declared.fault.LogFault.{LogFault}
@@ -30,7 +33,28 @@ use Rattle.sqlite.specs.declared.error.Error.{Error}
 use Rattle.command_log.specs.Table.{log_schema}
 use Rattle.line_digests.specs.Digests.{digest_after, digests_after}
 use Rattle.line_digests.proofs.Digests.{digests_more}
-use Rattle.command_log.specs.Lines.{HoldsLog, HoldsTable, KeepsLines, IsOpen, IsIdle, IsLog, IsTabled, AreSealed, Puts, PutsAny, lines_of, lines_in}
+use Rattle.command_log.specs.Lines.{HoldsLog, HoldsTable, KeepsLines, IsOpen, IsIdle, IsLog, IsTabled, AreSealed, Puts, PutsAny, PutsAt, HasRoom, lines_of, lines_in}
+
+-- what lines can't be stored for, if each of the two causes is carried over
+stops_so : (rows rows' : List Row) (lines lines' : List (List ℕ)) → (Unstorable rows lines fault.TooBig → Unstorable rows' lines' fault.TooBig)
+    → (Unstorable rows lines fault.NumbersUsedUp → Unstorable rows' lines' fault.NumbersUsedUp) → (f : LogFault) → Unstorable rows lines f
+    → Unstorable rows' lines' f
+stops_so rows rows' lines lines' big used fault.TooBig h = big h
+stops_so rows rows' lines lines' big used fault.NumbersUsedUp h = used h
+stops_so rows rows' lines lines' big used fault.NotALog h = h
+stops_so rows rows' lines lines' big used (fault.DamagedTail m n) h = h
+stops_so rows rows' lines lines' big used fault.OlderLog h = h
+stops_so rows rows' lines lines' big used fault.OutOfMemory h = h
+stops_so rows rows' lines lines' big used fault.Busy h = h
+stops_so rows rows' lines lines' big used fault.CannotOpen h = h
+stops_so rows rows' lines lines' big used fault.Damaged h = h
+stops_so rows rows' lines lines' big used fault.DiskFull h = h
+stops_so rows rows' lines lines' big used fault.Disk h = h
+stops_so rows rows' lines lines' big used fault.Shut h = h
+stops_so rows rows' lines lines' big used fault.NotText h = h
+stops_so rows rows' lines lines' big used fault.Interrupted h = h
+stops_so rows rows' lines lines' big used fault.Store h = h
+stops_so rows rows' lines lines' big used (fault.Altered n) h = h
 
 module _ {S : Type 0} (g : Ghosts S) where
   -- the law that a store which is not clean shows as shut
@@ -118,8 +142,49 @@ module _ {S : Type 0} (g : Ghosts S) where
     digests = one.digests ∙ ap (λ l. l ++ digests_after (digest_after digest more) (line ∷ [])) put.digests
         ∙ append_assoc (map digest_in (rows_of g old)) (digests_after digest more) (digests_after (digest_after digest more) (line ∷ []))
         ∙ ap (λ l. map digest_in (rows_of g old) ++ l) (sym (digests_more digest more (line ∷ [])));
-    number = omega (arith, ints, one.number, put.number, length-append more (line ∷ []));
+    next = omega (arith, ints, one.next, put.next, length-append more (line ∷ []));
   }
+
+  -- more lines after the first
+  pub puts_rest : (old mid new : Held S) (number : ℤ) (digest line : List ℕ) (rest : List (List ℕ)) → PutsAt g number old mid digest (line ∷ [])
+      → PutsAny g mid new (sha256 (digest ++ line)) rest → PutsAt g number old new digest (line ∷ rest)
+  puts_rest old mid new number digest line rest one (inl none) =
+      subst (λ l. PutsAt g number old new digest (line ∷ l)) (sym none.0) (subst (λ h. PutsAt g number old h digest (line ∷ [])) (sym none.1) one)
+  puts_rest old mid new number digest line rest one (inr put) = record {
+    was_open = one.was_open;
+    is_open = put.is_open;
+    inside = put.inside;
+    holds = put.holds;
+    sound = put.sound;
+    lines = put.lines ∙ ap (λ l. l ++ rest) one.lines ∙ append_assoc (lines_in (state g old).now.trees) (line ∷ []) rest;
+    digests = put.digests ∙ ap (λ l. l ++ digests_after (sha256 (digest ++ line)) rest) one.digests
+        ∙ append_assoc (map digest_in (rows_of g old)) (sha256 (digest ++ line) ∷ []) (digests_after (sha256 (digest ++ line)) rest);
+    next = omega (arith, ints, one.next, put.next);
+  }
+
+  -- why one of them can't be stored, if the numbers have room
+  pub rest_stops : (old mid : Held S) (number : ℤ) (digest line : List ℕ) (rest : List (List ℕ)) → HasRoom number (length (line ∷ rest))
+      → PutsAt g number old mid digest (line ∷ []) → (f : LogFault) → Unstorable (rows_of g mid) rest f → Unstorable [] (line ∷ rest) f
+  rest_stops old mid (negsuc n) digest line rest room one f h = absurd room
+  rest_stops old mid (pos n) digest line rest room one f h =
+      stops_so (rows_of g mid) [] rest (line ∷ rest) (λ big. (big.0, (suc big.1.0, omega (arith, big.1.1), big.1.2), big.2)) (λ used. full room used) f h
+    where
+      full : HasRoom (pos n) (length (line ∷ rest)) → Unstorable (rows_of g mid) rest fault.NumbersUsedUp → Unstorable [] (line ∷ rest) fault.NumbersUsedUp
+      full (inl first) used =
+          let at : next_rowid (rows_of g mid) +ℤ pos used.0 ≡ pos 1 +ℤ pos (used.0 + 1) = omega (arith, ints, first, one.next) in
+          (used.0 + 1, omega (arith, used.1), subst (λ z. fits_i64 z ≡ false) at used.2)
+      full (inr room) used =
+          let at : next_rowid (rows_of g mid) +ℤ pos used.0 ≡ pos (n + 1 + used.0) = omega (arith, ints, one.next) in
+          let low : fits_i64 (pos (n + 1 + used.0)) ≡ true = grind (arith, nat_tests, room, used.1) in
+          absurd (true≢false (sym low ∙ sym (ap fits_i64 at) ∙ used.2))
+
+  -- why the first can't be
+  pub first_stops : (line : List ℕ) (rest : List (List ℕ)) (f : LogFault) → Unstorable [] (line ∷ []) f → Unstorable [] (line ∷ rest) f
+  first_stops line rest = stops_so [] [] (line ∷ []) (line ∷ rest) big (λ used. (used.0, omega (arith, used.1), used.2))
+    where
+      big : Unstorable [] (line ∷ []) fault.TooBig → Unstorable [] (line ∷ rest) fault.TooBig
+      big (x, (zero, within, is), long) = (x, (zero, omega arith, is), long)
+      big (x, (suc k, within, is), long) = absurd (omega (arith, within))
 
   -- a log that was open is open
   pub puts_open : (old now : Held S) (digest : List ℕ) (more : List (List ℕ)) → IsOpen g old → PutsAny g old now digest more → IsOpen g now
@@ -140,40 +205,40 @@ module _ {S : Type 0} (g : Ghosts S) (old mid : Held S) (digest : List ℕ) (lin
       let len : i ≡ 0 = omega (arith, low, length-take i lines, ap length none.0) in
       let same : next_rowid (rows_of g mid) ≡ next_rowid (rows_of g old) = ap (λ h. next_rowid (rows_of g h)) none.1 in
       omega (arith, ints, len, same)
-  number_of (inr put) = let len : length (take i lines) ≡ i = omega (arith, low, length-take i lines) in put.number
+  number_of (inr put) = let len : length (take i lines) ≡ i = omega (arith, low, length-take i lines) in put.next
       ∙ ap (λ n. next_rowid (rows_of g old) +ℤ pos n) len
 
   -- why one more line is not put, in the words of all of them
   pub more_stops : (line : List ℕ) → Contains lines line → PutsAny g old mid digest (take i lines) → (f : LogFault) → Unstorable (rows_of g mid) (line ∷ []) f
       → Unstorable (rows_of g old) lines f
-  more_stops line there puts fault.TooBig h = (line, there, subst IsTooLong (alone h.0 line h.1) h.2)
+  more_stops line there puts =
+      stops_so (rows_of g mid) (rows_of g old) (line ∷ []) lines (λ big. (line, there, subst IsTooLong (alone big.0 line big.1) big.2)) full
     where
       alone : (x y : List ℕ) → Contains (y ∷ []) x → x ≡ y
       alone x y (zero, within, is) = sym is
       alone x y (suc k, within, is) = absurd (omega (arith, within))
-  more_stops line there puts fault.NumbersUsedUp h =
-      let first : h.0 ≡ 0 = omega (arith, h.1) in
-      let same : next_rowid (rows_of g mid) +ℤ pos h.0 ≡ next_rowid (rows_of g old) +ℤ pos i = omega (arith, ints, first, number_of puts) in
-      (i, low, subst (λ z. fits_i64 z ≡ false) same h.2)
-  more_stops line there puts fault.NotALog h = h
-  more_stops line there puts (fault.DamagedTail m n) h = h
-  more_stops line there puts fault.OlderLog h = h
-  more_stops line there puts fault.OutOfMemory h = h
-  more_stops line there puts fault.Busy h = h
-  more_stops line there puts fault.CannotOpen h = h
-  more_stops line there puts fault.Damaged h = h
-  more_stops line there puts fault.DiskFull h = h
-  more_stops line there puts fault.Disk h = h
-  more_stops line there puts fault.Shut h = h
-  more_stops line there puts fault.NotText h = h
-  more_stops line there puts fault.Interrupted h = h
-  more_stops line there puts fault.Store h = h
-  more_stops line there puts (fault.Altered n) h = h
+
+      full : Unstorable (rows_of g mid) (line ∷ []) fault.NumbersUsedUp → Unstorable (rows_of g old) lines fault.NumbersUsedUp
+      full used =
+          let first : used.0 ≡ 0 = omega (arith, used.1) in
+          let same : next_rowid (rows_of g mid) +ℤ pos used.0 ≡ next_rowid (rows_of g old) +ℤ pos i = omega (arith, ints, first, number_of puts) in
+          (i, low, subst (λ z. fits_i64 z ≡ false) same used.2)
 
 -- no lines are no rows
 pub no_rows : (rows : List Row) → map line_in rows ≡ [] → rows ≡ []
 no_rows [] none = refl
 no_rows (r ∷ rows) none = cc
+
+-- what follows the first element of a list
+abbrev pub rest_of : {X : Type 0} → List X → List X
+rest_of xs = take (length xs - 1) (drop 1 xs)
+
+-- a list of one element or more is the first and the rest
+pub first_and_rest : {X Y : Type 0} (f : X → Y) (xs : List X) (x : X) → 1 ≤ length xs → x ≡ get_or xs 0 x → map f xs ≡ f x ∷ map f (rest_of xs)
+first_and_rest f [] x some is = absurd (omega (arith, some))
+first_and_rest f (y ∷ xs) x some is =
+    let count : length (y ∷ xs) - 1 ≡ length xs = omega arith in
+    ap (λ z. f z ∷ map f xs) (sym is) ∙ ap (λ l. f x ∷ map f l) (sym (ap (λ n. take n xs) count ∙ take-length xs))
 
 -- the image of an element is an element of the image
 pub contains_at : {X Y : Type 0} (xs : List X) (f : X → Y) (i : ℕ) (x : X) → i < length xs → x ≡ get_or xs i x → Contains (map f xs) (f x)

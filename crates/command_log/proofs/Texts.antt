@@ -27,6 +27,9 @@ use Rattle.command_log.specs.Table.{create_text, command_table, no_schema, log_s
 abbrev pub insert_text : List ℕ
 insert_text = codes "INSERT INTO command (line, digest) VALUES (?1, ?2)"
 
+abbrev pub insert_at_text : List ℕ
+insert_at_text = codes "INSERT INTO command (number, line, digest) VALUES (?1, ?2, ?3)"
+
 abbrev pub first_text : List ℕ
 first_text = codes "SELECT number, line, digest FROM command ORDER BY number LIMIT ?1"
 
@@ -35,6 +38,10 @@ later_text = codes "SELECT number, line, digest FROM command WHERE number > ?1 O
 
 abbrev pub insert_command : Command
 insert_command = Insert 0 (Values (lit Null ∷ lit Null ∷ col 0 0 ∷ col 0 1 ∷ []) 4)
+
+-- the number is a parameter too
+abbrev pub insert_at_command : Command
+insert_at_command = Insert 0 (Values (col 0 0 ∷ lit Null ∷ col 0 1 ∷ col 0 2 ∷ []) 4)
 
 -- by number, ascending
 abbrev pub orders : List (Term × Key)
@@ -61,6 +68,18 @@ IsWhole sql count (Err e) = ⊥
 pub insert_whole : IsWhole insert_text 2 (understood log_schema insert_text)
 unfolding understood everything
 insert_whole = (refl, refl)
+
+pub insert_at_whole : IsWhole insert_at_text 3 (understood log_schema insert_at_text)
+unfolding understood everything
+insert_at_whole = (refl, refl)
+
+pub insert_at_is : command_of (understood log_schema insert_at_text) ≡ insert_at_command
+unfolding understood everything
+insert_at_is = refl
+
+pub insert_at_plain : IsPlain (understood log_schema insert_at_text)
+unfolding understood everything
+insert_at_plain = (refl, refl)
 
 pub create_is : (command_of (understood no_schema create_text) ≡ CreateTable) × (statement_of create_text (understood no_schema create_text) ≡ create_text)
     × (table_defined_by create_text ≡ Ok command_table)

@@ -1,7 +1,8 @@
 -- What an open of files finds.
-use Rattle.std.specs.Prelude.{◌≡◌, ℕ, List, [], Result, Err, IsErrOf, IsTrue, length}
+use Rattle.std.specs.Prelude.{◌≡◌, ◌⊎◌, ℕ, List, [], Result, Err, IsErrOf, IsTrue, length}
 use Rattle.log_tails.specs.declared.tail.Tail.{Tail}
 use Rattle.log_tails.specs.Tails.{IsTailOf, Outgrows}
+use Rattle.log_tails.specs.Rows.{last_row_in}
 use Rattle.sqlite.specs.Recovery.{Image}
 use Rattle.sqlite.specs.Tree.{Trees}
 use Rattle.sqlite.specs.Effect.{Database, IsDatabase}
@@ -12,7 +13,7 @@ use Rattle.sqlite_disk.specs.declared.Files.{Files}
 use Rattle.sqlite.specs.WalReads.{IsClean, OnlyReads}
 use Rattle.sqlite_store.specs.declared.store.FileStore.{FileStore}
 use Rattle.sqlite_store.specs.FileStore as store
-use Rattle.sqlite.specs.Held.{Held}
+use Rattle.sqlite.specs.Held.{Held, state}
 use Rattle.sqlite.specs.State.{HasCleanDisk}
 use Rattle.sqlite.specs.Start.{FindsIn}
 use Rattle.command_log.specs.declared.closed.LogFiles.{LogFiles}
@@ -20,7 +21,7 @@ use Rattle.command_log.specs.declared.fault.LogFault.{LogFault}
 use Rattle.command_log.specs.declared.fault.LogFault.TheVariants.{NotALog, DamagedTail, OlderLog}
 use Rattle.command_log.specs.Table.{IsOther}
 use Rattle.sqlite.specs.Files.{over_files}
-use Rattle.command_log.specs.Lines.{HasLines, HoldsLines, IsOpen, lines_of}
+use Rattle.command_log.specs.Lines.{HasLines, HoldsLines, IsOpen, Reaches, lines_of}
 
 -- the store that the files of a log are in
 abbrev pub store_of : {D : Type 0} {g : Ghosts D} → LogFiles D g → FileStore D g
@@ -85,12 +86,23 @@ module _ {D : Type 0} {g : Ghosts D} where
   RefusesOther image result =
       IsErrOf result NotALog → (c : Held (FileStore D g)) × IsOther (file_state c).now.schema × (HasCleanDisk (file_state c) → FindsIn image (file_state c))
 
+  -- the log has a line with the number of the last one that the database file alone has, or with a larger one
+  abbrev pub ReachesFile : Image → Held (FileStore D g) → Type 0
+  ReachesFile image log = Reaches over_files log (last_row_in image.db)
+
+-- with an honest disk, a log that was found in the files has only lines with smaller numbers than the last one of the file alone
+pub record IsOvertaken {D : Type 0} (g : Ghosts D) (image : Image) (db : D) : Type 0 where
+  pub log : Held (FileStore D g)
+  pub found : HasCleanDisk (state over_files log) → FindsLines image (lines_of over_files log)
+  pub short : IsClean g db → HasCleanDisk (state over_files log) → ¬ ReachesFile image log
+
+module _ {D : Type 0} {g : Ghosts D} where
   -- files are refused for the end of the log only if it was read, with an honest disk, to be what no crash leaves, and for an
-  -- older log only if both were
+  -- older log only if both were read and the file is longer than the log says, or has a line with a larger number
   abbrev pub IsCutShort : Image → Result (Held (FileStore D g)) LogFault → Type 0
   IsCutShort image (Err (DamagedTail commits following)) = (log : D) × IsLeftByReads g image.log log × (IsClean g log → EndsDamaged image commits following)
   IsCutShort image (Err OlderLog) =
-      (log db : D) × IsLeftByReads g image.log log × IsLeftByReads g image.db db × (IsClean g log → IsClean g db → IsOutgrown image)
+      (log db : D) × IsLeftByReads g image.log log × IsLeftByReads g image.db db × ((IsClean g log → IsClean g db → IsOutgrown image) ⊎ IsOvertaken g image db)
   IsCutShort image _ = Unit {0}
 
   -- Whatever a crash at this moment leaves of the files, the lines of a log that an open of them finds are these.

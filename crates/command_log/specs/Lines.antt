@@ -1,5 +1,5 @@
 -- The lines of a log, and what a call may do to them.
-use Rattle.std.specs.Prelude.{◌≡◌, ◌⊎◌, ℕ, ℤ, pos, ◌+ℤ◌, Bool, true, false, List, [], ◌∷◌, ◌++◌, length, map, filter, fold, Option, None, Some, IsTrue}
+use Rattle.std.specs.Prelude.{◌≡◌, ◌≢◌, ◌⊎◌, ⊤, ◌-◌, ℕ, ◌+◌, ◌^◌, ◌<◌, ℤ, pos, negsuc, ◌+ℤ◌, Bool, true, false, List, [], ◌∷◌, ◌++◌, length, map, filter, fold, Option, None, Some, IsTrue}
 use Rattle.std.specs.Ordering.{is_lt, int_cmp}
 use Rattle.std.specs.List.{AllByRecursion}
 use Rattle.sqlite.specs.Order.{Row}
@@ -13,7 +13,7 @@ use Rattle.sqlite_trees.specs.View.{is_int}
 use Rattle.sqlite.specs.Store.{Ghosts}
 use Rattle.sqlite.specs.Effect.{Database, IsDatabase}
 use Rattle.sqlite.specs.Held.{Held, state}
-use Rattle.sqlite.specs.State.{HasCleanDisk}
+use Rattle.sqlite.specs.State.{HasCleanDisk, Survives}
 use Rattle.line_digests.specs.Digests.{digests_after, digests_of}
 use Rattle.command_log.specs.Table.{log_schema, no_schema}
 
@@ -66,6 +66,11 @@ pub record IsLineRow (r : Row) : Type 0 where
 -- the place after rows that were shown
 abbrev pub place_after : Option ℤ → List Row → Option ℤ
 place_after = fold (λ _ r. Some (id_in (column r 0)))
+
+-- so many lines can have numbers from this one on, unless it is the first of all
+abbrev pub HasRoom : ℤ → ℕ → Type 0
+HasRoom (pos number) count = (number ≡ 1) ⊎ (number + count < 2 ^ 63)
+HasRoom (negsuc number) count = ⊥
 
 -- ---- what a database holds
 
@@ -138,8 +143,8 @@ module _ {S : Type 0} (g : Ghosts S) where
     pub idle : IsIdle h
     pub holds : IsOpen h → HoldsLog (state g h).now
 
-  -- a transaction has appended these lines, with the digests that follow from the one before
-  pub record Puts (old new : Held S) (digest : List ℕ) (more : List (List ℕ)) : Type 0 where
+  -- a transaction has appended these lines, of which the first has this number, with the digests that follow from the one before
+  pub record PutsAt (number : ℤ) (old new : Held S) (digest : List ℕ) (more : List (List ℕ)) : Type 0 where
     pub was_open : IsOpen old
     pub is_open : IsOpen new
     pub inside : new.in_transaction ≡ true
@@ -147,15 +152,28 @@ module _ {S : Type 0} (g : Ghosts S) where
     pub sound : IsDatabase (state g new).now
     pub lines : lines_in (state g new).now.trees ≡ lines_in (state g old).now.trees ++ more
     pub digests : map digest_in (rows_of new) ≡ map digest_in (rows_of old) ++ digests_after digest more
-    pub number : next_rowid (rows_of new) ≡ next_rowid (rows_of old) +ℤ pos (length more)
+    pub next : next_rowid (rows_of new) ≡ number +ℤ pos (length more)
+
+  -- the first has the number after the last one that was there
+  abbrev pub Puts : Held S → Held S → List ℕ → List (List ℕ) → Type 0
+  Puts old = PutsAt (next_rowid (rows_of old)) old
 
   -- or no line so far
+  abbrev pub PutsAnyAt : ℤ → Held S → Held S → List ℕ → List (List ℕ) → Type 0
+  PutsAnyAt number old new digest more = ((more ≡ []) × (new ≡ old)) ⊎ PutsAt number old new digest more
+
+  -- the same of lines after the others
   abbrev pub PutsAny : Held S → Held S → List ℕ → List (List ℕ) → Type 0
-  PutsAny old new digest more = ((more ≡ []) × (new ≡ old)) ⊎ Puts old new digest more
+  PutsAny old = PutsAnyAt (next_rowid (rows_of old)) old
 
   -- the rows that a query shows of the lines after a place
   abbrev pub GivesRows : Held S → Option ℤ → ℤ → List Row → Type 0
   GivesRows h place limit rows = IsOpen h × (rows ≡ limited (as_count (Int limit)) (map row_of_query (rows_after place ((state g h).now.trees 0))))
+
+  -- it has a line with this number or a larger one, if there is a number
+  abbrev pub Reaches : Held S → Option ℕ → Type 0
+  Reaches h None = ⊤
+  Reaches h (Some number) = lines_left h (Some (pos (number - 1))) ≢ []
 
   -- the trees that a commit of the new lines leaves
   abbrev pub IsAppended : Held S → List (List ℕ) → Trees → Type 0
@@ -177,6 +195,14 @@ module _ {S : Type 0} (g : Ghosts S) where
   -- the trees that the making of a log leaves
   abbrev pub IsMade : Held S → Trees → Type 0
   IsMade old db = ((state g old).now.schema ≡ no_schema) × KeepsLines [] db
+
+  -- with an honest disk the log that was found in a connection doesn't reach this number
+  pub record FallsShort (conn : Held S) (number : Option ℕ) : Type 0 where
+    pub log : Held S
+    pub survives : Survives (state g conn) (state g log) (IsMade conn)
+    pub lines : IsOpen log → HoldsLines (state g conn).now (lines_of log)
+    pub opened : HasCleanDisk (state g log) → IsOpen conn → IsOpen log
+    pub short : HasCleanDisk (state g log) → IsOpen conn → ¬ Reaches log number
 
   -- the trees that a commit of other lines leaves
   abbrev pub IsReplaced : Held S → List (List ℕ) → Trees → Type 0

@@ -55,8 +55,9 @@ pub enum LogFault {
     #[error("its log is damaged after commit {commits}; {following} bytes follow")]
     DamagedTail { commits: usize, following: usize },
     /// The database file is longer than the last commit in SQLite's log beside it leaves it, and a
-    /// file is never made shorter. An open would show the file as it was at that commit, and copy
-    /// that over what has come since.
+    /// file is never made shorter; or it has a line with a larger number than the log's last one, and
+    /// numbers only grow. An open would show the file as it was at that commit, and copy that over
+    /// what has come since.
     #[error("its log is older than the file, or another file's")]
     OlderLog,
     /// The limit on the steps of a statement was met. Only a caller of

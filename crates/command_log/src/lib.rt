@@ -7,6 +7,7 @@ mod closed;
 mod fault;
 mod lines;
 mod log;
+mod numbering;
 mod opening;
 mod table;
 mod testing;

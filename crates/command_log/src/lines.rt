@@ -12,7 +12,8 @@ ghost use Rattle.command_log.specs.Faults.{AreText};
 ghost use Rattle.command_log.specs.Inside.{IsInside, InLog, ReadsRows};
 ghost use Rattle.sha2.specs.Sha256.{sha256};
 ghost use Rattle.line_digests.specs.Digests.{digest_after, digest_of};
-ghost use Rattle.command_log.specs.Lines.{IsLineRow, IsOpen, IsLog, IsTabled, Puts, PutsAny, Makes};
+ghost use Rattle.command_log.specs.Lines.{IsLineRow, IsOpen, IsLog, IsTabled, Makes, Puts, PutsAny};
+ghost use Rattle.command_log.specs.Lines.{HasRoom, PutsAnyAt, PutsAt};
 ghost use Rattle.command_log.specs.Lines.{IsAppended, IsReplaced, GivesRows, text_in, place_after};
 ghost use Rattle.command_log.specs.Lines.{rows_of, lines_of, lines_left};
 
@@ -22,6 +23,8 @@ use sqlite_trees::store::Alter;
 use std::alloc::Global;
 
 const INSERT: &str = "INSERT INTO command (line, digest) VALUES (?1, ?2)";
+
+const INSERT_AT: &str = "INSERT INTO command (number, line, digest) VALUES (?1, ?2, ?3)";
 
 const CLEAR: &str = "DELETE FROM command";
 
@@ -90,6 +93,66 @@ fn put_lines<S: Alter>(
     Ok(())
 }
 
+/// Puts one line with its digest and this number into a table that has none.
+fn put_sealed_at<S: Alter>(
+    tx: &mut Transaction<'_, S>,
+    number: i64,
+    line: &str,
+    digest: &[u8],
+) -> Result<usize, Error>
+    requires inside { IsInside S.Store tx.old }
+    requires none { IsOpen S.Store tx.old.conn.now → rows_of S.Store tx.old.conn.now ≡ [] }
+    requires digest { length digest.now ≡ 32 }
+    ensures { (before : List ℕ) → digest.now ≡ sha256 (before ++ line.now)
+        → InLog S.Store tx.old tx.new result
+        (λ _. PutsAt S.Store number tx.old.conn.now tx.new.conn.now before (line.now ∷ []))
+        (Unstorable [] (line.now ∷ [])) }
+{
+    tx.execute(INSERT_AT, params![number, line, digest])
+}
+
+/// Puts the first line, which the digest goes on after, with this number into a table that has none.
+fn put_line_at<S: Alter>(
+    tx: &mut Transaction<'_, S>,
+    number: i64,
+    first: &str,
+    digest: &mut LineDigest,
+) -> Result<usize, Error>
+    requires inside { IsInside S.Store tx.old }
+    requires none { IsOpen S.Store tx.old.conn.now → rows_of S.Store tx.old.conn.now ≡ [] }
+    ensures puts { InLog S.Store tx.old tx.new result
+        (λ _. PutsAt S.Store number tx.old.conn.now tx.new.conn.now digest.old (first.now ∷ []))
+        (Unstorable [] (first.now ∷ [])) }
+    ensures digest { digest.new ≡ sha256 (digest.old ++ first.now) }
+{
+    digest.add(first.as_bytes());
+    put_sealed_at(tx, number, first, digest.as_bytes())
+}
+
+/// Puts the lines, in order, into a table that has none, up to the first that fails. The first gets
+/// this number. The digest goes on after them.
+fn put_lines_at<S: Alter>(
+    tx: &mut Transaction<'_, S>,
+    number: i64,
+    lines: &[String],
+    digest: &mut LineDigest,
+) -> Result<(), Error>
+    requires inside { IsInside S.Store tx.old }
+    requires none { IsOpen S.Store tx.old.conn.now → rows_of S.Store tx.old.conn.now ≡ [] }
+    requires room { HasRoom number (length lines.now) }
+    ensures puts { InLog S.Store tx.old tx.new result
+        (λ _. PutsAnyAt S.Store number tx.old.conn.now tx.new.conn.now digest.old
+        (map string_bytes lines.now)) (Unstorable [] (map string_bytes lines.now)) }
+    ensures digest { OnOk result
+        (digest.new ≡ digest_after digest.old (map string_bytes lines.now)) }
+{
+    let [first, rest @ ..] = lines else {
+        return Ok(());
+    };
+    put_line_at(tx, number, first.as_str(), digest)?;
+    put_lines(tx, rest, digest)
+}
+
 /// Appends all of the lines, or none. There is at least one. The digest, which is that of the lines
 /// so far, goes on after them.
 pub(crate) fn put_all<S: Alter>(
@@ -129,14 +192,16 @@ fn clear<S: Alter>(tx: &mut Transaction<'_, S>) -> Result<usize, Error>
     tx.execute(CLEAR, &[])
 }
 
-/// Replaces all lines with these, or changes nothing. The digest, which is that of no line, goes on
-/// after them.
+/// Replaces all lines with these, of which the first gets this number, or changes nothing. The
+/// digest, which is that of no line, goes on after them.
 pub(crate) fn replace_all<S: Alter>(
     conn: &mut Connection<S>,
+    number: i64,
     lines: &[String],
     digest: &mut LineDigest,
 ) -> Result<(), Error>
     requires log { IsLog S.Store conn.old }
+    requires room { HasRoom number (length lines.now) }
     requires digest { digest.old ≡ digest_of [] }
     ensures log { IsLog S.Store conn.new }
     ensures ok { IsOpen S.Store conn.new → OnOk result
@@ -154,7 +219,7 @@ pub(crate) fn replace_all<S: Alter>(
 {
     let mut tx = conn.transaction();
     clear(&mut tx)?;
-    put_lines(&mut tx, lines, digest)?;
+    put_lines_at(&mut tx, number, lines, digest)?;
     tx.commit()
 }
 

@@ -15,6 +15,7 @@ ghost use Rattle.std.specs.Prelude.{
   OnOk,
   OnErr,
   IsTrue,
+  IfSome,
   IsErrAnd,
 };
 ghost use Rattle.std.specs.String.{string_bytes};
@@ -33,14 +34,17 @@ ghost use Rattle.command_log.specs.Lines.{
   IsReplaced,
   IsMade,
   KeepsLines,
+  FallsShort,
   HoldsLines,
   MayHold,
   MayLeave,
+  Reaches,
   lines_of,
   lines_left,
   rows_of,
 };
 ghost use Rattle.line_digests.specs.Digests.{digest_of};
+ghost use Rattle.log_tails.specs.Rows.{IsNumber};
 ghost use Rattle.command_log.specs.Table.{log_schema, IsOther};
 ghost use Rattle.command_log.specs.Faults.{IsCaused, IsCloseFault, IsPlain, Unreadable, Unsealed, Unstorable};
 ghost use Rattle.sqlite.specs.WalReads.{AreClean};
@@ -53,8 +57,9 @@ use crate::batch::{Batch, LogPlace};
 use crate::closed::LogFiles;
 use crate::fault::LogFault;
 use crate::lines::{NO_LIMIT, ReadLines, put_all, read_after, replace_all};
+use crate::numbering::{last_after, number_after};
 use crate::table::{Holds, held_by, make};
-use crate::testing::test_all;
+use crate::testing::{Tested, test_all};
 use line_digests::LineDigest;
 use sqlite::{Connection, FileStore, MemStore};
 use sqlite_disk::{Disk, Files};
@@ -69,6 +74,9 @@ pub struct CommandLog<S: Alter> {
     alloc: Global,
     // Of the lines of an open log.
     digest: LineDigest,
+    // The number of its last line. Contracts don't see it: it decides alone which numbers new lines
+    // get when all are replaced.
+    last: i64,
 }
 
 impl<S: Alter> Model for CommandLog<S> {
@@ -93,6 +101,7 @@ impl<S: Alter + Drop> Drop for CommandLog<S> {
             conn: _,
             alloc: _,
             digest: _,
+            last: _,
         } = self;
     }
 }
@@ -154,10 +163,11 @@ impl<S: Alter + Drop> CommandLog<S> {
     {
         match held_by(conn.schema()) {
             Holds::Log => match test_all(&mut conn) {
-                Ok(digest) => Ok(CommandLog {
+                Ok(Tested { place, digest, .. }) => Ok(CommandLog {
                     conn,
                     alloc,
                     digest,
+                    last: place.unwrap_or(0),
                 }),
                 Err(fault) => Err((fault, conn)),
             },
@@ -166,6 +176,7 @@ impl<S: Alter + Drop> CommandLog<S> {
                     conn,
                     alloc,
                     digest: LineDigest::new(),
+                    last: 0,
                 }),
                 Err(error) => Err((error.into(), conn)),
             },
@@ -173,25 +184,61 @@ impl<S: Alter + Drop> CommandLog<S> {
         }
     }
 
-    /// Takes the log as [`over`](CommandLog::over) does. A connection that isn't taken is dropped. It is
-    /// over any store: each call of such a function over the store of files takes the prover long.
-    pub(crate) fn taken(alloc: Global, conn: Connection<S>) -> Result<CommandLog<S>, LogFault>
+    /// Takes the log as [`over`](CommandLog::over) does, if it has a line with this number or a larger
+    /// one, and else refuses it as [`OlderLog`](LogFault::OlderLog). A connection that isn't taken is
+    /// dropped. It is over any store: each call of such a function over the store of files takes the
+    /// prover long.
+    pub(crate) fn taken(
+        alloc: Global,
+        conn: Connection<S>,
+        number: Option<u64>,
+    ) -> Result<CommandLog<S>, LogFault>
         requires idle { IsIdle S.Store conn }
         requires orderly { IsOrderly S.Store conn }
+        requires number { IfSome number IsNumber }
         ensures lines { IfOk result (λ log. IsOpen S.Store log
             → HoldsLines (state S.Store conn).now (lines_of S.Store log)) }
+        ensures reaches { IfOk result (λ log. IsOpen S.Store log → Reaches S.Store log number) }
         ensures survives { IfOk result (λ log. Survives (state S.Store conn) (state S.Store log)
             (IsMade S.Store conn)) }
         ensures other { IfErr result (λ fault. fault ≡ LogFault.NotALog
             → IsOther (state S.Store conn).now.schema) }
-        ensures plain { IfErr result (λ fault. (fault ≡ LogFault.NotALog) ⊎ IsPlain fault) }
+        ensures older { IfErr result (λ fault. fault ≡ LogFault.OlderLog → FallsShort S.Store conn number) }
+        ensures plain { IfErr result (λ fault. (fault ≡ LogFault.NotALog)
+            ⊎ ((fault ≡ LogFault.OlderLog) ⊎ IsPlain fault)) }
         ensures stays { IfOk result (λ log. HasCleanDisk (state S.Store log) → IsOpen S.Store conn
             → IsOpen S.Store log) }
     {
-        match CommandLog::over(alloc, conn) {
-            Ok(log) => Ok(log),
-            Err((fault, _)) => Err(fault),
+        let mut log = match CommandLog::over(alloc, conn) {
+            Ok(log) => log,
+            Err((fault, _)) => return Err(fault),
+        };
+        if log.reaches(number)? {
+            Ok(log)
+        } else {
+            Err(LogFault::OlderLog)
         }
+    }
+
+    /// Returns whether the log has a line with this number or a larger one, if there is a number.
+    fn reaches(&mut self, number: Option<u64>) -> Result<bool, LogFault>
+        requires { IfSome number IsNumber }
+        ensures reaches { HasCleanDisk (state S.Store self.new)
+            → IfOk result (λ it. IsTrue it ↔ Reaches S.Store self.old number) }
+        ensures committed { IsOpen S.Store self.new
+            → (state S.Store self.new).committed ≡ (state S.Store self.old).committed }
+        ensures stays { HasCleanDisk (state S.Store self.new) → OnOk result
+            (IsOpen S.Store self.old → IsOpen S.Store self.new) }
+        ensures shut { IsOpen S.Store self.new → IsOpen S.Store self.old }
+        ensures survives { Survives (state S.Store self.old) (state S.Store self.new) (λ _. ⊥) }
+        ensures plain { IfErr result IsPlain }
+    {
+        let Some(number) = number else {
+            return Ok(true);
+        };
+        let place = i64::try_from(number - 1).ok();
+        let ReadLines { lines, next: _ } = read_after(self.alloc, &mut self.conn, place, 1)?;
+        Ok(!lines.is_empty())
     }
 
     /// Returns the store of a log, in which nothing is under way.
@@ -209,6 +256,7 @@ impl<S: Alter + Drop> CommandLog<S> {
             conn,
             alloc: _,
             digest: _,
+            last: _,
         } = self;
         // Called for its clause alone: what an open connection knows of its tables.
         let _schema = conn.schema();
@@ -232,6 +280,7 @@ impl<D: Disk + Drop> CommandLog<FileStore<D>> {
             conn,
             alloc: _,
             digest: _,
+            last: _,
         } = self;
         // Called for its clause alone: what an open connection knows of its tables.
         let _schema = conn.schema();
@@ -291,10 +340,13 @@ impl<S: Alter> CommandLog<S> {
         let mut digest = self.digest;
         put_all(&mut self.conn, lines, &mut digest)?;
         self.digest = digest;
+        self.last = last_after(self.last, lines.len());
         Ok(())
     }
 
-    /// Replaces all lines with these, or changes nothing.
+    /// Replaces all lines with these, or changes nothing. Their numbers go on after the last one, as
+    /// long as there are so many: so a database file that has a line with a larger number than all of
+    /// the log is newer than the log.
     pub fn replace(&mut self, lines: &[String]) -> Result<(), LogFault>
         ensures ok { IsOpen S.Store self.new → OnOk result
             (lines_of S.Store self.new ≡ map string_bytes lines.now) }
@@ -312,8 +364,10 @@ impl<S: Alter> CommandLog<S> {
             (IsReplaced S.Store self.old (map string_bytes lines.now)) }
     {
         let mut digest = LineDigest::new();
-        replace_all(&mut self.conn, lines, &mut digest)?;
+        let number = number_after(self.last, lines.len());
+        replace_all(&mut self.conn, number, lines, &mut digest)?;
         self.digest = digest;
+        self.last = last_after(number.saturating_sub(1), lines.len());
         Ok(())
     }
 

@@ -8,11 +8,11 @@ ghost use Rattle.sqlite_std_file.specs.File.{file_is_usable, IsFresh};
 ghost use Rattle.command_log.specs.Lines.{IsOpen, lines_of};
 ghost use Rattle.command_log.specs.Found.{FindsLines, ReadsLines, RefusesOther};
 ghost use Rattle.command_log.specs.Faults.{IsPlain};
-ghost use Rattle.command_log.specs.Found.{CoversFile, EndsWhole, IsCutShort};
+ghost use Rattle.command_log.specs.Found.{CoversFile, EndsWhole, IsCutShort, ReachesFile};
 
 use crate::fault::LogFault;
 use crate::log::CommandLog;
-use log_tails::{outgrows, tail_of};
+use log_tails::{last_row, outgrows, tail_of};
 use sqlite::{Connection, FileFrom, FileStore, Start};
 use sqlite_disk::{Disk, Files};
 use sqlite_pager::Options;
@@ -37,6 +37,8 @@ impl<S: Start> CommandLog<FileStore<FileFrom<S>>> {
             → ReadsLines (image_at S.Start) (lines_of over_files log)) }
         ensures whole { IfOk result (λ log. IsOpen over_files log → EndsWhole (image_at S.Start)) }
         ensures covers { IfOk result (λ log. IsOpen over_files log → CoversFile (image_at S.Start)) }
+        ensures newest { IfOk result (λ log. IsOpen over_files log
+            → ReachesFile (image_at S.Start) log) }
         ensures cut { IsCutShort (image_at S.Start) result }
         ensures other { RefusesOther (image_at S.Start) result }
 
@@ -93,7 +95,8 @@ impl<D: Disk + Drop> CommandLog<FileStore<D>> {
     /// Takes the log in a database file and SQLite's log beside it, or makes one in files that hold
     /// nothing. A log beside the file that ends otherwise than a crash leaves it is refused as
     /// [`DamagedTail`](LogFault::DamagedTail), and one that leaves the database shorter than the
-    /// file is as [`OlderLog`](LogFault::OlderLog). Then nothing is written.
+    /// file is, or without a line that the file alone has, as [`OlderLog`](LogFault::OlderLog). Then
+    /// no line is written.
     pub fn open_files(
         alloc: Global,
         mut files: Files<D>,
@@ -112,6 +115,10 @@ impl<D: Disk + Drop> CommandLog<FileStore<D>> {
             → EndsWhole (image_of D.Disk files)) }
         ensures covers { IfOk result (λ log. IsOpen over_files log
             → CoversFile (image_of D.Disk files)) }
+
+        // The log has the number of the last line that the database file alone has, or a larger one.
+        ensures newest { IfOk result (λ log. IsOpen over_files log
+            → ReachesFile (image_of D.Disk files) log) }
         ensures cut { IsCutShort (image_of D.Disk files) result }
         ensures other { RefusesOther (image_of D.Disk files) result }
         ensures opened { IfOk result (λ log. HasCleanDisk (state over_files log)
@@ -128,10 +135,11 @@ impl<D: Disk + Drop> CommandLog<FileStore<D>> {
         if is_older {
             return Err(LogFault::OlderLog);
         }
+        let number = last_row(alloc, &mut files.db)?;
         let conn = match Connection::open_files(alloc, files, options) {
             Ok(conn) => conn,
             Err((error, _)) => return Err(error.into()),
         };
-        CommandLog::taken(alloc, conn)
+        CommandLog::taken(alloc, conn, number)
     }
 }

@@ -24,9 +24,9 @@ const STEP: i64 = 1_000;
 #[derive(Clone, Copy)]
 pub(crate) struct Tested {
     // The number of the last of them.
-    place: Option<i64>,
+    pub(crate) place: Option<i64>,
     // Of their lines.
-    digest: LineDigest,
+    pub(crate) digest: LineDigest,
     lines: u64,
 }
 
@@ -93,12 +93,12 @@ fn test_more<S: Alter>(conn: &mut Connection<S>, tested: &mut Tested) -> Result<
     Ok(!rows.is_empty())
 }
 
-/// Tests the digests of all lines, and returns the last one. It reads each line once, some at a time.
-pub(crate) fn test_all<S: Alter>(conn: &mut Connection<S>) -> Result<LineDigest, LogFault>
+/// Tests the digests of all lines. It reads each line once, some at a time.
+pub(crate) fn test_all<S: Alter>(conn: &mut Connection<S>) -> Result<Tested, LogFault>
     requires { IsTabled S.Store conn.old }
     ensures log { OnOk result (IsLog S.Store conn.new) }
-    ensures digest { IfOk result (λ digest. IsOpen S.Store conn.new
-        → digest ≡ digest_of (lines_of S.Store conn.new)) }
+    ensures digest { IfOk result (λ tested. IsOpen S.Store conn.new
+        → tested.digest ≡ digest_of (lines_of S.Store conn.new)) }
     ensures committed { IsOpen S.Store conn.new
         → (state S.Store conn.new).committed ≡ (state S.Store conn.old).committed }
     ensures shut { IsOpen S.Store conn.new → IsOpen S.Store conn.old }
@@ -118,7 +118,7 @@ pub(crate) fn test_all<S: Alter>(conn: &mut Connection<S>) -> Result<LineDigest,
     // There are no more lines than there are numbers for them.
     'rows: for _ in 0..u64::MAX {
         if !test_more(conn, &mut tested)? {
-            return Ok(tested.digest);
+            return Ok(tested);
         }
     }
     Err(LogFault::OutOfMemory)

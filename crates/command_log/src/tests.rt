@@ -1,4 +1,4 @@
-//! That calls succeed on a log in memory, which no clause can say.
+//! What no clause says: that calls succeed on a log in memory, and that numbers go on over a replace.
 use crate::batch::LogPlace;
 use crate::fault::LogFault;
 use crate::log::CommandLog;
@@ -45,6 +45,19 @@ fn replaces(rt: HostRuntime) -> Result<(), Fail> {
     let lines = log.read()?;
     assert_eq!(rt; lines.len(), 1);
     assert_eq!(rt; lines[0].as_str(), "four");
+    Ok(())
+}
+
+#[test]
+fn numbers_go_on_over_a_replace(rt: HostRuntime) -> Result<(), Fail> {
+    let alloc = rt.alloc();
+    let mut log = log_of(alloc, &["one", "two"])?;
+    let old = log.read_batch(LogPlace::start(), 3)?;
+    let other = texts(alloc, &["three"])?;
+    log.replace(&other)?;
+    log.append(&other)?;
+    let new = log.read_batch(old.next, 3)?;
+    assert_eq!(rt; new.lines.len(), 2);
     Ok(())
 }
 

@@ -5,7 +5,9 @@
 
 mod bytes;
 mod laws;
+mod rows;
 mod tail;
 
 pub use laws::{law_of_crashes, law_of_damage};
+pub use rows::last_row;
 pub use tail::{Tail, outgrows, tail_of};

@@ -3,9 +3,9 @@
     examples/salvage [--program PATH] FILE OUT
 
 The lines of FILE and FILE-wal are read in order, up to the first that doesn't have its digest or can't be read; so are
-those of FILE alone, and are taken if they are more. The program carries out the edits among them over OUT, which may
-not be there yet. FILE and FILE-wal stay as they are: a copy of them is read, in the folder for temporary files. Nothing
-may serve the site meanwhile.
+those of FILE alone, and are taken if they end at a larger number. The program carries out the edits among them over
+OUT, which may not be there yet. FILE and FILE-wal stay as they are: a copy of them is read, in the folder for temporary
+files. Nothing may serve the site meanwhile.
 
 Standard output has what `site --database OUT --check` says: how many edits were saved, and the digest of OUT's history.
 Standard error has what was left, and why. Edits that are lost together with their digests, as those of a FILE-wal that
@@ -38,7 +38,7 @@ from geanmarbles.output import quiet_output
 
 # The bytes of a file that SQLite locks to read it: how many, and from where on.
 READ_LOCK = (510, 0x4000_0002)
-ROWS = "SELECT line, digest FROM command ORDER BY number"
+ROWS = "SELECT number, line, digest FROM command ORDER BY number"
 # What SQLite's faults come as: one that quotes a damaged schema may be no text.
 FAULTS = (sqlite3.Error, UnicodeDecodeError)
 DAMAGED = re.compile(r"-wal is damaged after commit \d+; \d+ bytes follow")
@@ -109,7 +109,7 @@ def damage_of_log(program: str, file: Path) -> list[str]:
     return [f"{file}{found[0]}"] if found else []
 
 
-def rows_of(connection: sqlite3.Connection) -> Iterator[tuple[Any, Any]]:
+def rows_of(connection: sqlite3.Connection) -> Iterator[tuple[int, Any, Any]]:
     """The rows in order, up to one that can't be read."""
     count = 0
     try:
@@ -133,21 +133,27 @@ def counted(rows: Iterator[object]) -> str:
     return f"{count} {more}"
 
 
-def sound_lines(copy: Path, file: Path, left: list[str]) -> Iterator[bytes]:
-    """The lines of a file, by its copy, up to the first that isn't sound; `left` then has why it isn't."""
-    number, digest = 0, NOTHING
+def sound_rows(copy: Path, file: Path, left: list[str]) -> Iterator[tuple[int, bytes]]:
+    """The lines of a file with their numbers, by its copy, up to the first that isn't sound; `left` then has why it
+    isn't."""
+    count, digest = 0, NOTHING
     try:
         with contextlib.closing(sqlite3.connect(copy)) as connection:
             connection.text_factory = bytes
             rows = rows_of(connection)
-            for line, noted in rows:
+            for number, line, noted in rows:
                 if not isinstance(line, bytes) or (digest := digest_after(digest, line)) != noted:
-                    left.append(f"line {number + 1} of {file} doesn't have its digest; {counted(rows)}")
+                    left.append(f"line {count + 1} of {file} doesn't have its digest; {counted(rows)}")
                     return
-                number += 1
-                yield line
+                count += 1
+                yield number, line
     except FAULTS as fault:
-        left.append(f"{file} can't be read after line {number}: {fault}")
+        left.append(f"{file} can't be read after line {count}: {fault}")
+
+
+def sound_lines(copy: Path, file: Path, left: list[str]) -> Iterator[bytes]:
+    """The same without the numbers."""
+    return (line for _, line in sound_rows(copy, file, left))
 
 
 def carried_out(program: str, out: Path, edits: Iterator[bytes]) -> Refused | None:
@@ -193,9 +199,10 @@ def summary_of(file: Path) -> tuple[bytes, str]:
     return identity, str(chain)
 
 
-def length(copy: Path, file: Path) -> int:
-    """How many lines are sound."""
-    return sum(1 for _ in sound_lines(copy, file, []))
+def last_number(copy: Path, file: Path) -> int:
+    """The number of the last line that is sound, or 0. Numbers only grow, over `--compact` too, which makes a history
+    shorter."""
+    return max((number for number, _ in sound_rows(copy, file, [])), default=0)
 
 
 def saved(program: str, file: Path, out: Path) -> tuple[str, list[str]]:
@@ -204,7 +211,7 @@ def saved(program: str, file: Path, out: Path) -> tuple[str, list[str]]:
         raise NotSaved(f"there is no file {file}")
     identity, left = identity_of(program), damage_of_log(program, file)
     with copied(file) as both, copied(file, with_log=False) as alone:
-        copy, more = both, length(alone, file) - length(both, file)
+        copy, more = both, last_number(alone, file) - last_number(both, file)
         if more > 0:
             copy = alone
             left.append(f"{log_of(file)} is left: {file} has {more} more sound lines without it")

@@ -11,7 +11,7 @@ from typing import NamedTuple
 
 from geanmarbles.checks.database.clients import Cases, Client, check_end, over, put, run, same_pages
 from geanmarbles.checks.database.damage import FRAME, HEADER, OLDER, SALT, check_refusal
-from geanmarbles.checks.database.files import copied, found_by_sqlite, history, log_of
+from geanmarbles.checks.database.files import copied, found_by_sqlite, history, last_number, log_of, opened
 from geanmarbles.client.replies import Wrong
 
 # How many moments of a site are kept, and of how many pairs of them, both ways, a start is judged.
@@ -21,6 +21,8 @@ PATHS = ("/", "/?p=1", "/?p=9", "/?p=60")
 EMPTY = 41
 # The size of a page, as a new file has it.
 PAGE = 4_096
+# The first byte of a page that has rows of a table.
+LEAF = 13
 # Sizes of contents: one is larger than a page of the file.
 SIZES = (10, 300, 5_000)
 
@@ -91,17 +93,19 @@ class Mixed:
             shutil.copyfile(file.file, copy)
             shutil.copyfile(log_of(log.file), log_of(copy))
             before = copy.read_bytes(), log_of(copy).read_bytes()
-            ran = run(self.program, b"", *over(copy))
             is_longer = 0 < database_of(before[1]) < len(before[0])
+            has_more = self.last_alone(file) > last_number(copied(copy, folder, "both.db"))
+            ran = run(self.program, b"", *over(copy))
             if ran.returncode == 1:
                 said = ran.stderr.decode(errors="replace")
                 check_refusal(copy, said, ran.stdout, before)
-                if is_longer != (OLDER.fullmatch(said.removeprefix(f"site: {copy}")) is not None):
+                is_older = OLDER.fullmatch(said.removeprefix(f"site: {copy}")) is not None
+                if is_older and not (is_longer or has_more) or is_longer and not is_older:
                     raise Wrong(f"FILE is {'longer' if is_longer else 'no longer'} than its log says: {said!r}")
-                self.counts["refused"] += 1
+                self.counts["refused as older" if is_older else "refused"] += 1
                 return
-            if is_longer:
-                raise Wrong("FILE is longer than its log says, and isn't refused")
+            if is_longer or has_more:
+                raise Wrong(f"FILE {'is longer than its log says' if is_longer else 'has more'}, and isn't refused")
             check_end((ran.returncode, ran.stderr), 0, b"")
             found = history(copy)
             if not any(found == site.whole[: len(found)] for site in (self.one, self.other)):
@@ -119,13 +123,18 @@ class Mixed:
         if len(before[1]) <= EMPTY and found == (self.alone(file) or self.one.whole[:1]):
             return "FILE without its FILE-wal"
         if found == log.lines:
-            return "another site's FILE-wal" if are_two else "an older FILE-wal"
+            return "another site's FILE-wal" if are_two else "an older FILE-wal that has all of FILE"
         raise Wrong(f"of {len(file.lines)} and {len(log.lines)} lines {len(found)} are found without a word")
 
     def alone(self, file: Moment) -> list[bytes]:
         """The lines that SQLite finds in FILE without its log."""
         with tempfile.TemporaryDirectory() as folder:
             return found_by_sqlite(Path(shutil.copy(file.file, folder)))
+
+    def last_alone(self, file: Moment) -> int:
+        """The number of the last of them."""
+        with tempfile.TemporaryDirectory() as folder:
+            return last_number(Path(shutil.copy(file.file, folder)))
 
     def cases(self) -> Cases:
         what = "one site" if self.one is self.other else "two sites"
@@ -138,8 +147,49 @@ class Mixed:
         print(f"mixed: {what}: {', '.join(f'{count} starts: {name}' for name, count in sorted(self.counts.items()))}")
 
 
+def renumber_last(file: Path, number: int) -> None:
+    """Gives the last row of FILE alone another number, as what is left of another row in a page that is half written
+    may do. All rows are in page 2."""
+    database = bytearray(file.read_bytes())
+    if database[PAGE] != LEAF:
+        raise Wrong("page 2 of FILE isn't a leaf of a table")
+    pointer = PAGE + 8 + 2 * (int.from_bytes(database[PAGE + 3 : PAGE + 5]) - 1)
+    at = PAGE + int.from_bytes(database[pointer : pointer + 2])
+    while database[at] >= 0x80:
+        at += 1
+    database[at + 1] = number
+    file.write_bytes(database)
+
+
+def half_written(program: str) -> None:
+    """A page of FILE that is half written after a loss of power, and is whole in FILE-wal: it may be taken for one with
+    later lines, and then SQLite opens the file."""
+    with tempfile.TemporaryDirectory() as folder:
+        file = Path(folder, "site.db")
+        for count in (3, 2):
+            with Client(program, *over(file)) as client:
+                for number in range(count):
+                    client.ask(put(title=f"post {number}"))
+                if count == 3:
+                    check_end(client.end(), 0, b"")
+        wanted = history(file)
+        renumber_last(file, 127)
+        before = file.read_bytes(), log_of(file).read_bytes()
+        ran = run(program, b"", *over(file))
+        said = ran.stderr.decode(errors="replace")
+        check_refusal(file, said, ran.stdout, before)
+        if not OLDER.fullmatch(said.removeprefix(f"site: {file}")):
+            raise Wrong(f"FILE ends at a larger number than its log, and the start says {said!r}")
+        with opened(file) as connection:
+            connection.execute("SELECT count(*) FROM command").fetchall()
+        check_end((run(program, b"", *over(file)).returncode, b""), 0, b"")
+        if history(file) != wanted:
+            raise Wrong("the history is another once SQLite has opened and closed the file")
+
+
 def cases(program: str) -> Cases:
     """Each check by its name, with what judges it."""
+    yield "mixed: a page of FILE is half written", partial(half_written, program)
     one, other = Site(program, "one"), Site(program, "other")
     yield from Mixed(program, one, one).cases()
     yield from Mixed(program, one, other).cases()

@@ -9,7 +9,17 @@ from functools import partial
 from pathlib import Path
 from random import Random
 
-from geanmarbles.checks.database.clients import SECONDS, Cases, Client, over, put, replies, same_pages
+from geanmarbles.checks.database.clients import (
+    SECONDS,
+    Cases,
+    Client,
+    check_end,
+    over,
+    put,
+    replies,
+    run,
+    same_pages,
+)
 from geanmarbles.checks.database.damage import cut, grown, is_like_a_crash, turned
 from geanmarbles.checks.database.files import (
     Statement,
@@ -134,6 +144,19 @@ class Salvaged:
             self.saves(newer, SOME, [*self.lines, put(title="later")], f"{newer} has 1 more sound lines without it")
             self.saves(file, ALL, self.lines)
 
+    def compacted(self) -> None:
+        """a short history and what came after it are saved, where FILE alone still has the longer one"""
+        with tempfile.TemporaryDirectory() as folder:
+            file = copied(self.ended, folder)
+            ran = run(self.program, b"", *over(file, "--compact"))
+            check_end((ran.returncode, ran.stderr), 0, b"")
+            with Client(self.program, *over(file)) as client:
+                client.ask(put(title="later"))
+            wanted = history(file)
+            if len(wanted) >= len(self.lines):
+                raise Wrong(f"--compact leaves {len(wanted)} of {len(self.lines)} lines")
+            self.saves(file, ALL, wanted)
+
     def refused(self) -> None:
         """edits are saved up to one that the program refuses, and none after it"""
         with tempfile.TemporaryDirectory() as folder:
@@ -176,8 +199,8 @@ class Salvaged:
             self.saves(Path(folder), NOTHING, [], "there is no file")
 
     def cases(self) -> Cases:
-        whole = (self.sound, self.older_log, self.refused, self.other_program, self.changing_program, self.refuses)
-        for judged in whole:
+        whole = (self.sound, self.older_log, self.compacted, self.refused, self.other_program, self.changing_program)
+        for judged in (*whole, self.refuses):
             yield f"salvage: {judged.__doc__}", judged
         for number in (1, 2, 40, len(self.lines)):
             yield f"salvage: line {number} was changed", partial(self.changed, number)

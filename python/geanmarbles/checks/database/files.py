@@ -107,9 +107,10 @@ def history(file: Path) -> list[bytes]:
         raise Wrong(f"the schema is {schema}")
     numbers = [number for number, _, _ in rows]
     lines = [line for _, line, _ in rows]
-    if numbers != list(range(1, len(numbers) + 1)):
-        raise Wrong(f"the numbers of {len(numbers)} lines aren't 1 and on: {numbers[:10]} ..")
-    for (number, _, digest), wanted in zip(rows, digests_of(lines)):
+    first = numbers[0] if numbers else 1
+    if first < 1 or numbers != list(range(first, first + len(numbers))):
+        raise Wrong(f"the numbers of {len(numbers)} lines don't follow one another: {numbers[:10]} ..")
+    for number, ((_, _, digest), wanted) in enumerate(zip(rows, digests_of(lines)), 1):
         if digest != wanted:
             raise Wrong(f"line {number} has the digest {digest.hex()}, wanted {wanted.hex()}")
     return lines
@@ -122,6 +123,16 @@ def found_by_sqlite(file: Path) -> list[bytes]:
             return lines_in(connection)
     except FAULTS:
         return []
+
+
+def last_number(file: Path) -> int:
+    """The number of the last line that SQLite finds, or 0."""
+    try:
+        with looked_at(file) as connection:
+            ((number,),) = connection.execute("SELECT coalesce(max(number), 0) FROM command").fetchall()
+            return int(number)
+    except FAULTS:
+        return 0
 
 
 def doctored(file: Path, statements: Iterable[Statement], folder: str | Path, *, sealed: bool = True) -> Path:

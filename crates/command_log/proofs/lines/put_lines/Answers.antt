@@ -60,4 +60,4 @@ returns-in_err-put_line-clause-puts g c =
     more_stops g.S.Store first.conn.now mid.conn.now begun lines i low (string_bytes line) there
     (subst (PutsAny g.S.Store first.conn.now mid.conn.now begun) (sym (take-map string_bytes i c.args.lines.now)) before) f
     (subst (λ t. Unstorable (rows_of g.S.Store mid.conn.now) (t ∷ []) f) c.as_str.ensures.value stops)))
-    c.from_residual.result c.from_residual.ensures.1
+    (λ f h. h) c.from_residual.result c.from_residual.ensures.1

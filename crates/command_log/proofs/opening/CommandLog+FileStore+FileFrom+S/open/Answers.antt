@@ -3,7 +3,7 @@ use Rattle.sqlite_disk.specs.Events.{Event, replay}
 use Rattle.sqlite.specs.Recovery.{Image}
 use Rattle.sqlite.specs.Files.{over_files}
 use Rattle.command_log.specs.Lines.{IsOpen, lines_of}
-use Rattle.command_log.specs.Found.{FindsLines, ReadsLines, RefusesOther, IsCutShort}
+use Rattle.command_log.specs.Found.{FindsLines, ReadsLines, ReachesFile, RefusesOther, IsCutShort}
 use Rattle.command_log.proofs.opening.CommandLog+FileStore+FileFrom+S.open.Goals as goal
 
 abbrev image : List ℕ → List ℕ → Image
@@ -23,6 +23,12 @@ returns-clause-read g c =
     let (log, db) = c.in_ok-files.ensures.fresh in
     let same = ap₂ image (ap₂ (seen g.S.Start.log g.S.Start.db) log.0 log.1) (ap₂ (seen g.S.Start.log g.S.Start.db) db.0 db.1) in
     subst (λ i. IfOk c.open_files.result (λ log. IsOpen over_files log → ReadsLines i (lines_of over_files log))) same c.open_files.ensures.read
+
+pub returns-clause-newest : goal.returns-clause-newest
+returns-clause-newest g c =
+    let (log, db) = c.in_ok-files.ensures.fresh in
+    let same = ap₂ image (ap₂ (seen g.S.Start.log g.S.Start.db) log.0 log.1) (ap₂ (seen g.S.Start.log g.S.Start.db) db.0 db.1) in
+    subst (λ i. IfOk c.open_files.result (λ log. IsOpen over_files log → ReachesFile i log)) same c.open_files.ensures.newest
 
 pub returns-clause-cut : goal.returns-clause-cut
 returns-clause-cut g c =
