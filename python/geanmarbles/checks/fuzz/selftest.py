@@ -132,14 +132,18 @@ def ends_early(lines: Sequence[bytes], replies: list[bytes], *_: object) -> list
     return replies if at is None or lines[at - 1] != lines[at] else replies[: at - 1] + replies[at:] + replies[-1:]
 
 
+# The rows after the first, which has the identity.
+EDITS = "number > (SELECT min(number) FROM command)"
+
+
 def forgets_the_last_line(connection: sqlite3.Connection) -> None:
     """The last line of a shortened history is lost."""
-    connection.execute("DELETE FROM command WHERE number > 1 AND number = (SELECT max(number) FROM command)")
+    connection.execute(f"DELETE FROM command WHERE {EDITS} AND number = (SELECT max(number) FROM command)")
 
 
 def publishes_drafts(connection: sqlite3.Connection) -> None:
     """The posts of a shortened history have another status, which no page of a draft shows."""
-    for number, line in connection.execute("SELECT number, line FROM command WHERE number > 1").fetchall():
+    for number, line in connection.execute(f"SELECT number, line FROM command WHERE {EDITS}").fetchall():
         command = json.loads(line)
         for post in command["site"].get("posts", []) if command["cmd"] == "import" else ():
             post["status"] = "publish"
