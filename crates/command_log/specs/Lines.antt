@@ -67,7 +67,7 @@ pub record IsLineRow (r : Row) : Type 0 where
 abbrev pub place_after : Option ℤ → List Row → Option ℤ
 place_after = fold (λ _ r. Some (id_in (column r 0)))
 
--- so many lines can have numbers from this one on, unless it is the first of all
+-- lines can be numbered from here on, this many, without a number past the largest; those of an empty table may always begin at 1
 abbrev pub HasRoom : ℤ → ℕ → Type 0
 HasRoom (pos number) count = (number ≡ 1) ⊎ (number + count < 2 ^ 63)
 HasRoom (negsuc number) count = ⊥

@@ -344,9 +344,9 @@ impl<S: Alter> CommandLog<S> {
         Ok(())
     }
 
-    /// Replaces all lines with these, or changes nothing. Their numbers go on after the last one, as
-    /// long as there are so many: so a database file that has a line with a larger number than all of
-    /// the log is newer than the log.
+    /// Replaces all lines with these, or changes nothing. They are numbered on from the old ones,
+    /// unless too few numbers are left. So a database file that has a line with a larger number than
+    /// each line of its log is newer than the log.
     pub fn replace(&mut self, lines: &[String]) -> Result<(), LogFault>
         ensures ok { IsOpen S.Store self.new → OnOk result
             (lines_of S.Store self.new ≡ map string_bytes lines.now) }

@@ -1,8 +1,8 @@
 //! The numbers of lines that take the place of others.
 ghost use Rattle.command_log.specs.Lines.{HasRoom};
 
-/// Returns the number for the first of so many lines: the one after the last that was used, or 1 if
-/// too few are left after it.
+/// Returns the number for the first of `count` new lines: the one after the last number that was used,
+/// or 1 if fewer than `count` are left after it.
 pub(crate) fn number_after(last: i64, count: usize) -> i64
     ensures { HasRoom result count }
 {
@@ -12,7 +12,7 @@ pub(crate) fn number_after(last: i64, count: usize) -> i64
     }
 }
 
-/// Returns the number of the last of so many lines that follow one with this number.
+/// Returns the number of the last of `count` lines that follow the one with this number.
 pub(crate) fn last_after(number: i64, count: usize) -> i64 {
     number.saturating_add(i64::try_from(count).unwrap_or(i64::MAX))
 }

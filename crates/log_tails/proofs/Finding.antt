@@ -91,7 +91,7 @@ last_row_of page count at leaf is some room place =
 
 -- ---- the way down
 
--- it ends after so many pages
+-- it ends at depth 0
 pub ends_below : (depth size : ℕ) (file : List ℕ) (n : ℕ) → depth ≡ 0 → None ≡ last_under depth size file n
 unfolding last_under
 ends_below zero size file n none = refl

@@ -50,9 +50,9 @@ const RIGHT_CHILD: usize = 8;
 /// Returns the number of the last row of the table whose root is page 2, as the database file alone
 /// has it, without its log. Nothing is written.
 ///
-/// There is none if the file has no page 2, if that isn't a table's, if the table has no row, or if
-/// the number of the last one isn't above 0; nor if a page that leads to it isn't all in the file.
-/// It fails if a call of the disk does, or if there is no memory for a page.
+/// `None` if the file has no page 2, page 2 isn't a table's, a page on the way down isn't all in the
+/// file, the table has no row, or the number isn't above 0. An error comes if a call of the disk
+/// fails, or if memory runs out.
 pub fn last_row<D: Disk>(alloc: Global, db: &mut D) -> Result<Option<u64>, Error>
     requires { IsTrue (D.Disk.is_usable db.old) }
     ensures last { IfOk result (λ number. IsClean D.Disk db.new
