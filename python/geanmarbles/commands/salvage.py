@@ -200,9 +200,11 @@ def summary_of(file: Path) -> tuple[bytes, str]:
 
 
 def last_number(copy: Path, file: Path) -> int:
-    """The number of the last line that is sound, or 0. Numbers only grow, over `--compact` too, which makes a history
-    shorter."""
-    return max((number for number, _ in sound_rows(copy, file, [])), default=0)
+    """The number of the last line that is sound, or 0. It is counted from the first one's, since no digest covers a
+    number. Numbers only grow, over `--compact` too, which makes a history shorter."""
+    rows = sound_rows(copy, file, [])
+    first = next(rows, None)
+    return first[0] + sum(1 for _ in rows) if first else 0
 
 
 def saved(program: str, file: Path, out: Path) -> tuple[str, list[str]]:

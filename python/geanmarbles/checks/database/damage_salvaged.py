@@ -21,6 +21,7 @@ from geanmarbles.checks.database.clients import (
     same_pages,
 )
 from geanmarbles.checks.database.damage import cut, grown, is_like_a_crash, turned
+from geanmarbles.checks.database.damage_mixed import renumber_last
 from geanmarbles.checks.database.files import (
     Statement,
     check_equal,
@@ -157,6 +158,17 @@ class Salvaged:
                 raise Wrong(f"--compact leaves {len(wanted)} of {len(self.lines)} lines")
             self.saves(file, ALL, wanted)
 
+    def renumbered(self) -> None:
+        """a larger number in FILE alone doesn't stand for more lines than FILE-wal has"""
+        with tempfile.TemporaryDirectory() as folder:
+            file = Path(folder, "site.db")
+            replies(self.program, [put(title="one")], *over(file))
+            with Client(self.program, *over(file)) as client:
+                client.ask(put(title="two"))
+            wanted = history(file)
+            renumber_last(file, 127)
+            self.saves(file, ALL, wanted)
+
     def refused(self) -> None:
         """edits are saved up to one that the program refuses, and none after it"""
         with tempfile.TemporaryDirectory() as folder:
@@ -199,8 +211,8 @@ class Salvaged:
             self.saves(Path(folder), NOTHING, [], "there is no file")
 
     def cases(self) -> Cases:
-        whole = (self.sound, self.older_log, self.compacted, self.refused, self.other_program, self.changing_program)
-        for judged in (*whole, self.refuses):
+        moments = (self.sound, self.older_log, self.compacted, self.renumbered)
+        for judged in (*moments, self.refused, self.other_program, self.changing_program, self.refuses):
             yield f"salvage: {judged.__doc__}", judged
         for number in (1, 2, 40, len(self.lines)):
             yield f"salvage: line {number} was changed", partial(self.changed, number)
