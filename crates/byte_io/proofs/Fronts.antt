@@ -16,6 +16,15 @@ AppendsFront-after a b c xs ys zs all done part e = record {
   appends = Appends-trans _ _ _ _ _ done part.appends;
 }
 
+-- a part of bytes that others follow
+pub AppendsFront-more : (a b : Option (List ℕ)) (shown held piece : List ℕ) → shown ≡ held → AppendsFront a b shown → AppendsFront a b (held ++ piece)
+AppendsFront-more a b shown held piece e part = record {
+  taken = part.taken;
+  rest = part.rest ++ piece;
+  whole = sym (append_assoc part.taken part.rest piece) ∙ ap (λ l. l ++ piece) (part.whole ∙ e);
+  appends = part.appends;
+}
+
 -- the pieces before one, that one, and the pieces after it
 pub flat_map-split : {X : Type 0} (f : X → List ℕ) (xs : List X) (i : ℕ) (d : X) → i < length xs
     → flat_map f (take i xs) ++ (f (get_or xs i d) ++ flat_map f (drop (suc i) xs)) ≡ flat_map f xs

@@ -1,8 +1,15 @@
 use Rattle.std.proofs.Common.{◌≡◌, ◌∙◌, ◌++◌, [], ap, append-nil, subst}
-use Rattle.std.proofs.lemmas.Result.{on_ok_weaker, on_err_weaker}
+use Rattle.std.proofs.lemmas.Result.{err_from_is_err_and, on_ok_weaker, on_err_weaker}
 use Rattle.std.specs.Io.KnownBytes.{Appends}
-use Rattle.byte_io.proofs.Fronts.{AppendsFront-after, Gathers-none}
+use Rattle.byte_io.proofs.Fronts.{AppendsFront-after, AppendsFront-more, Gathers-none}
 use Rattle.byte_io.proofs.pieces.gather.Goals as goal
+
+-- of what was gathered a part was written
+pub returns-in_err-write_all-in-Err-clause-part : goal.returns-in_err-write_all-in-Err-clause-part
+returns-in_err-write_all-in-Err-clause-part g c =
+    let held : c.as_slice.result.now ≡ c.args.gathered.now.items = c.as_slice.ensures.value ∙ ap (λ v. v.items) c.in-Err.ensures.err in
+    let failed = err_from_is_err_and c.from_residual.result c.from_residual.ensures.1 in
+    rw failed.1 (AppendsFront-more _ _ _ _ _ held c.in_err-write_all-in-Err.ensures.part)
 
 -- what was gathered was written, and then the piece
 pub returns-in-Err-try_extend_from_slice-clause-ok : goal.returns-in-Err-try_extend_from_slice-clause-ok

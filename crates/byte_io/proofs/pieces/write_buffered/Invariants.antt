@@ -1,6 +1,6 @@
 use Rattle.std.proofs.Common.{◌≡◌, ℕ, List, ◌++◌, false, take, flat_map}
 use Rattle.std.specs.Io.KnownBytes.{Appends}
-use Rattle.byte_io.proofs.pieces.write_pieces.Given as goal
+use Rattle.byte_io.proofs.pieces.write_buffered.Given as goal
 
 -- of the pieces so far some bytes were written, and the others are gathered
 abbrev pub invariant-loop-piece : goal.invariant-loop-piece

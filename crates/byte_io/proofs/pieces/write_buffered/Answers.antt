@@ -3,7 +3,7 @@ use Rattle.std.proofs.lemmas.Grind.{common_steps}
 use Rattle.std.proofs.lemmas.Result.{on_err_weaker, err_from_is_err_and}
 use Rattle.std.proofs.KnownBytes.{Appends-trans}
 use Rattle.byte_io.proofs.Fronts.{AppendsFront-after, flat_map-split, gathered_whole, pieces_whole, last_gathered}
-use Rattle.byte_io.proofs.pieces.write_pieces.Goals as goal
+use Rattle.byte_io.proofs.pieces.write_buffered.Goals as goal
 
 -- one more piece is gathered
 pub loop-piece-preserved : goal.loop-piece-preserved
