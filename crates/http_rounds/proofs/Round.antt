@@ -1,6 +1,9 @@
 -- One more round of a connection.
 use Rattle.std.proofs.Common.{inl, inr, ◌≡◌, ℕ, Bool, true, false, List, [], ◌∷◌, ◌++◌, refl, sym, ap, subst, ◌∙◌}
-use Rattle.std.specs.Prelude.{All}
+use Rattle.std.specs.Prelude.{All, IsErrAnd, Result}
+use Rattle.std.specs.IoError.{error_kind}
+use Rattle.std.specs.declared.io.Error.{Error}
+use Rattle.std.specs.declared.io.ErrorKind.TheVariants.{Other}
 use Rattle.std.proofs.lemmas.List.{append-nil}
 use Rattle.std.proofs.lemmas.List.Elements.{All-head, All-push, All-tail}
 use Rattle.http.specs.declared.request.Request.{Request}
@@ -9,7 +12,7 @@ use Rattle.http_server.specs.declared.response.Response.{Response}
 use Rattle.http_server.specs.Connection.{config_of, history}
 use Rattle.http_server.specs.Exchange.{Call, Calls, Chain}
 use Rattle.http_server.specs.Rounds.{Round, Rounds, all_of, kept_of, IsCleared}
-use Rattle.http_rounds.specs.Losses.{StopsAtALoss}
+use Rattle.http_rounds.specs.Losses.{StopsAtALoss, TellsALoss}
 use Rattle.http_server.proofs.RoundLemmas.{all_of-push, kept_of-push_kept, kept_of-push_lost, Rounds-push, IsCleared-itself}
 
 -- ---- losses
@@ -34,14 +37,14 @@ module _ {S : Type 0} (answers : S → Request (List ℕ) → Response → S →
       (rounds : List (Round Call)) × Rounds answers settles old rounds new
       × ((history c).calls ≡ all_of rounds) × (kept_of rounds ≡ all_of rounds) × All IsKept rounds
 
-  -- the calls of the connection are rounds, and what was sent tells only of those that were committed
-  abbrev pub IsAccounted : S → S → Connection → Type 0
-  IsAccounted old new c =
+  -- the calls of the connection are rounds, what was sent tells only of those that were committed, and the result of a loss
+  abbrev pub IsAccounted : {A : Type 0} → S → S → Connection → Result A Error → Type 0
+  IsAccounted old new c result =
       (rounds : List (Round Call)) × Rounds answers settles old rounds new
-      × ((history c).calls ≡ all_of rounds) × IsCleared (kept_of rounds) c × StopsAtALoss rounds
+      × ((history c).calls ≡ all_of rounds) × IsCleared (kept_of rounds) c × StopsAtALoss rounds × TellsALoss rounds result
 
-  pub accounted : {old new : S} (c : Connection) → IsCommitted old new c → IsAccounted old new c
-  accounted c h = (h.0, h.1, h.2, IsCleared-itself (kept_of h.0) c (h.2 ∙ sym h.3), stops_nowhere h.0 h.4)
+  pub accounted : {A : Type 0} {old new : S} (c : Connection) (result : Result A Error) → IsCommitted old new c → IsAccounted old new c result
+  accounted c result h = (h.0, h.1, h.2, IsCleared-itself (kept_of h.0) c (h.2 ∙ sym h.3), stops_nowhere h.0 h.4, record { kept_or_told = inl h.4 })
 
   pub committed_more : (old new called settled : S) (c d : Connection) → IsCommitted old new c
       → Calls answers new called (history c).calls (history d).calls → settles called true settled → IsCommitted old settled d
@@ -55,11 +58,11 @@ module _ {S : Type 0} (answers : S → Request (List ℕ) → Response → S →
       )
 
   -- a round that was not committed, of which nothing was sent
-  pub lost_more : (old new called settled : S) (c d : Connection) → IsCommitted old new c
+  pub lost_more : {A : Type 0} (old new called settled : S) (c d : Connection) (result : Result A Error) → IsCommitted old new c
       → Calls answers new called (history c).calls (history d).calls → settles called false settled
       → config_of d ≡ config_of c → (history d).received ≡ (history c).received → (history d).sent ≡ (history c).sent
-      → IsAccounted old settled d
-  lost_more old new called settled c d h more ends config received sent = (
+      → IsErrAnd result (λ e. error_kind e ≡ Other) → IsAccounted old settled d result
+  lost_more old new called settled c d result h more ends config received sent told = (
     h.0 ++ (more.0, false) ∷ [],
     Rounds-push answers settles h.0 (more.0, false) old new called settled h.1 more.2 ends,
     more.1 ∙ ap (λ (t : List Call). t ++ more.0) h.2 ∙ sym (all_of-push h.0 more.0 false),
@@ -71,6 +74,7 @@ module _ {S : Type 0} (answers : S → Request (List ℕ) → Response → S →
       sent = sent;
     },
     stops_at_last h.0 (more.0, false) h.4,
+    record { kept_or_told = inr told },
   )
 
   -- reading and writing make no call

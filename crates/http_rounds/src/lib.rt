@@ -2,17 +2,17 @@
 //! it has committed what they tell of.
 #![tactic(auto)]
 
-ghost use Rattle.std.specs.Prelude.{◌≡◌, ℕ, Bool, true, List, [], ◌++◌, OnOk};
+ghost use Rattle.std.specs.Prelude.{◌≡◌, ◌≢◌, ℕ, Bool, true, List, [], ◌++◌, OnOk};
 ghost use Rattle.std.specs.Io.KnownBytes.{Appends, Consumes};
 ghost use Rattle.http.specs.declared.request.Request.{Request};
 ghost use Rattle.http_server.specs.declared.response.Response.{Response};
 ghost use Rattle.http_server.specs.Connection.{config_of, history};
 ghost use Rattle.http_server.specs.Exchange.{Call};
-ghost use Rattle.http_server.specs.History.{IsDone};
 ghost use Rattle.http_server.specs.Rounds.{Round, Rounds, all_of, kept_of, IsCleared};
-ghost use Rattle.http_rounds.specs.Losses.{StopsAtALoss};
+ghost use Rattle.http_rounds.specs.Ends.{EndsWell};
+ghost use Rattle.http_rounds.specs.Losses.{StopsAtALoss, TellsALoss};
 
-use http_server::{Connection, Service};
+use http_server::{Connection, Service, State};
 use std::io;
 use std::io::{ErrorKind, Read, Write};
 
@@ -41,8 +41,8 @@ pub trait Commits: Service {
 /// That what was written answers what was read holds of every connection (`always_served` of
 /// `http_server`).
 ///
-/// On `Err` the connection is over: reading or writing failed as the error says, or, with the kind
-/// `Other`, the service couldn't commit.
+/// On `Err` the connection is over: reading or writing failed as the error says, memory ran out
+/// (`OutOfMemory`), or, with the kind `Other`, the service couldn't commit.
 pub fn serve_rounds<S: Commits, R: Read, W: Write>(
     connection: &mut Connection,
     service: &mut S,
@@ -50,7 +50,7 @@ pub fn serve_rounds<S: Commits, R: Read, W: Write>(
     writer: &mut W,
 ) -> io::Result<()>
     requires { S.is_sound service.old }
-    ensures done { OnOk result (IsDone (history connection.new)) }
+    ensures done { OnOk result (EndsWell (history connection.new)) }
     ensures read { (more : List ℕ)
         × Consumes (R.remaining reader.old) (R.remaining reader.new) more
         × ((history connection.new).received ≡ (history connection.old).received ++ more) }
@@ -59,12 +59,13 @@ pub fn serve_rounds<S: Commits, R: Read, W: Write>(
         × ((history connection.new).sent ≡ (history connection.old).sent ++ more) }
 
     // The calls are rounds, of which only the last may be lost, and no byte that was sent tells of a
-    // call that was not committed.
+    // call that was not committed. A round that is lost is told, by an error of the kind `Other`.
     ensures rounds { (history connection.old).calls ≡ [] → (rounds : List (Round Call))
         × Rounds S.Service.answers S.settles service.old rounds service.new
         × ((history connection.new).calls ≡ all_of rounds)
         × IsCleared (kept_of rounds) connection.new
-        × StopsAtALoss rounds }
+        × StopsAtALoss rounds
+        × TellsALoss rounds result }
     ensures config { config_of connection.new ≡ config_of connection.old }
 {
     // A loop is proved to end, so this one counts its turns.
@@ -75,7 +76,7 @@ pub fn serve_rounds<S: Commits, R: Read, W: Write>(
         }
         if connection.is_done() {
             writer.flush()?;
-            return Ok(());
+            return outcome(connection.state());
         }
         if !connection.wants_write() {
             // The client may be waiting for what a buffered writer holds.
@@ -86,4 +87,14 @@ pub fn serve_rounds<S: Commits, R: Read, W: Write>(
         }
     }
     Err(ErrorKind::TimedOut.into())
+}
+
+/// Returns how a connection has ended that is done: memory may have run out for it.
+fn outcome(state: State) -> io::Result<()>
+    ensures { OnOk result (state ≢ State.Aborted) }
+{
+    match state {
+        State::Aborted => Err(ErrorKind::OutOfMemory.into()),
+        _ => Ok(()),
+    }
 }

@@ -117,6 +117,7 @@ module _ {S : Type 0} (answers : S → Request (List ℕ) → Response → S →
     all_taken = on_any_ok result i.table.taken;
     served = i.served;
     stops = stops_nowhere (rounds_of i.deeds) (whole_rounds i.deeds i.table.kept);
+    kept = on_any_ok result (whole_rounds i.deeds i.table.kept);
     known = subst (λ k. AreKnown k i.deeds) i.config_is i.table.known;
     written = record { taken = output_of i.deeds; rest = []; whole = append-nil (output_of i.deeds); appends = i.written };
     all = all;
@@ -175,6 +176,7 @@ module _ {S : Type 0} (answers : S → Request (List ℕ) → Response → S →
       all_taken = on_no_ok _ ends failed;
       served = served_is;
       stops = stops_is;
+      kept = on_no_ok _ ends failed;
       known = subst (λ k. AreKnown k deeds) i.config_is was.known;
       written = record {
         taken = output_of i.deeds ++ front.taken;

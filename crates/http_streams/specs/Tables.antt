@@ -86,6 +86,7 @@ pub record ServesMany {S E : Type 0} (answers : S → Request (List ℕ) → Res
   pub all_taken : OnOk result (AreTakenAfter [] deeds)
   pub served : Rounds answers settles before (rounds_of deeds) after
   pub stops : StopsAtALoss (rounds_of deeds)
+  pub kept : OnOk result (All (λ r. r.1 ≡ true) (rounds_of deeds))
   pub known : AreKnown config deeds
   pub written : AppendsFront out_before out_after (output_of deeds)
   pub all : OnOk result (Appends out_before out_after (output_of deeds))

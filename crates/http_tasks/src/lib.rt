@@ -5,9 +5,12 @@
 //! failed. What carries out the lines is any [`Commands`](site_serving::Commands).
 #![tactic(auto)]
 
+mod files;
 mod reader;
 mod serving;
 mod token;
+mod writer;
 
-pub use serving::{Clients, serve, serve_path};
+pub use files::{Served, serve_file, serve_path};
+pub use serving::{Clients, serve};
 pub use token::read_token;

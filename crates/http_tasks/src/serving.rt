@@ -1,19 +1,18 @@
 //! Serving clients of HTTP.
-ghost use Rattle.std.specs.Prelude.{◌≡◌, false};
+ghost use Rattle.std.specs.Prelude.{◌≡◌, ℕ, List, false, option_map};
+ghost use Rattle.std.specs.String.{string_bytes};
+ghost use Rattle.byte_io.specs.Journal.{IsSettled};
+ghost use Rattle.http_tasks.specs.Told.{HoldsTold};
 
-use crate::reader::SourceReader;
-use byte_io::{Journal, Reading, Source, Writing};
-use command_log::{CommandLog, LogFault};
+use crate::writer::WriterSink;
+use byte_io::{Journal, Writing};
 use page_trace::Watch;
 use site_http::{SitePages, serve_site, serve_site_frames};
-use site_journal::LogJournal;
-use site_replies::ServeFault;
 use site_serving::Commands;
-use site_tasks::{WhileThere, ended, failed, opened};
-use sqlite_trees::store::Alter;
+use site_tasks::failed;
 use std::hash::RandomState;
 use std::io;
-use std::io::Read;
+use std::io::{Read, Write};
 use std::process::ExitCode;
 use std::random::RandomSource;
 
@@ -34,87 +33,57 @@ pub fn serve<C: Commands + Drop, V: Watch>(
     watch: V,
 ) -> ExitCode {
     let journal = Writing::new(Vec::new(rt.alloc()));
-    let (_, served) = serve_pages(rt, site, journal, watch, clients, &mut rt.reader());
+    let writer = io::writer(rt);
+    let (_, _, served) = serve_pages(rt, site, journal, watch, clients, &mut rt.reader(), writer);
     match served {
         Ok(()) => ExitCode::SUCCESS,
         Err(error) => failed(rt, error),
     }
 }
 
-/// Makes the site anew by the log in a file, whose first line has to be the identity, and serves it:
-/// edits are committed to that log before a response tells of them. What was committed is then
-/// copied into the database file, which has the history by itself from then on. Serving ends once
-/// the file or its log is removed or replaced.
-pub fn serve_path<C: Commands + Drop, V: Watch>(
-    rt: &HostRuntime,
-    path: &str,
-    mut site: C,
-    identity: &str,
-    clients: Clients,
-    watch: V,
-) -> ExitCode {
-    let Ok(source) = WhileThere::new(rt, path, Reading::new(rt.reader())) else {
-        return failed(rt, ServeFault::OutOfMemory);
-    };
-    let mut reader = SourceReader { source };
-    let log = match opened(rt, path, &mut site, identity) {
-        Ok(log) => log,
-        Err(status) => return status,
-    };
-    let (log, fault, served) = serve_log(rt, site, log, watch, clients, &mut reader);
-    ended(
-        rt,
-        path,
-        log.into_store(),
-        reader.source.is_gone(),
-        served,
-        fault,
-    )
-}
-
-/// Serves the clients, and returns the log to which edits are committed, beside why that failed and how
-/// serving ended. It is over any store, since a call of such a function over the store of files takes
-/// the prover long: so there is one.
-fn serve_log<C: Commands + Drop, S: Alter, V: Watch, R: Read>(
-    rt: &HostRuntime,
-    site: C,
-    log: CommandLog<S>,
-    watch: V,
-    clients: Clients,
-    reader: &mut R,
-) -> (CommandLog<S>, Option<LogFault>, io::Result<()>) {
-    let alloc = rt.alloc();
-    let journal = LogJournal::new(alloc, log, Writing::new(Vec::new(alloc)));
-    let (journal, served) = serve_pages(rt, site, journal, watch, clients, reader);
-    let fault = journal.fault();
-    let (log, _) = journal.into_parts();
-    (log, fault, served)
-}
-
-/// Serves the clients, and returns the journal beside how that ended.
-fn serve_pages<C: Commands + Drop, J: Journal, V: Watch, R: Read>(
+/// Serves the clients, and returns the journal and the writer beside how that ended.
+pub(crate) fn serve_pages<C: Commands + Drop, J: Journal, V: Watch, R: Read, W: Write>(
     rt: &HostRuntime,
     site: C,
     journal: J,
     watch: V,
     clients: Clients,
     reader: &mut R,
-) -> (J, io::Result<()>)
+    writer: W,
+) -> (J, W, io::Result<()>)
     requires { J.has_failed journal ≡ false }
+
+    // Whatever the log is found to hold are the lines that were noted before and then the edits that
+    // were done at the first calls; and no byte that was written tells of another edit.
+    ensures holds { IsSettled J.written J.contents J.is_open J.may_hold J.noted journal
+        → (held : List (List ℕ)) → J.may_hold result.0 held
+        → HoldsTold (C.replies (C.fixed site)) C.keeps clients.framed
+        (option_map string_bytes clients.token) (C.state site) (J.noted journal)
+        (R.remaining reader.old) (R.remaining reader.new)
+        (W.contents writer) (W.contents result.1) result.2 held }
 {
     let (keys, start) = match secrets(rt) {
         Ok(secrets) => secrets,
-        Err(error) => return (journal, Err(error)),
+        Err(error) => return (journal, writer, Err(error)),
     };
     let alloc = rt.alloc();
     let pages = SitePages::new(alloc, site, journal, watch, start);
     let Clients { framed, token } = clients;
-    let mut writer = io::writer(rt);
     if framed {
-        let mut sink = Writing::new(writer);
-        serve_site_frames(alloc, pages, token, keys, reader, &mut sink)
+        let mut sink = WriterSink {
+            writer,
+            has_failed: false,
+        };
+        let (journal, served) = serve_site_frames(alloc, pages, token, keys, reader, &mut sink);
+        let WriterSink {
+            writer,
+            has_failed: _,
+        } = sink;
+        (journal, writer, served)
     } else {
-        serve_site(alloc, pages, token, keys, reader, &mut writer)
+        let mut writer = writer;
+        let (journal, served) = serve_site(alloc, pages, token, keys, reader, &mut writer);
+        (journal, writer, served)
     }
 }
 

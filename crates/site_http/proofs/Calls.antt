@@ -1,6 +1,8 @@
 -- Calls of a site, in rounds.
-use Rattle.std.proofs.Common.{◌≡◌, inl, inr, ◌∙◌, ℕ, Bool, true, false, List, [], ◌∷◌, ◌++◌, Option, Some, refl, sym, ap, subst, append_assoc, append-nil}
-use Rattle.std.specs.Prelude.{option_map}
+use Rattle.std.proofs.Common.{arith, ◌≡◌, inl, inr, ◌∙◌, ℕ, Bool, true, false, List, [], ◌∷◌, ◌++◌, length, Option, Some, Result, Ok, Err, refl, sym, ap, subst, append_assoc, append-nil, length-append}
+use Rattle.std.proofs.lemmas.List.{nil_from_length}
+use Rattle.std.proofs.lemmas.List.Elements.{All-head, All-tail}
+use Rattle.std.specs.Prelude.{All, OnOk, option_map}
 use Rattle.std.specs.String.{string_bytes}
 use Rattle.byte_io.specs.Journal.{Grows, IsSettled}
 use Rattle.byte_io.specs.declared.journal.Journal as journals
@@ -28,6 +30,30 @@ pub lines-then : (token : Option (List ℕ)) (calls others : List Call) (xs ys :
 lines-then token [] others xs ys is are = subst (AreLinesOf token others) (ap (λ l. l ++ ys) (sym is)) are
 lines-then token (call ∷ calls) others xs ys (first, later, cut, is, rest) are =
     (first, later ++ ys, ap (λ l. l ++ ys) cut ∙ append_assoc first later ys, is, lines-then token calls others later ys rest are)
+
+-- ---- rounds that were all committed
+
+abbrev IsKept : Round Call → Type 0
+IsKept r = r.1 ≡ true
+
+all_kept : (rounds : List (Round Call)) → All IsKept rounds → kept_of rounds ≡ all_of rounds
+all_kept [] kept = refl
+all_kept ((calls, true) ∷ rounds) kept = ap (λ l. calls ++ l) (all_kept rounds (All-tail IsKept (calls, true) rounds kept))
+all_kept ((calls, false) ∷ rounds) kept = let bad : false ≡ true = All-head IsKept (calls, false) rounds kept in absurd (cc)
+
+-- no call was lost
+pub none_lost : (rounds : List (Round Call)) (more lost : List Call) → all_of rounds ≡ kept_of rounds ++ (more ++ lost) → All IsKept rounds → lost ≡ []
+none_lost rounds more lost calls kept =
+    let same = ap length (all_kept rounds kept) in
+    let whole = ap length calls in
+    let first = length-append (kept_of rounds) (more ++ lost) in
+    let second = length-append more lost in
+    nil_from_length lost (omega (arith, same, whole, first, second))
+
+pub none_lost_if_ok : {A E : Type 0} (result : Result A E) (rounds : List (Round Call)) (more lost : List Call)
+    → all_of rounds ≡ kept_of rounds ++ (more ++ lost) → OnOk result (All IsKept rounds) → OnOk result (lost ≡ [])
+none_lost_if_ok (Ok a) rounds more lost calls kept = none_lost rounds more lost calls kept
+none_lost_if_ok (Err e) rounds more lost calls kept = tt
 
 module _ {C J V : Type 0} (c : carrying.Ghosts C) (j : journals.Ghosts J) (g : pages.Ghosts (SitePages C J V))
     (shows : g.shows ≡ ShowsPage c) (carries : g.carries_out ≡ CarriesOutAll c) (breaks : g.breaks_off ≡ CarriesOutSome c)

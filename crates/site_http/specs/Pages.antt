@@ -64,5 +64,7 @@ module _ {C J V : Type 0} where
     pub noted : kept ≡ true → (old.is_lost ≡ false) × Grows (j.noted old.journal) (j.noted new.journal) (waiting_of old)
     pub none : kept ≡ true → (new.is_lost ≡ false) × (waiting_of new ≡ [])
     pub settled : kept ≡ true → j.is_open old.journal → IsSettled j new.journal
+    -- it fails only as the journal does, or if memory for an edit has run out
+    pub cause : kept ≡ false → (old.is_lost ≡ true) ⊎ (j.has_failed new.journal ≡ true)
     pub crash : (held : List (List ℕ)) → j.may_hold new.journal held → j.may_hold old.journal held
         ⊎ ((old.is_lost ≡ false) × ((meant : Option (List (List ℕ))) × Grows (j.noted old.journal) meant (waiting_of old) × (meant ≡ Some held)))

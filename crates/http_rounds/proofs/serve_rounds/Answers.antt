@@ -9,37 +9,37 @@ use Rattle.http_rounds.proofs.serve_rounds.Goals as goal
 pub returns-then-not-commit-clause-rounds : goal.returns-then-not-commit-clause-rounds
 returns-then-not-commit-clause-rounds g c = λ none.
     let quiet = c.advance.ensures.quiet in
-    lost_more g.S.Service.answers g.S.Commits.settles _ _ _ _ c.loop.connection c.advance.new.self (c.loop.invariant.2 none) c.advance.ensures.calls (rw c.if-not-commit.true at c.commit.ensures.settles) c.advance.ensures.config quiet.0 quiet.2
+    lost_more g.S.Service.answers g.S.Commits.settles _ _ _ _ c.loop.connection c.advance.new.self _ (c.loop.invariant.2 none) c.advance.ensures.calls (rw c.if-not-commit.true at c.commit.ensures.settles) c.advance.ensures.config quiet.0 quiet.2 c.into.ensures
 
 pub returns-then-is_done-clause-rounds : goal.returns-then-is_done-clause-rounds
 returns-then-is_done-clause-rounds g c = λ none.
-    accounted g.S.Service.answers g.S.Commits.settles c.advance.new.self (committed_more g.S.Service.answers g.S.Commits.settles _ _ _ _ c.loop.connection c.advance.new.self (c.loop.invariant.2 none) c.advance.ensures.calls (rw c.if-not-commit.false at c.commit.ensures.settles))
+    accounted g.S.Service.answers g.S.Commits.settles c.advance.new.self _ (committed_more g.S.Service.answers g.S.Commits.settles _ _ _ _ c.loop.connection c.advance.new.self (c.loop.invariant.2 none) c.advance.ensures.calls (rw c.if-not-commit.false at c.commit.ensures.settles))
 
 pub returns-in_err-flush-clause-rounds : goal.returns-in_err-flush-clause-rounds
 returns-in_err-flush-clause-rounds g c = λ none.
-    accounted g.S.Service.answers g.S.Commits.settles c.advance.new.self (committed_more g.S.Service.answers g.S.Commits.settles _ _ _ _ c.loop.connection c.advance.new.self (c.loop.invariant.2 none) c.advance.ensures.calls (rw c.if-not-commit.false at c.commit.ensures.settles))
+    accounted g.S.Service.answers g.S.Commits.settles c.advance.new.self _ (committed_more g.S.Service.answers g.S.Commits.settles _ _ _ _ c.loop.connection c.advance.new.self (c.loop.invariant.2 none) c.advance.ensures.calls (rw c.if-not-commit.false at c.commit.ensures.settles))
 
 pub returns-in_err-flush-2-clause-rounds : goal.returns-in_err-flush-2-clause-rounds
 returns-in_err-flush-2-clause-rounds g c = λ none.
-    accounted g.S.Service.answers g.S.Commits.settles c.advance.new.self (committed_more g.S.Service.answers g.S.Commits.settles _ _ _ _ c.loop.connection c.advance.new.self (c.loop.invariant.2 none) c.advance.ensures.calls (rw c.if-not-commit.false at c.commit.ensures.settles))
+    accounted g.S.Service.answers g.S.Commits.settles c.advance.new.self _ (committed_more g.S.Service.answers g.S.Commits.settles _ _ _ _ c.loop.connection c.advance.new.self (c.loop.invariant.2 none) c.advance.ensures.calls (rw c.if-not-commit.false at c.commit.ensures.settles))
 
 pub returns-in_err-read_from-clause-rounds : goal.returns-in_err-read_from-clause-rounds
 returns-in_err-read_from-clause-rounds g c = λ none.
     let made = committed_more g.S.Service.answers g.S.Commits.settles _ _ _ _ c.loop.connection c.advance.new.self (c.loop.invariant.2 none) c.advance.ensures.calls (rw c.if-not-commit.false at c.commit.ensures.settles) in
-    accounted g.S.Service.answers g.S.Commits.settles c.read_from.new.self (committed_still g.S.Service.answers g.S.Commits.settles _ _ c.advance.new.self c.read_from.new.self (ap (λ (h : History). h.calls) c.in_err-read_from.ensures.err.0) made)
+    accounted g.S.Service.answers g.S.Commits.settles c.read_from.new.self _ (committed_still g.S.Service.answers g.S.Commits.settles _ _ c.advance.new.self c.read_from.new.self (ap (λ (h : History). h.calls) c.in_err-read_from.ensures.err.0) made)
 
 pub returns-in_err-write_to-clause-rounds : goal.returns-in_err-write_to-clause-rounds
 returns-in_err-write_to-clause-rounds g c = λ none.
     let made = committed_more g.S.Service.answers g.S.Commits.settles _ _ _ _ c.loop.connection c.advance.new.self (c.loop.invariant.2 none) c.advance.ensures.calls (rw c.if-not-commit.false at c.commit.ensures.settles) in
-    accounted g.S.Service.answers g.S.Commits.settles c.write_to.new.self (committed_still g.S.Service.answers g.S.Commits.settles _ _ c.advance.new.self c.write_to.new.self (ap (λ k. (history k).calls) c.in_err-write_to.ensures.err.0) made)
+    accounted g.S.Service.answers g.S.Commits.settles c.write_to.new.self _ (committed_still g.S.Service.answers g.S.Commits.settles _ _ c.advance.new.self c.write_to.new.self (ap (λ k. (history k).calls) c.in_err-write_to.ensures.err.0) made)
 
 pub returns-then-branch-eq0-clause-rounds : goal.returns-then-branch-eq0-clause-rounds
 returns-then-branch-eq0-clause-rounds g c = λ none.
     let made = committed_more g.S.Service.answers g.S.Commits.settles _ _ _ _ c.loop.connection c.advance.new.self (c.loop.invariant.2 none) c.advance.ensures.calls (rw c.if-not-commit.false at c.commit.ensures.settles) in
-    accounted g.S.Service.answers g.S.Commits.settles c.write_to.new.self (committed_still g.S.Service.answers g.S.Commits.settles _ _ c.advance.new.self c.write_to.new.self (ap (λ (h : History). h.calls) c.in_ok-write_to.ensures.ok.0) made)
+    accounted g.S.Service.answers g.S.Commits.settles c.write_to.new.self _ (committed_still g.S.Service.answers g.S.Commits.settles _ _ c.advance.new.self c.write_to.new.self (ap (λ (h : History). h.calls) c.in_ok-write_to.ensures.ok.0) made)
 
 pub returns-clause-rounds : goal.returns-clause-rounds
-returns-clause-rounds g c = λ none. accounted g.S.Service.answers g.S.Commits.settles c.loop.connection (c.loop.invariant.2 none)
+returns-clause-rounds g c = λ none. accounted g.S.Service.answers g.S.Commits.settles c.loop.connection _ (c.loop.invariant.2 none)
 
 pub loop-preserved : goal.loop-preserved
 loop-preserved g c =

@@ -28,5 +28,6 @@ returns g c =
       answered = rounds.1;
       cleared = rounds.3;
       stops = rounds.4;
+      told = rounds.5;
       ended = c.serve_rounds.ensures.done;
     }

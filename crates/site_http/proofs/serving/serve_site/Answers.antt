@@ -1,5 +1,5 @@
-use Rattle.std.proofs.Common.{◌∙◌, refl, subst}
-use Rattle.site_http.proofs.Calls.{rounds_hold}
+use Rattle.std.proofs.Common.{◌∙◌, inl, inr, refl, subst}
+use Rattle.site_http.proofs.Calls.{none_lost, rounds_hold}
 use Rattle.site_http.proofs.serving.serve_site.Goals as goal
 
 pub returns : goal.returns
@@ -14,6 +14,7 @@ returns g c = record {
         s.served,
         s.read,
         s.written,
+        s.ended,
         record {
           told = _;
           more = holds.more;
@@ -29,5 +30,6 @@ returns g c = record {
           served = holds.served;
           edits = holds.edits;
         },
+        elim s.told.kept_or_told [ inl kept ↦ inl (none_lost s.rounds holds.more holds.lost holds.calls kept) | inr told ↦ inr told ],
       );
 }
