@@ -20,7 +20,9 @@ use Rattle.sqlite_store.proofs.ListingLemmas.{all_ordered}
 use Rattle.sqlite_catalog.specs.Listing.{IsSound}
 use Rattle.sqlite_catalog.proofs.LayoutLemmas.{laid_out}
 use Rattle.sqlite.specs.Held.{Held, state}
-use Rattle.sqlite.specs.Files.{over_files, file_state, image_of, Finds, IsOpened, AreFoundIn}
+use Rattle.sqlite.specs.Files.{over_files, file_state, image_of, Finds, HoldsDatabase, IsOpened, AreFoundIn}
+use Rattle.sqlite.specs.Order.{Row}
+use Rattle.sqlite.specs.Schema.{Schema}
 use Rattle.sqlite.specs.WalReads.{AreClean, IsClean, OnlyReads}
 use Rattle.log_tails.specs.declared.tail.Tail.{Tail}
 use Rattle.log_tails.specs.Tails.{IsTailOf, Outgrows}
@@ -30,9 +32,9 @@ use Rattle.command_log.specs.Table.{IsOther, log_schema}
 use Rattle.std.proofs.Common.{Option, ◌≢◌, true≢false, false, Ok, Err, Result, IfOk, IfErr, arith}
 use Rattle.sqlite.specs.State.{HasCleanDisk, Survives}
 use Rattle.sqlite_store.specs.Laws.{shut_if_dirty_at}
-use Rattle.command_log.specs.Lines.{FallsShort, IsRising, IsOrderly, HoldsLines, IsOpen, IsIdle, Reaches, lines_of}
+use Rattle.command_log.specs.Lines.{FallsShort, IsRising, IsOrderly, HoldsLines, HoldsRows, IsOpen, IsIdle, Reaches, committed_rows, lines_of}
 use Rattle.command_log.proofs.States.{ShutsIfDirty, clean_of}
-use Rattle.command_log.specs.Found.{FindsLines, ReadsLines, RefusesOther, IsCutShort, EndsWhole, CoversFile, ReachesFile, IsOvertaken}
+use Rattle.command_log.specs.Found.{FindsLines, FindsRows, ReadsLines, RefusesOther, IsCutShort, EndsWhole, CoversFile, ReachesFile, IsOvertaken}
 use Rattle.log_tails.specs.Rows.{last_row_in}
 use Rattle.sqlite.specs.declared.error.Error.{Error}
 use Rattle.sqlite.specs.declared.error.Error.TheVariants.{SqliteFailure, SqlInputError, InvalidParameterCount, ExecuteReturnedResults, InvalidQuery}
@@ -73,14 +75,22 @@ module _ {D : Type 0} {g : Ghosts D} (c : Held (FileStore D g)) (image : Image) 
       subst (λ (d : Database). IsRising (d.trees 0)) (sym same)
       (found_rise image (file_state c).committed.trees found.reads (subst (λ s. IsSound s (file_state c).committed.trees) schema sound))
 
-  pub finds_lines : IsTrue (file_state c).is_open → (lines : List (List ℕ)) → HoldsLines (file_state c).now lines → FindsLines image lines
-  finds_lines up lines holds db was =
+  -- what a database holds is in each that the files hold
+  finds_such : (Such : Database → Type 0) → IsTrue (file_state c).is_open → Such (file_state c).now → (db : Trees) → HoldsDatabase image db
+      → (schema : Schema) × IsDatabase (record { schema = schema; trees = db }) × Such (record { schema = schema; trees = db })
+  finds_such Such up holds db was =
       let same = opened.0.clean in
       let is : (file_state c).now.trees ≡ db = ap (λ (d : Database). d.trees) same ∙ found.holds db was in (
         (file_state c).now.schema,
         subst (λ t. IsDatabase (record { schema = (file_state c).now.schema; trees = t })) is (opened.1 up).0,
-        subst (λ t. HoldsLines (record { schema = (file_state c).now.schema; trees = t }) lines) is holds,
+        subst (λ t. Such (record { schema = (file_state c).now.schema; trees = t })) is holds,
       )
+
+  pub finds_lines : IsTrue (file_state c).is_open → (lines : List (List ℕ)) → HoldsLines (file_state c).now lines → FindsLines image lines
+  finds_lines up lines = finds_such (λ d. HoldsLines d lines) up
+
+  pub finds_rows : IsTrue (file_state c).is_open → (rows : List Row) → HoldsRows (file_state c).now rows → FindsRows image rows
+  finds_rows up rows = finds_such (λ d. HoldsRows d rows) up
 
   pub reads_lines : IsTrue (file_state c).is_open → (lines : List (List ℕ)) → HoldsLines (file_state c).now lines → ReadsLines image lines
   reads_lines up lines holds = (
@@ -154,7 +164,7 @@ module _ {D : Type 0} {g : Ghosts D} (c : Held (FileStore D g)) (image : Image) 
         found = λ after.
             let clean = early after in
             let up = (opened clean).0.is_open in
-            finds_lines c image (found clean) (opened clean) up (lines_of over_files it.log) (it.lines (it.opened after up));
+            finds_rows c image (found clean) (opened clean) up (committed_rows over_files it.log) (it.rows (it.opened after up));
         short = λ read after reaches.
             it.short after (opened (early after)).0.is_open (subst (Reaches over_files it.log) (sym (is read)) reaches);
       }

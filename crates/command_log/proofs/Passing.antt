@@ -1,5 +1,5 @@
 -- How the test of a log goes on, and how it ends.
-use Rattle.std.proofs.Common.{◌≡◌, inl, ℕ, zero, suc, pos, ◌<◌, List, [], ◌∷◌, length, map, take, refl, sym, ap, subst, ◌∙◌, arith, lit<}
+use Rattle.std.proofs.Common.{◌≡◌, inl, inr, ℕ, zero, suc, pos, ◌<◌, List, [], ◌∷◌, length, map, take, refl, sym, ap, subst, ◌∙◌, arith, lit<}
 use Rattle.sqlite.specs.Order.{Row}
 use Rattle.sqlite.specs.Store.{Ghosts}
 use Rattle.sqlite.specs.Effect.{Database}
@@ -9,8 +9,8 @@ use Rattle.command_log.specs.declared.fault.LogFault.{LogFault}
 use Rattle.command_log.specs.declared.fault.LogFault.TheVariants as fault
 use Rattle.command_log.specs.declared.testing.Tested.{Tested}
 use Rattle.command_log.specs.Faults.{IsCaused, Unsealed}
-use Rattle.command_log.specs.Lines.{AreSealed, GivesRows, HoldsLines, IsIdle, IsLog, IsOpen, IsTabled, lines_in, line_in, lines_of, place_after, row_of_query, rows_after, rows_of}
-use Rattle.command_log.specs.Table.{log_schema}
+use Rattle.command_log.specs.Lines.{AreSealed, GivesRows, HoldsLines, HoldsRows, IsIdle, IsLog, IsOpen, IsTabled, committed_rows, lines_in, line_in, lines_of, place_after, row_of_query, rows_after, rows_of}
+use Rattle.command_log.specs.Table.{log_schema, no_schema}
 use Rattle.command_log.specs.Testing.{EndsTest, IsTested, Tests}
 use Rattle.command_log.proofs.Sealing.{go_on, last_digest, misses, tested_all}
 
@@ -83,3 +83,17 @@ module _ {S : Type 0} (g : Ghosts S) (old now : Held S) where
       let settled : (state g now).committed ≡ (state g old).now = same up ∙ resting.settled (shut up) in
       let rows : (state g now).now ≡ (state g old).now = sym (log.idle.settled up) ∙ settled in
       inl (schema, ap (λ (d : Database). lines_in d.trees) settled, subst (λ (d : Database). AreSealed (d.trees 0)) rows (log.holds up).sealed)
+
+  -- and its rows
+  pub over_rows : IsIdle g old → (IsOpen g now → IsOpen g old) → (IsOpen g now → (state g now).committed ≡ (state g old).committed)
+      → (state g old).now.schema ≡ log_schema → IsOpen g now → HoldsRows (state g old).now (committed_rows g now)
+  over_rows resting shut same schema up = inl (schema, ap (λ (d : Database). d.trees 0) (same up ∙ resting.settled (shut up)))
+
+no_rows : (rows : List Row) → map line_in rows ≡ [] → rows ≡ []
+no_rows [] none = refl
+no_rows (r ∷ rows) none = absurd (let e = none in cc)
+
+-- a log that was made has none
+pub made_rows : {S : Type 0} (g : Ghosts S) (conn log : Held S) → (state g conn).now.schema ≡ no_schema → lines_of g log ≡ []
+    → HoldsRows (state g conn).now (committed_rows g log)
+made_rows g conn log bare empty = inr (bare, no_rows (committed_rows g log) empty)

@@ -10,6 +10,9 @@ use Rattle.sqlite_disk.specs.declared.Disk.{Ghosts}
 use Rattle.sqlite.specs.Disk.{MoreFaults}
 use Rattle.sqlite_store.specs.declared.store.FileStore.{FileStore}
 use Rattle.sqlite.specs.FileStore.{view, faults}
+use Rattle.sqlite_store.specs.FileStore.{NamesFault}
+use Rattle.sqlite_trees.specs.declared.error.StoreError.{StoreError}
+use Rattle.sqlite_trees.specs.declared.error.StoreError.TheVariants as store
 use Rattle.sqlite.specs.Held.{Held}
 use Rattle.sqlite.specs.declared.error.Error.{Error}
 use Rattle.sqlite.specs.declared.error.Error.TheVariants.{SqliteFailure, Utf8Error}
@@ -32,6 +35,15 @@ fault_of (SqliteFailure code.Closed) = fault.Shut
 fault_of (SqliteFailure code.OperationInterrupted) = fault.Interrupted
 fault_of (Utf8Error at) = fault.NotText
 fault_of _ = fault.Store
+
+-- and for one of the store
+abbrev pub fault_of_store : StoreError → LogFault
+fault_of_store store.OutOfMemory = fault.OutOfMemory
+fault_of_store store.Io = fault.Disk
+fault_of_store store.Corrupt = fault.Damaged
+fault_of_store store.Full = fault.DiskFull
+fault_of_store store.Broken = fault.Shut
+fault_of_store store.Unstorable = fault.TooBig
 
 -- a fault that is not of what the files hold as they are opened
 abbrev pub IsPlain : LogFault → Type 0
@@ -99,3 +111,7 @@ module _ {D : Type 0} {g : Ghosts D} where
   IsCloseFault log last fault.Disk = MoreFaults (faults log.store) (faults last)
   IsCloseFault log last fault.Shut = ((view log.store).is_open ≡ false) ⊎ MoreFaults (faults log.store) (faults last)
   IsCloseFault log last _ = ⊥
+
+  -- a call of the store failed: the fault is told as its error, which names what the call met
+  abbrev pub IsStoreFault : FileStore D g → FileStore D g → LogFault → Type 0
+  IsStoreFault old new f = (error : StoreError) × (f ≡ fault_of_store error) × NamesFault old new error

@@ -21,7 +21,8 @@ use Rattle.command_log.specs.declared.fault.LogFault.{LogFault}
 use Rattle.command_log.specs.declared.fault.LogFault.TheVariants.{NotALog, DamagedTail, OlderLog}
 use Rattle.command_log.specs.Table.{IsOther}
 use Rattle.sqlite.specs.Files.{over_files}
-use Rattle.command_log.specs.Lines.{HasLines, HoldsLines, IsOpen, Reaches, lines_of}
+use Rattle.sqlite.specs.Order.{Row}
+use Rattle.command_log.specs.Lines.{HasLines, HasRows, HoldsLines, IsOpen, Reaches, committed_rows, lines_of}
 
 -- the store that the files of a log are in
 abbrev pub store_of : {D : Type 0} {g : Ghosts D} → LogFiles D g → FileStore D g
@@ -61,6 +62,10 @@ FindsLines image lines = (db : Trees) → HoldsDatabase image db → HasLines db
 abbrev pub ReadsLines : Image → List (List ℕ) → Type 0
 ReadsLines image lines = (d : Database) × AreFoundIn image d.trees × IsDatabase d × HoldsLines d lines
 
+-- the rows are those of the database that the files held, or none if it held nothing
+abbrev pub FindsRows : Image → List Row → Type 0
+FindsRows image rows = (db : Trees) → HoldsDatabase image db → HasRows db rows
+
 -- what an open of the files finds: these lines are in each database that they hold, and there is one, or nothing and no line
 pub record Finds (image : Image) (lines : List (List ℕ)) : Type 0 where
   pub each : FindsLines image lines
@@ -90,10 +95,11 @@ module _ {D : Type 0} {g : Ghosts D} where
   abbrev pub ReachesFile : Image → Held (FileStore D g) → Type 0
   ReachesFile image log = Reaches over_files log (last_row_in image.db)
 
--- with an honest disk, a log that was found in the files has only lines with smaller numbers than the last one of the file alone
+-- with an honest disk, a log whose rows were found in the files has only lines with smaller numbers than the last one of the
+-- file alone
 pub record IsOvertaken {D : Type 0} (g : Ghosts D) (image : Image) (db : D) : Type 0 where
   pub log : Held (FileStore D g)
-  pub found : HasCleanDisk (state over_files log) → FindsLines image (lines_of over_files log)
+  pub found : HasCleanDisk (state over_files log) → FindsRows image (committed_rows over_files log)
   pub short : IsClean g db → HasCleanDisk (state over_files log) → ¬ ReachesFile image log
 
 module _ {D : Type 0} {g : Ghosts D} where

@@ -93,10 +93,19 @@ abbrev pub HoldsLines : Database → List (List ℕ) → Type 0
 HoldsLines d lines =
     ((d.schema ≡ log_schema) × (lines ≡ lines_in d.trees) × AreSealed (d.trees 0)) ⊎ ((d.schema ≡ no_schema) × (lines ≡ []))
 
+-- and which rows those are
+abbrev pub HoldsRows : Database → List Row → Type 0
+HoldsRows d rows = ((d.schema ≡ log_schema) × (rows ≡ d.trees 0)) ⊎ ((d.schema ≡ no_schema) × (rows ≡ []))
+
 -- trees that are a database, which holds these lines
 abbrev pub HasLines : Trees → List (List ℕ) → Type 0
 HasLines db lines =
     (schema : Schema) × IsDatabase (record { schema = schema; trees = db }) × HoldsLines (record { schema = schema; trees = db }) lines
+
+-- and one that holds these rows
+abbrev pub HasRows : Trees → List Row → Type 0
+HasRows db rows =
+    (schema : Schema) × IsDatabase (record { schema = schema; trees = db }) × HoldsRows (record { schema = schema; trees = db }) rows
 
 -- the trees are those of a log with these lines: what a crash leaves, and the next open finds
 pub record KeepsLines (lines : List (List ℕ)) (db : Trees) : Type 0 where
@@ -112,6 +121,10 @@ module _ {S : Type 0} (g : Ghosts S) where
   -- the lines that were committed, which says nothing once the log is shut
   abbrev pub lines_of : Held S → List (List ℕ)
   lines_of h = lines_in (state g h).committed.trees
+
+  -- and their rows
+  abbrev pub committed_rows : Held S → List Row
+  committed_rows h = (state g h).committed.trees 0
 
   -- the rows that a call finds, which are the committed ones if no transaction is under way
   abbrev pub rows_of : Held S → List Row
@@ -200,7 +213,7 @@ module _ {S : Type 0} (g : Ghosts S) where
   pub record FallsShort (conn : Held S) (number : Option ℕ) : Type 0 where
     pub log : Held S
     pub survives : Survives (state g conn) (state g log) (IsMade conn)
-    pub lines : IsOpen log → HoldsLines (state g conn).now (lines_of log)
+    pub rows : IsOpen log → HoldsRows (state g conn).now (committed_rows log)
     pub opened : HasCleanDisk (state g log) → IsOpen conn → IsOpen log
     pub short : HasCleanDisk (state g log) → IsOpen conn → ¬ Reaches log number
 

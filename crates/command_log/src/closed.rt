@@ -1,8 +1,10 @@
 //! What is left of a log in files that was given up.
-ghost use Rattle.std.specs.Prelude.{◌≡◌, OnOk, IsTrue};
+ghost use Rattle.std.specs.Prelude.{◌≡◌, IfErr, OnOk, IsTrue};
 ghost use Rattle.sqlite.specs.FileStore.{view};
+ghost use Rattle.sqlite.specs.View.{IsClean};
 ghost use Rattle.sqlite.specs.Tree.{Trees};
 ghost use Rattle.sqlite_store.specs.FileStore.{HasSpilled, log_frames, recovers};
+ghost use Rattle.command_log.specs.Faults.{IsStoreFault};
 ghost use Rattle.command_log.specs.Found.{store_of};
 
 use crate::fault::LogFault;
@@ -41,6 +43,10 @@ impl<D: Disk> LogFiles<D> {
             → recovers (store_of self.old) db }
         ensures same { IsTrue (view (store_of self.new)).is_open
             → view (store_of self.new) ≡ view (store_of self.old) }
+
+        // A full disk is told as that, and so is a page that isn't what was written.
+        ensures named { IsClean (view (store_of self.new))
+            → IfErr result (IsStoreFault (store_of self.old) (store_of self.new)) }
     {
         self.store.checkpoint()?;
         Ok(())

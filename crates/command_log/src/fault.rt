@@ -1,6 +1,6 @@
 //! What can go wrong in a call of the log.
 ghost use Rattle.std.specs.Prelude.{◌≡◌};
-ghost use Rattle.command_log.specs.Faults.{fault_of};
+ghost use Rattle.command_log.specs.Faults.{fault_of, fault_of_store};
 
 use sqlite::{Error, ErrorCode};
 use sqlite_std_file::OpenError;
@@ -118,6 +118,8 @@ impl From<OpenError> for LogFault {
 }
 
 impl From<StoreError> for LogFault {
+    ghost from_gives = { λ error fault. fault ≡ fault_of_store error };
+
     fn from(error: StoreError) -> LogFault {
         match error {
             StoreError::OutOfMemory => LogFault::OutOfMemory,

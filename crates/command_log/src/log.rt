@@ -36,9 +36,11 @@ ghost use Rattle.command_log.specs.Lines.{
   KeepsLines,
   FallsShort,
   HoldsLines,
+  HoldsRows,
   MayHold,
   MayLeave,
   Reaches,
+  committed_rows,
   lines_of,
   lines_left,
   rows_of,
@@ -134,6 +136,9 @@ impl<S: Alter + Drop> CommandLog<S> {
         // nothing.
         ensures lines { IfOk result (λ log. IsOpen S.Store log
             → HoldsLines (state S.Store conn).now (lines_of S.Store log)) }
+
+        ensures rows { IfOk result (λ log. IsOpen S.Store log
+            → HoldsRows (state S.Store conn).now (committed_rows S.Store log)) }
 
         // A crash leaves what it could leave before, or an empty log where there was nothing.
         ensures survives { IfOk result (λ log. Survives (state S.Store conn) (state S.Store log)

@@ -133,47 +133,49 @@ id_at (x ∷ xs) (r ∷ rs) same (suc j) e lt =
     id_at xs rs later j e below
 
 -- no other option has the id
-calls_only : (j : ℕ) (r : Rule) → j < 11 → bytes_eq (slice_index_or all_rules j r).id (codes "calls") ≡ true → j ≡ 0
+calls_only : (j : ℕ) (r : Rule) → j < 12 → bytes_eq (slice_index_or all_rules j r).id (codes "calls") ≡ true → j ≡ 0
 calls_only zero r lt same = refl
 calls_only (suc zero) r lt same = let no : bytes_eq (codes "cache") (codes "calls") ≡ true = same in cc
 calls_only (suc (suc zero)) r lt same = let no : bytes_eq (codes "trace") (codes "calls") ≡ true = same in cc
 calls_only (suc (suc (suc zero))) r lt same = let no : bytes_eq (codes "database") (codes "calls") ≡ true = same in cc
 calls_only (suc (suc (suc (suc zero)))) r lt same = let no : bytes_eq (codes "must-exist") (codes "calls") ≡ true = same in cc
-calls_only (suc (suc (suc (suc (suc zero))))) r lt same = let no : bytes_eq (codes "export") (codes "calls") ≡ true = same in cc
-calls_only (suc (suc (suc (suc (suc (suc zero)))))) r lt same = let no : bytes_eq (codes "compact") (codes "calls") ≡ true = same in cc
-calls_only (suc (suc (suc (suc (suc (suc (suc zero))))))) r lt same = let no : bytes_eq (codes "check") (codes "calls") ≡ true = same in cc
-calls_only (suc (suc (suc (suc (suc (suc (suc (suc zero)))))))) r lt same = let no : bytes_eq (codes "http") (codes "calls") ≡ true = same in cc
-calls_only (suc (suc (suc (suc (suc (suc (suc (suc (suc zero))))))))) r lt same = let no : bytes_eq (codes "framed") (codes "calls") ≡ true = same in cc
-calls_only (suc (suc (suc (suc (suc (suc (suc (suc (suc (suc zero)))))))))) r lt same = let no : bytes_eq (codes "token-file") (codes "calls") ≡ true = same in cc
-calls_only (suc (suc (suc (suc (suc (suc (suc (suc (suc (suc (suc j))))))))))) r lt same = absurd (omega arith)
+calls_only (suc (suc (suc (suc (suc zero))))) r lt same = let no : bytes_eq (codes "without-wal") (codes "calls") ≡ true = same in cc
+calls_only (suc (suc (suc (suc (suc (suc zero)))))) r lt same = let no : bytes_eq (codes "export") (codes "calls") ≡ true = same in cc
+calls_only (suc (suc (suc (suc (suc (suc (suc zero))))))) r lt same = let no : bytes_eq (codes "compact") (codes "calls") ≡ true = same in cc
+calls_only (suc (suc (suc (suc (suc (suc (suc (suc zero)))))))) r lt same = let no : bytes_eq (codes "check") (codes "calls") ≡ true = same in cc
+calls_only (suc (suc (suc (suc (suc (suc (suc (suc (suc zero))))))))) r lt same = let no : bytes_eq (codes "http") (codes "calls") ≡ true = same in cc
+calls_only (suc (suc (suc (suc (suc (suc (suc (suc (suc (suc zero)))))))))) r lt same = let no : bytes_eq (codes "framed") (codes "calls") ≡ true = same in cc
+calls_only (suc (suc (suc (suc (suc (suc (suc (suc (suc (suc (suc zero))))))))))) r lt same = let no : bytes_eq (codes "token-file") (codes "calls") ≡ true = same in cc
+calls_only (suc (suc (suc (suc (suc (suc (suc (suc (suc (suc (suc (suc j)))))))))))) r lt same = absurd (omega arith)
 
-cache_only : (j : ℕ) (r : Rule) → j < 11 → bytes_eq (slice_index_or all_rules j r).id (codes "cache") ≡ true → j ≡ 1
+cache_only : (j : ℕ) (r : Rule) → j < 12 → bytes_eq (slice_index_or all_rules j r).id (codes "cache") ≡ true → j ≡ 1
 cache_only zero r lt same = let no : bytes_eq (codes "calls") (codes "cache") ≡ true = same in cc
 cache_only (suc zero) r lt same = refl
 cache_only (suc (suc zero)) r lt same = let no : bytes_eq (codes "trace") (codes "cache") ≡ true = same in cc
 cache_only (suc (suc (suc zero))) r lt same = let no : bytes_eq (codes "database") (codes "cache") ≡ true = same in cc
 cache_only (suc (suc (suc (suc zero)))) r lt same = let no : bytes_eq (codes "must-exist") (codes "cache") ≡ true = same in cc
-cache_only (suc (suc (suc (suc (suc zero))))) r lt same = let no : bytes_eq (codes "export") (codes "cache") ≡ true = same in cc
-cache_only (suc (suc (suc (suc (suc (suc zero)))))) r lt same = let no : bytes_eq (codes "compact") (codes "cache") ≡ true = same in cc
-cache_only (suc (suc (suc (suc (suc (suc (suc zero))))))) r lt same = let no : bytes_eq (codes "check") (codes "cache") ≡ true = same in cc
-cache_only (suc (suc (suc (suc (suc (suc (suc (suc zero)))))))) r lt same = let no : bytes_eq (codes "http") (codes "cache") ≡ true = same in cc
-cache_only (suc (suc (suc (suc (suc (suc (suc (suc (suc zero))))))))) r lt same = let no : bytes_eq (codes "framed") (codes "cache") ≡ true = same in cc
-cache_only (suc (suc (suc (suc (suc (suc (suc (suc (suc (suc zero)))))))))) r lt same = let no : bytes_eq (codes "token-file") (codes "cache") ≡ true = same in cc
-cache_only (suc (suc (suc (suc (suc (suc (suc (suc (suc (suc (suc j))))))))))) r lt same = absurd (omega arith)
+cache_only (suc (suc (suc (suc (suc zero))))) r lt same = let no : bytes_eq (codes "without-wal") (codes "cache") ≡ true = same in cc
+cache_only (suc (suc (suc (suc (suc (suc zero)))))) r lt same = let no : bytes_eq (codes "export") (codes "cache") ≡ true = same in cc
+cache_only (suc (suc (suc (suc (suc (suc (suc zero))))))) r lt same = let no : bytes_eq (codes "compact") (codes "cache") ≡ true = same in cc
+cache_only (suc (suc (suc (suc (suc (suc (suc (suc zero)))))))) r lt same = let no : bytes_eq (codes "check") (codes "cache") ≡ true = same in cc
+cache_only (suc (suc (suc (suc (suc (suc (suc (suc (suc zero))))))))) r lt same = let no : bytes_eq (codes "http") (codes "cache") ≡ true = same in cc
+cache_only (suc (suc (suc (suc (suc (suc (suc (suc (suc (suc zero)))))))))) r lt same = let no : bytes_eq (codes "framed") (codes "cache") ≡ true = same in cc
+cache_only (suc (suc (suc (suc (suc (suc (suc (suc (suc (suc (suc zero))))))))))) r lt same = let no : bytes_eq (codes "token-file") (codes "cache") ≡ true = same in cc
+cache_only (suc (suc (suc (suc (suc (suc (suc (suc (suc (suc (suc (suc j)))))))))))) r lt same = absurd (omega arith)
 
 calls_arg : (c : Command) → app_of c ≡ site_app → (a : Arg) × IsNumberArg c 0 a (codes "calls") 100000
 calls_arg c is =
     let rules = rules_are c is in
     let item = item_at rule_of (args_of c) all_rules 0 (number_rule (codes "calls") 100000) rules (lit< tt) in
-    let eleven : length (args_of c) ≡ 11 = sym (length-map (args_of c) rule_of) ∙ ap (λ (rs : List Rule). length rs) rules in (
+    let twelve : length (args_of c) ≡ 12 = sym (length-map (args_of c) rule_of) ∙ ap (λ (rs : List Rule). length rs) rules in (
       item.0,
       record {
-        within = rw eleven (lit< tt);
+        within = rw twelve (lit< tt);
         is = item.1;
         id_is = ap (λ (r : Rule). r.id) item.2;
         parser = ap (λ (r : Rule). r.parser) item.2;
         alone =
-            λ j e lt same. calls_only j (rule_of e) (subst (λ n. j < n) eleven lt)
+            λ j e lt same. calls_only j (rule_of e) (subst (λ n. j < n) twelve lt)
             (subst (λ (w : Text). bytes_eq w (codes "calls") ≡ true) (id_at (args_of c) all_rules rules j e lt) same);
         own = λ auto. elim auto [ inl h ↦ cc | inr h ↦ cc ];
         named = λ h. cc;
@@ -184,15 +186,15 @@ cache_arg : (c : Command) → app_of c ≡ site_app → (a : Arg) × IsNumberArg
 cache_arg c is =
     let rules = rules_are c is in
     let item = item_at rule_of (args_of c) all_rules 1 (number_rule (codes "cache") 4096) rules (lit< tt) in
-    let eleven : length (args_of c) ≡ 11 = sym (length-map (args_of c) rule_of) ∙ ap (λ (rs : List Rule). length rs) rules in (
+    let twelve : length (args_of c) ≡ 12 = sym (length-map (args_of c) rule_of) ∙ ap (λ (rs : List Rule). length rs) rules in (
       item.0,
       record {
-        within = rw eleven (lit< tt);
+        within = rw twelve (lit< tt);
         is = item.1;
         id_is = ap (λ (r : Rule). r.id) item.2;
         parser = ap (λ (r : Rule). r.parser) item.2;
         alone =
-            λ j e lt same. cache_only j (rule_of e) (subst (λ n. j < n) eleven lt)
+            λ j e lt same. cache_only j (rule_of e) (subst (λ n. j < n) twelve lt)
             (subst (λ (w : Text). bytes_eq w (codes "cache") ≡ true) (id_at (args_of c) all_rules rules j e lt) same);
         own = λ auto. elim auto [ inl h ↦ cc | inr h ↦ cc ];
         named = λ h. cc;

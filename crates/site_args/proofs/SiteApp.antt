@@ -1,8 +1,7 @@
 -- Facts about the program's command line, computed.
-use Rattle.std.proofs.Common.{◌≡◌, ◌∙◌, [], ◌∷◌, List, map, true, codes, refl, ap, ap₂}
+use Rattle.std.proofs.Common.{◌≡◌, ◌∙◌, [], ◌∷◌, List, map, true, codes, refl, ap}
 use Rattle.std.specs.List.{All, list_all}
-use Rattle.clap.specs.Words.{App, Rule, app_of, args_of, is_simple, is_simple_and_free, with_rule, new_app, rule_of}
-use Rattle.clap.specs.Simple.{on_top}
+use Rattle.clap.specs.Words.{App, Rule, app_of, args_of, is_simple, is_simple_and_free, rule_of}
 use Rattle.clap.specs.declared.builder.command.Command.{Command}
 use Rattle.clap.proofs.OnLiterals.{clap_on_literals}
 use Rattle.clap.proofs.SimpleLemmas.{HasPlainFields, plain_fields, simple_groups}
@@ -23,11 +22,11 @@ unfolding site_app
 app_is bare served filed logged whole is_bare is_served is_filed is_logged is_whole =
     is_whole ∙ ap http_rules (is_logged ∙ ap history_rules (is_filed ∙ ap file_rules (is_served ∙ ap serving_rules is_bare)))
 
--- the eleven options
+-- the twelve options
 abbrev pub all_rules : List Rule
 all_rules =
     number_rule (codes "calls") 100000 ∷ number_rule (codes "cache") 4096 ∷ flag_rule (codes "trace") ∷ path_rule (codes "database")
-    ∷ flag_rule (codes "must-exist") ∷ flag_rule (codes "export") ∷ flag_rule (codes "compact")
+    ∷ flag_rule (codes "must-exist") ∷ flag_rule (codes "without-wal") ∷ flag_rule (codes "export") ∷ flag_rule (codes "compact")
     ∷ flag_rule (codes "check") ∷ flag_rule (codes "http") ∷ flag_rule (codes "framed") ∷ path_rule (codes "token-file") ∷ []
 
 pub rules_are : (c : Command) → app_of c ≡ site_app → map rule_of (args_of c) ≡ all_rules

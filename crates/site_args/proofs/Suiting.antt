@@ -16,7 +16,7 @@ none_mapped f (Some x) false e = refl
 -- a refusal is right where the options ask for nothing, or for a task that doesn't suit them
 pub bad_for : (o : Options) (answer : ArgsAnswer) → IsBad answer
     → AskBy o None ⊎ ((task : Task) × AskBy o (Some task) × (suits_by o task ≡ false)) → IsReadFrom o answer
-bad_for o (Run calls cache trace must_exist http framed token_file task) is why = absurd is
+bad_for o (Run calls cache trace must_exist without_wal http framed token_file task) is why = absurd is
 bad_for o (Help text) is why = absurd is
 bad_for o (Bad text) is why = why
 bad_for o OutOfMemory is why = tt

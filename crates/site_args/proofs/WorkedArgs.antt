@@ -3,7 +3,7 @@ use Rattle.std.proofs.Common.{◌≡◌, List, [], ◌∷◌, codes, refl, true,
 use Rattle.clap.proofs.OnLiterals.{clap_on_literals}
 use Rattle.clap.specs.Words.{Text}
 use Rattle.clap.specs.declared.error.kind.ErrorKind.TheVariants as kind
-use Rattle.site_args.specs.CommandLine.{calls_of, cache_of, trace_of, database_of, export_of, compact_of, check_of, must_exist_of, http_of, framed_of, token_file_of, reasons, site_app}
+use Rattle.site_args.specs.CommandLine.{calls_of, cache_of, trace_of, database_of, export_of, compact_of, check_of, must_exist_of, without_wal_of, http_of, framed_of, token_file_of, reasons, site_app}
 
 pub no_words : reasons [] ≡ []
 unfolding clap_on_literals site_app
@@ -138,6 +138,14 @@ must_exist = refl
 pub may_be_new : must_exist_of (codes "--database" ∷ codes "a.db" ∷ []) ≡ false
 unfolding clap_on_literals site_app
 may_be_new = refl
+
+pub without_wal : without_wal_of (codes "--without-wal" ∷ []) ≡ true
+unfolding clap_on_literals site_app
+without_wal = refl
+
+pub with_wal : without_wal_of (codes "--database" ∷ codes "a.db" ∷ []) ≡ false
+unfolding clap_on_literals site_app
+with_wal = refl
 
 abbrev pub http_options : List Text
 http_options = codes "--http" ∷ codes "--token-file" ∷ codes "key" ∷ []

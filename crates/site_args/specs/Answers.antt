@@ -3,7 +3,7 @@ use Rattle.std.specs.Prelude.{◌≡◌, ◌≢◌, ◌≤◌, ◌⊎◌, List, 
 use Rattle.clap.specs.Words.{IsAmong, Kinds, Text}
 use Rattle.clap.specs.declared.error.kind.ErrorKind.{ErrorKind}
 use Rattle.clap.specs.declared.error.kind.ErrorKind.TheVariants.{DisplayHelp}
-use Rattle.site_args.specs.CommandLine.{calls_of, cache_of, trace_of, database_of, must_exist_of, export_of, compact_of, check_of, http_of, framed_of, token_file_of, reasons}
+use Rattle.site_args.specs.CommandLine.{calls_of, cache_of, trace_of, database_of, must_exist_of, without_wal_of, export_of, compact_of, check_of, http_of, framed_of, token_file_of, reasons}
 use Rattle.site_args.specs.declared.answer.Task.{Task}
 use Rattle.site_args.specs.declared.answer.Task.TheVariants.{Serve, ServeFile, Export, Compact, Check}
 use Rattle.site_args.specs.declared.answer.Options.{Options}
@@ -12,33 +12,35 @@ use Rattle.site_args.specs.declared.answer.ArgsAnswer.TheVariants.{Run, Help, Ba
 
 -- 1 to 100,000 calls, and 1 to 4,096 texts
 abbrev pub HasRanges : ArgsAnswer → Type 0
-HasRanges (Run calls cache trace must_exist http framed token_file task) = ((1 ≤ calls) × (calls ≤ 100000)) × ((1 ≤ cache) × (cache ≤ 4096))
+HasRanges (Run calls cache trace must_exist without_wal http framed token_file task) = ((1 ≤ calls) × (calls ≤ 100000)) × ((1 ≤ cache) × (cache ≤ 4096))
 HasRanges _ = Unit {0}
 
 -- the numbers are those of the arguments, and so are the options that stand for themselves
 abbrev pub HasNumbers : List Text → ArgsAnswer → Type 0
-HasNumbers words (Run calls cache trace must_exist http framed token_file task) = (calls ≡ calls_of words) × (cache ≡ cache_of words) × (trace ≡ trace_of words)
-    × (must_exist ≡ must_exist_of words) × (http ≡ http_of words) × (framed ≡ framed_of words) × (option_map string_bytes token_file ≡ token_file_of words)
+HasNumbers words (Run calls cache trace must_exist without_wal http framed token_file task) = (calls ≡ calls_of words) × (cache ≡ cache_of words) × (trace ≡ trace_of words)
+    × (must_exist ≡ must_exist_of words) × (without_wal ≡ without_wal_of words) × (http ≡ http_of words) × (framed ≡ framed_of words)
+    × (option_map string_bytes token_file ≡ token_file_of words)
 HasNumbers words _ = Unit {0}
 
--- `--must-exist`, `--export`, `--compact` and `--check` each need a database, and of the last three there is at most one
-abbrev pub go_together : Option Text → (must_exist export compact check : Bool) → Bool
-go_together None must_exist export compact check = not (must_exist || export || compact || check)
-go_together (Some path) must_exist export compact check = not ((export && compact) || (export && check) || (compact && check))
+-- `--must-exist`, `--without-wal`, `--export`, `--compact` and `--check` each need a database, and of the last three there is at
+-- most one
+abbrev pub go_together : Option Text → (must_exist without_wal export compact check : Bool) → Bool
+go_together None must_exist without_wal export compact check = not (must_exist || without_wal || export || compact || check)
+go_together (Some path) must_exist without_wal export compact check = not ((export && compact) || (export && check) || (compact && check))
 
 -- what they ask for, which is nothing if they don't go together
-abbrev pub AsksFor : Option Text → (must_exist export compact check : Bool) → Option Task → Type 0
-AsksFor None false false false false (Some Serve) = Unit {0}
-AsksFor (Some path) must_exist false false false (Some (ServeFile file)) = string_bytes file ≡ path
-AsksFor (Some path) must_exist true false false (Some (Export file)) = string_bytes file ≡ path
-AsksFor (Some path) must_exist false true false (Some (Compact file)) = string_bytes file ≡ path
-AsksFor (Some path) must_exist false false true (Some (Check file)) = string_bytes file ≡ path
-AsksFor database must_exist export compact check None = go_together database must_exist export compact check ≡ false
-AsksFor _ _ _ _ _ _ = ⊥
+abbrev pub AsksFor : Option Text → (must_exist without_wal export compact check : Bool) → Option Task → Type 0
+AsksFor None false false false false false (Some Serve) = Unit {0}
+AsksFor (Some path) must_exist without_wal false false false (Some (ServeFile file)) = string_bytes file ≡ path
+AsksFor (Some path) must_exist without_wal true false false (Some (Export file)) = string_bytes file ≡ path
+AsksFor (Some path) must_exist without_wal false true false (Some (Compact file)) = string_bytes file ≡ path
+AsksFor (Some path) must_exist without_wal false false true (Some (Check file)) = string_bytes file ≡ path
+AsksFor database must_exist without_wal export compact check None = go_together database must_exist without_wal export compact check ≡ false
+AsksFor _ _ _ _ _ _ _ = ⊥
 
 -- what these arguments ask for
 abbrev pub IsTask : List Text → Option Task → Type 0
-IsTask words task = AsksFor (database_of words) (must_exist_of words) (export_of words) (compact_of words) (check_of words) task
+IsTask words task = AsksFor (database_of words) (must_exist_of words) (without_wal_of words) (export_of words) (compact_of words) (check_of words) task
 
 -- only what is served can be served over HTTP, and only then there may be frames or a token
 abbrev pub suits : (http framed no_token : Bool) → Task → Bool
@@ -58,7 +60,7 @@ IsRefusedFor kinds = (kind : ErrorKind) × (kind ≢ DisplayHelp) × IsAmong kin
 -- clap accepts the arguments and the options go together, or it asks to show help, or one of the two refuses; on allocation failure
 -- nothing else is stated
 abbrev pub IsOutcome : List Text → ArgsAnswer → Type 0
-IsOutcome words (Run calls cache trace must_exist http framed token_file task) = (reasons words ≡ []) × IsTask words (Some task)
+IsOutcome words (Run calls cache trace must_exist without_wal http framed token_file task) = (reasons words ≡ []) × IsTask words (Some task)
     × (suits (http_of words) (framed_of words) (is_none (token_file_of words)) task ≡ true)
 IsOutcome words (Help text) = IsAmong DisplayHelp (reasons words)
 IsOutcome words (Bad text) = IsRefusedFor (reasons words) ⊎ ((reasons words ≡ []) × (IsTask words None ⊎ IsUnsuited words))
@@ -68,7 +70,7 @@ IsOutcome words OutOfMemory = Unit {0}
 
 -- what clap's error comes to
 abbrev pub IsRefusal : Kinds → ArgsAnswer → Type 0
-IsRefusal kinds (Run calls cache trace must_exist http framed token_file task) = ⊥
+IsRefusal kinds (Run calls cache trace must_exist without_wal http framed token_file task) = ⊥
 IsRefusal kinds (Help text) = IsAmong DisplayHelp kinds
 IsRefusal kinds (Bad text) = IsRefusedFor kinds
 IsRefusal kinds OutOfMemory = Unit {0}
@@ -81,7 +83,7 @@ IsBad _ = ⊥
 
 -- these options ask for this task
 abbrev pub AskBy : Options → Option Task → Type 0
-AskBy o task = AsksFor (option_map string_bytes o.database) o.must_exist o.export o.compact o.check task
+AskBy o task = AsksFor (option_map string_bytes o.database) o.must_exist o.without_wal o.export o.compact o.check task
 
 -- the task suits these options
 abbrev pub suits_by : Options → Task → Bool
@@ -89,8 +91,9 @@ suits_by o task = suits o.http o.framed (is_none (option_map string_bytes o.toke
 
 -- what options that were read come to
 abbrev pub IsReadFrom : Options → ArgsAnswer → Type 0
-IsReadFrom o (Run calls cache trace must_exist http framed token_file task) =
-    (calls ≡ o.calls) × (cache ≡ o.cache) × (trace ≡ o.trace) × (must_exist ≡ o.must_exist) × (http ≡ o.http) × (framed ≡ o.framed)
+IsReadFrom o (Run calls cache trace must_exist without_wal http framed token_file task) =
+    (calls ≡ o.calls) × (cache ≡ o.cache) × (trace ≡ o.trace) × (must_exist ≡ o.must_exist) × (without_wal ≡ o.without_wal)
+    × (http ≡ o.http) × (framed ≡ o.framed)
     × (option_map string_bytes token_file ≡ option_map string_bytes o.token_file) × AskBy o (Some task) × (suits_by o task ≡ true)
 IsReadFrom o (Help text) = ⊥
 IsReadFrom o (Bad text) = AskBy o None ⊎ ((task : Task) × AskBy o (Some task) × (suits_by o task ≡ false))

@@ -30,7 +30,7 @@ serving_rules app =
 
 -- those of a site in a file
 abbrev pub file_rules : App → App
-file_rules app = with_rule (with_rule app (path_rule (codes "database"))) (flag_rule (codes "must-exist"))
+file_rules app = with_rule (with_rule (with_rule app (path_rule (codes "database"))) (flag_rule (codes "must-exist"))) (flag_rule (codes "without-wal"))
 
 -- and those for its history
 abbrev pub history_rules : App → App
@@ -44,8 +44,8 @@ http_rules app = with_rule (with_rule (with_rule app (flag_rule (codes "http")))
 abbrev pub bare_app : App
 bare_app = on_top (λ s. record s { no_binary_name = true }) (new_app (codes "site"))
 
--- `site [--calls N] [--cache N] [--trace] [--database FILE] [--must-exist] [--export] [--compact] [--check] [--http]
--- [--framed] [--token-file FILE]`
+-- `site [--calls N] [--cache N] [--trace] [--database FILE] [--must-exist] [--without-wal] [--export] [--compact]
+-- [--check] [--http] [--framed] [--token-file FILE]`
 unfoldable pub site_app : App
 site_app = http_rules (history_rules (file_rules (serving_rules bare_app)))
 
@@ -82,6 +82,10 @@ database_of words = first_of (codes "database") (matches_of site_app words)
 -- whether that file has to be there
 abbrev pub must_exist_of : List Text → Bool
 must_exist_of words = is_given (first_of (codes "must-exist") (matches_of site_app words))
+
+-- whether it may be without SQLite's log beside it
+abbrev pub without_wal_of : List Text → Bool
+without_wal_of words = is_given (first_of (codes "without-wal") (matches_of site_app words))
 
 -- whether the short history is to be printed
 abbrev pub export_of : List Text → Bool

@@ -7,6 +7,7 @@ ghost use Rattle.site_args.specs.CommandLine.{
   trace_of,
   database_of,
   must_exist_of,
+  without_wal_of,
   export_of,
   compact_of,
   check_of,
@@ -53,6 +54,8 @@ pub enum ArgsAnswer {
         trace: bool,
         /// Whether the file has to be there already: not if no argument says so.
         must_exist: bool,
+        /// Whether the file is taken without SQLite's log beside it: not if no argument says so.
+        without_wal: bool,
         /// Whether what is served is served over HTTP: not if no argument says so.
         http: bool,
         /// Whether that is to many clients, on one stream of frames: not if no argument says so.
@@ -72,8 +75,8 @@ pub enum ArgsAnswer {
 
 // What is said of options that don't go together.
 const APART: &str =
-    "error: '--must-exist', '--export', '--compact' and '--check' each need '--database <FILE>', and \
-    the last three exclude one another\n\n\
+    "error: '--must-exist', '--without-wal', '--export', '--compact' and '--check' each need \
+    '--database <FILE>', and the last three exclude one another\n\n\
     For more information, try '--help'.\n";
 
 // What is said of options for HTTP that don't suit what is asked for.
@@ -89,6 +92,7 @@ struct Options {
     trace: bool,
     database: Option<String>,
     must_exist: bool,
+    without_wal: bool,
     export: bool,
     compact: bool,
     check: bool,
@@ -98,11 +102,12 @@ struct Options {
 }
 
 /// Parses the command-line arguments: `--calls N`, `--cache N` (also as `--calls=N`), `--trace`,
-/// `--database FILE`, `--must-exist`, `--export`, `--compact`, `--check`, `--http`, `--framed`,
-/// `--token-file FILE` and `--help`. An option given twice, a number out of its range, any other
-/// argument, one of `--must-exist`, `--export`, `--compact` and `--check` without a database, two of
-/// the last three, one of them with `--http`, and `--framed` or `--token-file` without it are
-/// [`ArgsAnswer::Bad`]. The last clause says in clap's terms which answer it is.
+/// `--database FILE`, `--must-exist`, `--without-wal`, `--export`, `--compact`, `--check`, `--http`,
+/// `--framed`, `--token-file FILE` and `--help`. An option given twice, a number out of its range,
+/// any other argument, one of `--must-exist`, `--without-wal`, `--export`, `--compact` and `--check`
+/// without a database, two of the last three, one of them with `--http`, and `--framed` or
+/// `--token-file` without it are [`ArgsAnswer::Bad`]. The last clause says in clap's terms which answer
+/// it is.
 pub fn read_args(alloc: Global, words: &[String]) -> ArgsAnswer
     ensures ranges { HasRanges result }
     ensures numbers { HasNumbers (map string_bytes words.now) result }
@@ -127,6 +132,7 @@ fn answer(alloc: Global, options: Options) -> ArgsAnswer
         trace,
         database,
         must_exist,
+        without_wal,
         export,
         compact,
         check,
@@ -134,12 +140,13 @@ fn answer(alloc: Global, options: Options) -> ArgsAnswer
         framed,
         token_file,
     } = options;
-    match task_for(database, must_exist, export, compact, check) {
+    match task_for(database, must_exist, without_wal, export, compact, check) {
         Some(task) if suits(http, framed, token_file.is_none(), &task) => ArgsAnswer::Run {
             calls,
             cache,
             trace,
             must_exist,
+            without_wal,
             http,
             framed,
             token_file,
@@ -175,14 +182,15 @@ fn suits(http: bool, framed: bool, no_token: bool, task: &Task) -> bool
 fn task_for(
     database: Option<String>,
     must_exist: bool,
+    without_wal: bool,
     export: bool,
     compact: bool,
     check: bool,
 ) -> Option<Task>
-    ensures { AsksFor (option_map string_bytes database) must_exist export compact check result }
+    ensures { AsksFor (option_map string_bytes database) must_exist without_wal export compact check result }
 {
     match database {
-        None if must_exist || export || compact || check => None,
+        None if must_exist || without_wal || export || compact || check => None,
         None => Some(Task::Serve),
         Some(_) if (export && compact) || (export && check) || (compact && check) => None,
         Some(path) if export => Some(Task::Export(path)),
@@ -203,6 +211,8 @@ fn read_options(alloc: Global, words: &[String]) -> Result<Options, Error>
         ≡ database_of (map string_bytes words.now)) }
     ensures must_exist { IfOk result
         (λ o. o.must_exist ≡ must_exist_of (map string_bytes words.now)) }
+    ensures without_wal { IfOk result
+        (λ o. o.without_wal ≡ without_wal_of (map string_bytes words.now)) }
     ensures export { IfOk result (λ o. o.export ≡ export_of (map string_bytes words.now)) }
     ensures compact { IfOk result (λ o. o.compact ≡ compact_of (map string_bytes words.now)) }
     ensures check { IfOk result (λ o. o.check ≡ check_of (map string_bytes words.now)) }
@@ -218,6 +228,7 @@ fn read_options(alloc: Global, words: &[String]) -> Result<Options, Error>
     let cache = matches.get_one::<u32>("cache").unwrap_or(64);
     let trace = is_given(matches.get_str("trace"));
     let must_exist = is_given(matches.get_str("must-exist"));
+    let without_wal = is_given(matches.get_str("without-wal"));
     let export = is_given(matches.get_str("export"));
     let compact = is_given(matches.get_str("compact"));
     let check = is_given(matches.get_str("check"));
@@ -231,6 +242,7 @@ fn read_options(alloc: Global, words: &[String]) -> Result<Options, Error>
         trace,
         database,
         must_exist,
+        without_wal,
         export,
         compact,
         check,

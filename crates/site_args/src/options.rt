@@ -76,6 +76,17 @@ fn must_exist_flag<'a>(alloc: Global) -> Arg<'a>
         .action(ArgAction::SetTrue)
 }
 
+/// Makes the flag `--without-wal`.
+fn without_wal_flag<'a>(alloc: Global) -> Arg<'a>
+    ensures rule { rule_of result ≡ flag_rule (codes "without-wal") }
+    ensures local { result.global ≡ false }
+{
+    Arg::new(alloc, "without-wal")
+        .long("without-wal")
+        .help("Takes a database that has no FILE-wal beside it, which is else refused")
+        .action(ArgAction::SetTrue)
+}
+
 /// Makes the flag `--export`.
 fn export_flag<'a>(alloc: Global) -> Arg<'a>
     ensures rule { rule_of result ≡ flag_rule (codes "export") }
@@ -170,7 +181,8 @@ fn with_file_options<'a>(alloc: Global, command: Command<'a>) -> Result<Command<
 {
     command
         .arg(database_option(alloc))?
-        .arg(must_exist_flag(alloc))
+        .arg(must_exist_flag(alloc))?
+        .arg(without_wal_flag(alloc))
 }
 
 /// Adds the options for the history in a file.

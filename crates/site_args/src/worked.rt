@@ -1,8 +1,8 @@
 //! Worked command lines that are theorems: each clause below is computed from clap's definitions.
 ghost use Rattle.std.specs.Prelude.{◌≡◌, ◌∷◌, [], codes, true, false, Some, None};
 ghost use Rattle.site_args.specs.CommandLine.{calls_of, cache_of, trace_of, database_of, export_of};
-ghost use Rattle.site_args.specs.CommandLine.{check_of, compact_of, must_exist_of, http_of};
-ghost use Rattle.site_args.specs.CommandLine.{framed_of, token_file_of, reasons};
+ghost use Rattle.site_args.specs.CommandLine.{check_of, compact_of, must_exist_of, without_wal_of};
+ghost use Rattle.site_args.specs.CommandLine.{http_of, framed_of, token_file_of, reasons};
 
 use clap::error::ErrorKind;
 
@@ -35,6 +35,8 @@ pub fn worked_args()
     ensures check { check_of (codes "--database" ∷ codes "a.db" ∷ codes "--check" ∷ []) ≡ true }
     ensures must_exist { must_exist_of (codes "--must-exist" ∷ []) ≡ true }
     ensures may_be_new { must_exist_of (codes "--database" ∷ codes "a.db" ∷ []) ≡ false }
+    ensures without_wal { without_wal_of (codes "--without-wal" ∷ []) ≡ true }
+    ensures with_wal { without_wal_of (codes "--database" ∷ codes "a.db" ∷ []) ≡ false }
 
     ensures served_over_http { reasons
         (codes "--http" ∷ codes "--token-file" ∷ codes "key" ∷ []) ≡ [] }

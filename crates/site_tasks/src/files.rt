@@ -223,7 +223,7 @@ pub fn serve_path<C: Commands, R: Source + Drop, W: Steady + Drop, V: Watch>(
 
 /// Opens the log in a file, or makes it, and makes the site anew by its lines, the first of which has
 /// to be the identity. If that fails, says why, and returns the program's exit status.
-pub fn opened<C: Commands>(
+pub(crate) fn opened<C: Commands>(
     rt: &HostRuntime,
     path: &str,
     site: &mut C,

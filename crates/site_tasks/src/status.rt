@@ -18,7 +18,7 @@ pub fn failed_at(rt: &HostRuntime, what: &str, fault: impl Display + Drop) -> Ex
 
 /// Says on standard error why a site was not started from a file. A log beside the file that is
 /// damaged or does not belong to it is named: it is that file which has to be kept as it is.
-pub(crate) fn not_started(rt: &HostRuntime, path: &str, fault: StartFault) -> ExitCode {
+pub fn not_started(rt: &HostRuntime, path: &str, fault: StartFault) -> ExitCode {
     match fault {
         StartFault::Log(LogFault::DamagedTail { commits, following }) => {
             let _ = eprintln!(rt;

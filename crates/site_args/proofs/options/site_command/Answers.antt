@@ -1,4 +1,3 @@
-use Rattle.std.proofs.Common.{◌≡◌}
 use Rattle.std.proofs.lemmas.Result.{IfOk-weaker}
 use Rattle.site_args.proofs.SiteApp.{app_is}
 use Rattle.site_args.proofs.options.site_command.Goals as goal

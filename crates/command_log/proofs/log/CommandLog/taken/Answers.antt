@@ -12,4 +12,4 @@ returns-else-branch-clause-older g c is =
     let it = c.in_ok-reaches.ensures in
     let was = c.in-Ok.ensures in
     falls_short g.S.Store g.met.S.Store.shut_if_dirty c.args.conn c.in-Ok.log c.reaches.new.self c.args.number c.in_ok-reaches.field-0 it.survives it.committed
-    it.reaches c.if-branch.false was.survives was.lines was.stays it.shut it.stays
+    it.reaches c.if-branch.false was.survives was.rows was.stays it.shut it.stays
