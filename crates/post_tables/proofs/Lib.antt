@@ -25,3 +25,4 @@ pub mod PartIds
 pub mod After
 pub mod Beyond
 pub mod NewIds
+pub mod Keeping

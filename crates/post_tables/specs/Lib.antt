@@ -5,3 +5,4 @@ pub mod Page
 pub mod Stored
 pub mod Reading
 pub mod Worked
+pub mod Kept

@@ -3,6 +3,7 @@
 
 mod fault;
 mod import;
+mod kept;
 mod listing;
 mod named;
 mod posts;

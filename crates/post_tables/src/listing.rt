@@ -2,6 +2,7 @@
 ghost use Rattle.std.specs.Prelude.{◌≡◌, ◌++◌, map, All, IfOk, IfErr, OnOk};
 ghost use Rattle.std.specs.List.{flat_map};
 ghost use Rattle.std.specs.Option.{option_to_list};
+ghost use Rattle.post_tables.specs.Kept.{AreStored};
 ghost use Rattle.post_tables.specs.Page.{page_of};
 ghost use Rattle.post_tables.specs.Reading.{IsId, IsStopped};
 ghost use Rattle.post_tables.specs.Rows.{IsReadFault, post_with};
@@ -10,16 +11,22 @@ ghost use Rattle.sqlite_rules.specs.Edit.{id_in};
 ghost use Rattle.sqlite_value.specs.Order.{column};
 
 use crate::fault::TablesFault;
+use crate::kept::KeptPosts;
 use crate::posts::{kind_text, largest_id, page_rows, post_rows};
 use crate::read::{push, read_found, read_id, read_posts};
 use site_records::{Post, PostDate, PostKind};
 use sqlite::{Connection, Error, MemStore, Row, params};
 use std::alloc::Global;
 
+/// How many posts of a part are read one by one, if the others are kept. If more aren't, one statement
+/// that reads all of them takes less.
+const FEW: usize = 4;
+
 /// Returns the published entries of a kind and a span of dates, newest first: without the first
 /// `offset`, and at most `limit`.
 pub(crate) fn part(
     conn: &mut Connection<MemStore>,
+    kept: &mut KeptPosts,
     alloc: Global,
     kind: PostKind,
     from: &PostDate,
@@ -27,10 +34,12 @@ pub(crate) fn part(
     limit: u32,
     offset: u64,
 ) -> Result<Vec<Post>, TablesFault>
-    requires { IsSite conn.old }
+    requires site { IsSite conn.old }
+    requires stored { AreStored kept.old (rows_of conn.old).posts }
     ensures reads { Reads conn.old conn.new }
     ensures posts { IfOk result (λ posts. posts.items
         ≡ page_of kind from.now to.now limit offset (rows_of conn.old).posts) }
+    ensures stored { AreStored kept.new (rows_of conn.old).posts }
     ensures stopped { IfErr result (IsReadFault (rows_of conn.old).step_limit) }
 {
     // There are fewer IDs than that.
@@ -38,17 +47,64 @@ pub(crate) fn part(
         return Ok(Vec::new(alloc));
     };
     if offset > 0 {
-        return later_part(conn, alloc, kind, from, to, limit, offset);
+        return later_part(conn, kept, alloc, kind, from, to, limit, offset);
     }
-    // Nothing is left out, so one statement reads what is returned and no more.
-    let rows = page_rows(conn, kind, from, to, limit, offset)?;
-    Ok(read_posts(alloc, &rows)?)
+    if kept.is_empty() {
+        return first_part(conn, kept, alloc, kind, from, to, limit);
+    }
+    let ids = id_rows(conn, kind, from, to, limit, offset)?;
+    if lacks_few(kept, &ids) {
+        return posts_with(conn, kept, alloc, &ids);
+    }
+    first_part(conn, kept, alloc, kind, from, to, limit)
+}
+
+/// Returns the same part, of which nothing is left out: one statement reads what is returned and no
+/// more.
+fn first_part(
+    conn: &mut Connection<MemStore>,
+    kept: &mut KeptPosts,
+    alloc: Global,
+    kind: PostKind,
+    from: &PostDate,
+    to: &PostDate,
+    limit: u32,
+) -> Result<Vec<Post>, TablesFault>
+    requires site { IsSite conn.old }
+    requires stored { AreStored kept.old (rows_of conn.old).posts }
+    ensures reads { Reads conn.old conn.new }
+    ensures posts { IfOk result (λ posts. posts.items
+        ≡ page_of kind from.now to.now limit 0 (rows_of conn.old).posts) }
+    ensures stored { AreStored kept.new (rows_of conn.old).posts }
+    ensures stopped { IfErr result (IsReadFault (rows_of conn.old).step_limit) }
+{
+    let rows = page_rows(conn, kind, from, to, limit, 0)?;
+    let posts = read_posts(alloc, &rows)?;
+    kept.keep_all(&posts);
+    Ok(posts)
+}
+
+/// Returns whether all posts with these IDs are kept, but for a few. That decides nothing but how they
+/// are read.
+fn lacks_few(kept: &KeptPosts, ids: &[Row]) -> bool
+    requires { All (λ r. IsId (column r 0)) ids.now }
+{
+    let mut lacking: usize = 0;
+    for row in ids {
+        if let Ok(id) = read_id(row) {
+            if kept.lacks(id) {
+                lacking = lacking.saturating_add(1);
+            }
+        }
+    }
+    lacking <= FEW
 }
 
 /// Returns the same part, which is empty if the largest ID ever given is below `offset`: each post
 /// has an ID of its own.
 fn later_part(
     conn: &mut Connection<MemStore>,
+    kept: &mut KeptPosts,
     alloc: Global,
     kind: PostKind,
     from: &PostDate,
@@ -56,23 +112,26 @@ fn later_part(
     limit: u32,
     offset: u32,
 ) -> Result<Vec<Post>, TablesFault>
-    requires { IsSite conn.old }
+    requires site { IsSite conn.old }
+    requires stored { AreStored kept.old (rows_of conn.old).posts }
     ensures reads { Reads conn.old conn.new }
     ensures posts { IfOk result (λ posts. posts.items
         ≡ page_of kind from.now to.now limit offset (rows_of conn.old).posts) }
+    ensures stored { AreStored kept.new (rows_of conn.old).posts }
     ensures stopped { IfErr result (IsReadFault (rows_of conn.old).step_limit) }
 {
     let largest = largest_id(conn)?;
     if largest < offset {
         return Ok(Vec::new(alloc));
     }
-    part_by_ids(conn, alloc, kind, from, to, limit, offset)
+    part_by_ids(conn, kept, alloc, kind, from, to, limit, offset)
 }
 
 /// Returns the same part, found by its IDs: of the posts that are left out no row is read, only
 /// their places in the index.
 fn part_by_ids(
     conn: &mut Connection<MemStore>,
+    kept: &mut KeptPosts,
     alloc: Global,
     kind: PostKind,
     from: &PostDate,
@@ -80,14 +139,16 @@ fn part_by_ids(
     limit: u32,
     offset: u32,
 ) -> Result<Vec<Post>, TablesFault>
-    requires { IsSite conn.old }
+    requires site { IsSite conn.old }
+    requires stored { AreStored kept.old (rows_of conn.old).posts }
     ensures reads { Reads conn.old conn.new }
     ensures posts { IfOk result (λ posts. posts.items
         ≡ page_of kind from.now to.now limit offset (rows_of conn.old).posts) }
+    ensures stored { AreStored kept.new (rows_of conn.old).posts }
     ensures stopped { IfErr result (IsReadFault (rows_of conn.old).step_limit) }
 {
     let ids = id_rows(conn, kind, from, to, limit, offset)?;
-    posts_with(conn, alloc, &ids)
+    posts_with(conn, kept, alloc, &ids)
 }
 
 /// Returns the IDs of a part, in its order. All that the statement reads is in the index of dates.
@@ -117,36 +178,69 @@ fn id_rows(
 /// Returns the posts that have the IDs, in the order of the IDs.
 fn posts_with(
     conn: &mut Connection<MemStore>,
+    kept: &mut KeptPosts,
     alloc: Global,
     ids: &[Row],
 ) -> Result<Vec<Post>, TablesFault>
     requires site { IsSite conn.old }
+    requires stored { AreStored kept.old (rows_of conn.old).posts }
     requires readable { All (λ r. IsId (column r 0)) ids.now }
     ensures reads { Reads conn.old conn.new }
     ensures posts { IfOk result (λ posts. posts.items
         ≡ flat_map (λ r. option_to_list
         (post_with (magnitude (id_in (column r 0))) (rows_of conn.old).posts)) ids.now) }
+    ensures stored { AreStored kept.new (rows_of conn.old).posts }
     ensures stopped { IfErr result (IsReadFault (rows_of conn.old).step_limit) }
 {
     let mut posts = Vec::new(alloc);
     for row in ids {
         let id = read_id(row)?;
-        push_post(conn, &mut posts, id)?;
+        push_post(conn, kept, &mut posts, id)?;
     }
     Ok(posts)
 }
 
 /// Appends the post with the ID, if there is one.
-fn push_post(conn: &mut Connection<MemStore>, posts: &mut Vec<Post>, id: u32) -> Result<(), Error>
-    requires { IsSite conn.old }
+fn push_post(
+    conn: &mut Connection<MemStore>,
+    kept: &mut KeptPosts,
+    posts: &mut Vec<Post>,
+    id: u32,
+) -> Result<(), Error>
+    requires site { IsSite conn.old }
+    requires stored { AreStored kept.old (rows_of conn.old).posts }
     ensures reads { Reads conn.old conn.new }
     ensures posts { OnOk result (posts.new.items
         ≡ posts.old.items ++ option_to_list (post_with id (rows_of conn.old).posts)) }
+    ensures stored { AreStored kept.new (rows_of conn.old).posts }
     ensures stopped { IfErr result (IsStopped (rows_of conn.old).step_limit) }
 {
-    let rows = post_rows(conn, id)?;
-    if let Some(post) = read_found(&rows)? {
+    if let Some(post) = post_at(conn, kept, id)? {
         push(posts, post)?;
     }
     Ok(())
+}
+
+/// Returns the post with the ID, if there is one. It is read only if it isn't kept.
+pub(crate) fn post_at(
+    conn: &mut Connection<MemStore>,
+    kept: &mut KeptPosts,
+    id: u32,
+) -> Result<Option<Post>, Error>
+    requires site { IsSite conn.old }
+    requires stored { AreStored kept.old (rows_of conn.old).posts }
+    ensures reads { Reads conn.old conn.new }
+    ensures post { IfOk result (λ post. post ≡ post_with id (rows_of conn.old).posts) }
+    ensures stored { AreStored kept.new (rows_of conn.old).posts }
+    ensures stopped { IfErr result (IsStopped (rows_of conn.old).step_limit) }
+{
+    if let Some(post) = kept.at(id) {
+        return Ok(Some(post));
+    }
+    let rows = post_rows(conn, id)?;
+    let found = read_found(&rows)?;
+    if let Some(post) = &found {
+        kept.keep(id, post);
+    }
+    Ok(found)
 }

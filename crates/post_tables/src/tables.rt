@@ -44,15 +44,16 @@ ghost use Rattle.post_tables.specs.Stored.{IsSite, Reads, rows_of};
 
 use crate::fault::TablesFault;
 use crate::import::import;
-use crate::listing::part;
+use crate::kept::KeptPosts;
+use crate::listing::{part, post_at};
 use crate::named::{
     active_rows, delete_active, delete_template, option_rows, put_active, put_option, put_template,
     template_rows,
 };
 use crate::posts::{
-    NewPost, delete_post, edit_post, has_post, insert_post, largest_id, later_rows, post_rows,
+    NewPost, delete_post, edit_post, has_post, insert_post, largest_id, later_rows,
 };
-use crate::read::{read_found, read_names, read_pairs, read_posts};
+use crate::read::{read_names, read_pairs, read_posts};
 use crate::schema::create;
 use plain_data::{Listed, Text};
 use site_records::{MAX_ID, Post, PostDate, PostKind, PostStatus, SiteRecords};
@@ -63,15 +64,20 @@ use std::marker::Model;
 /// What a site stores: posts and pages, options, templates, and the names of the active plugins,
 /// in a database in memory. Contracts see its rows as a record of lists and maps. A call that is
 /// refused leaves each of them as it was.
+///
+/// Posts that were read are kept until they change, so that a page whose posts are found anew reads
+/// those again that have changed. Contracts don't see them.
 #[derive(Drop)]
 pub struct Tables {
     conn: Connection<MemStore>,
+    kept: KeptPosts,
     alloc: Global,
 }
 
 impl Model for Tables {
     ghost use Rattle.post_tables.specs.Rows.{Rows, rows_code};
     ghost use Rattle.post_tables.specs.Stored.{IsSite, rows_of};
+    ghost use Rattle.post_tables.specs.Kept.{AreStored};
 
     ghost Value = { Rows };
 
@@ -79,7 +85,7 @@ impl Model for Tables {
 
     ghost view = { λ t. rows_of t.conn };
 
-    ghost invariant = { λ t. IsSite t.conn };
+    ghost invariant = { λ t. IsSite t.conn × AreStored t.kept (rows_of t.conn).posts };
 }
 
 /// Returns the ID after the largest that was ever given, or `IdsUsedUp` if there is none left.
@@ -136,7 +142,11 @@ impl Tables {
     {
         let mut conn = Connection::open_in_memory(alloc)?;
         create(&mut conn)?;
-        Ok(Tables { conn, alloc })
+        Ok(Tables {
+            conn,
+            kept: KeptPosts::new(alloc),
+            alloc,
+        })
     }
 
     /// Limits how many rows each later statement may visit, from the next call on; with `None`
@@ -214,6 +224,7 @@ impl Tables {
             → IsRefusedAs self.old.step_limit TablesFault.NoSuchPost result }
         ensures fault { IfErr result (λ e. (e ≡ TablesFault.NoSuchPost) ⊎ IsOfStore e) }
     {
+        self.kept.forget(id);
         match edit_post(&mut self.conn, id, status, title, content, date) {
             Ok(0) => Err(TablesFault::NoSuchPost),
             Ok(_) => Ok(()),
@@ -233,6 +244,7 @@ impl Tables {
             → IsRefusedAs self.old.step_limit TablesFault.NoSuchPost result }
         ensures fault { IfErr result (λ e. (e ≡ TablesFault.NoSuchPost) ⊎ IsOfStore e) }
     {
+        self.kept.forget(id);
         match delete_post(&mut self.conn, id) {
             Ok(0) => Err(TablesFault::NoSuchPost),
             Ok(_) => Ok(()),
@@ -246,8 +258,7 @@ impl Tables {
         ensures same { self.new ≡ self.old }
         ensures fault { IfErr result (IsReadFault self.old.step_limit) }
     {
-        let rows = post_rows(&mut self.conn, id)?;
-        Ok(read_found(&rows)?)
+        Ok(post_at(&mut self.conn, &mut self.kept, id)?)
     }
 
     /// Returns the posts and pages with an ID above `id`, published or not, by ascending ID: at
@@ -296,7 +307,16 @@ impl Tables {
         // Whatever calls were made, the date of each post is a day and a time.
         ensures dated { list_all (λ p. is_post_date p.date) self.old.posts ≡ true }
     {
-        let posts = part(&mut self.conn, self.alloc, kind, from, to, limit, offset)?;
+        let posts = part(
+            &mut self.conn,
+            &mut self.kept,
+            self.alloc,
+            kind,
+            from,
+            to,
+            limit,
+            offset,
+        )?;
         Ok(Listed::new(posts))
     }
 
@@ -387,6 +407,7 @@ impl Tables {
             → IsRefusedAs self.old.step_limit TablesFault.DuplicateId result }
         ensures fault { IfErr result (λ e. (e ≡ TablesFault.DuplicateId) ⊎ IsOfStore e) }
     {
+        self.kept.clear();
         import(&mut self.conn, self.alloc, records)
     }
 }

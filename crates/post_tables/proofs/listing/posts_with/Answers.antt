@@ -6,7 +6,9 @@ use Rattle.std.proofs.lemmas.List.Concat.{flat_map-append}
 use Rattle.site_records.specs.declared.post.Post.{Post}
 use Rattle.sqlite_value.specs.Order.{Row, column}
 use Rattle.post_tables.specs.Reading.{IsId}
+use Rattle.post_tables.specs.Rows.{Rows}
 use Rattle.post_tables.specs.Stored.{rows_of}
+use Rattle.post_tables.proofs.Keeping.{stored_same}
 use Rattle.post_tables.proofs.PartIds.{found_of, id_of}
 use Rattle.post_tables.proofs.listing.posts_with.Goals as goal
 
@@ -33,4 +35,14 @@ loop-row-preserved c =
           ∙ ap (λ l. l ++ found row) before.posts
           ∙ ap (λ l. flat_map found (take i ids) ++ l) (sym (append-nil (found row))) ∙ sym (flat_map-append found (take i ids) (row ∷ []))
           ∙ ap (flat_map found) (sym more);
+      stored = stored_same c.push_post.new.kept _ _ (ap (λ (s : Rows). s.posts) (sym before.reads.same)) pushed.stored;
     }
+
+pub push_post-requires-clause-stored : goal.push_post-requires-clause-stored
+push_post-requires-clause-stored c =
+    let before = c.loop-row.invariant in
+    stored_same c.loop-row.kept _ _ (ap (λ (s : Rows). s.posts) before.reads.same) before.stored
+
+pub returns-in_err-push_post-clause-stored : goal.returns-in_err-push_post-clause-stored
+returns-in_err-push_post-clause-stored c =
+    stored_same c.push_post.new.kept _ _ (ap (λ (s : Rows). s.posts) (sym c.loop-row.invariant.reads.same)) c.in_err-push_post.ensures.stored

@@ -9,18 +9,18 @@ use Rattle.post_tables.proofs.tables.Tables.posts_of.Goals as goal
 
 pub returns-in_err-posts-clause-dated : goal.returns-in_err-posts-clause-dated
 returns-in_err-posts-clause-dated c = subst (λ s. list_all (λ p. is_post_date p.date) s.posts ≡ true) c.self.view_is
-    (site_dated c.self.inside.conn c.self.invariant)
+    (site_dated c.self.inside.conn c.self.invariant.0)
 
 pub returns-clause-in_order : goal.returns-clause-in_order
 returns-clause-in_order c =
-    let rises = part_rises c.args.kind c.args.from.now c.args.to.now c.args.limit c.args.offset _ (site_rises c.self.inside.conn c.self.invariant) in
+    let rises = part_rises c.args.kind c.args.from.now c.args.to.now c.args.limit c.args.offset _ (site_rises c.self.inside.conn c.self.invariant.0) in
     subst (IsStrictlySortedBy newest) (sym (c.new.ensures ∙ c.in_ok-posts.ensures.posts)) rises
 
 pub returns-clause-stored : goal.returns-clause-stored
 returns-clause-stored c =
-    let each = part_is_of c.args.kind c.args.from.now c.args.to.now c.args.limit c.args.offset _ (site_rises c.self.inside.conn c.self.invariant) in
+    let each = part_is_of c.args.kind c.args.from.now c.args.to.now c.args.limit c.args.offset _ (site_rises c.self.inside.conn c.self.invariant.0) in
     subst (λ s. All (IsOf c.args.kind c.args.from.now c.args.to.now s.posts) c.new.result) c.self.view_is
     (subst (All (IsOf c.args.kind c.args.from.now c.args.to.now _)) (sym (c.new.ensures ∙ c.in_ok-posts.ensures.posts)) each)
 
 pub returns-clause-dated : goal.returns-clause-dated
-returns-clause-dated c = subst (λ s. list_all (λ p. is_post_date p.date) s.posts ≡ true) c.self.view_is (site_dated c.self.inside.conn c.self.invariant)
+returns-clause-dated c = subst (λ s. list_all (λ p. is_post_date p.date) s.posts ≡ true) c.self.view_is (site_dated c.self.inside.conn c.self.invariant.0)
