@@ -1,1 +1,2 @@
 pub mod WorkedCommands
+pub mod GetLines

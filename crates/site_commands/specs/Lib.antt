@@ -1,3 +1,5 @@
 pub mod Tree
 pub mod Asked
 pub mod Worked
+pub mod GetLine
+pub mod LastLine

@@ -4,9 +4,12 @@
 #![tactic(auto)]
 
 mod command;
+mod get_line;
 mod line;
+mod reader;
 mod worked;
 
 pub use command::{Command, read_command};
 pub use line::read_line;
+pub use reader::CommandReader;
 pub use worked::worked_commands;
