@@ -38,13 +38,15 @@ ghost use Rattle.permalink_query.specs.Found.{
   query_result,
 };
 ghost use Rattle.permalink_query.specs.Months.{is_month};
+ghost use Rattle.sorted_texts.specs.Sorted.{AreSorted};
 
 use crate::month::month_span;
 use crate::number::whole_number;
 use crate::query::Query;
 use plain_data::{Listed, Text};
 use post_tables::{StoreFault, Tables};
-use site_records::{Found, FoundKind, Post, PostDate, PostKind, PostStatus, text_named};
+use site_records::{Found, FoundKind, Post, PostDate, PostKind, PostStatus};
+use sorted_texts::sorted_named;
 use std::alloc::{AllocError, Global};
 
 /// How many posts make a part if the option doesn't say.
@@ -54,7 +56,7 @@ const DEFAULT_SIZE: u32 = 10;
 /// the query names, newest first (class WP_Query). A part has as many posts as the option
 /// `posts_per_page` says, if that is a number from 1 to 100, and otherwise 10. If the option
 /// `show_on_front` is `page` and `page_on_front` is a number other than 0, the front shows the page
-/// with that ID, whatever the part. If an option is repeated, its first value counts.
+/// with that ID, whatever the part. The options are in ascending order of their names, each once.
 ///
 /// Nothing is found if there is no such post or page, or if a part is empty, except the first part
 /// of a front that lists posts. A part of it that isn't a number finds nothing, and neither does a
@@ -68,6 +70,7 @@ pub fn find(
     query: &Query,
     options: &[(Text, Text)],
 ) -> Result<Found, StoreFault>
+    requires { AreSorted options.now }
     ensures ok { IfOk result (λ f. f ≡ query_result tables.old.posts options.now query.now) }
     ensures same { tables.new ≡ tables.old }
     ensures err { IfErr result (IsStoreReadFault tables.old.step_limit) }
@@ -97,6 +100,7 @@ fn find_front(
     options: &[(Text, Text)],
     part: Option<u32>,
 ) -> Result<Found, StoreFault>
+    requires { AreSorted options.now }
     ensures ok { IfOk result (λ f. f ≡ query_result tables.old.posts options.now
         (Query.Front part)) }
     ensures same { tables.new ≡ tables.old }
@@ -119,6 +123,7 @@ fn list_front(
     options: &[(Text, Text)],
     part: Option<u32>,
 ) -> Result<Found, StoreFault>
+    requires { AreSorted options.now }
     ensures ok { IfOk result (λ f. f ≡ listed_front tables.old.posts options.now part) }
     ensures same { tables.new ≡ tables.old }
     ensures err { IfErr result (IsStoreReadFault tables.old.step_limit) }
@@ -142,6 +147,7 @@ fn find_month(
     month: u8,
     part: u32,
 ) -> Result<Found, StoreFault>
+    requires { AreSorted options.now }
     ensures ok { IfOk result (λ f. f
         ≡ query_result tables.old.posts options.now (Query.Month year month part)) }
     ensures same { tables.new ≡ tables.old }
@@ -298,10 +304,11 @@ fn nothing(alloc: Global) -> Found
 
 /// Returns how many posts make a part.
 fn posts_per_page(options: &[(Text, Text)]) -> u32
+    requires { AreSorted options.now }
     ensures value { result ≡ posts_per_page options.now }
     ensures few { result ≤ 100 }
 {
-    match text_named(options, "posts_per_page").and_then(whole_number) {
+    match sorted_named(options, "posts_per_page").and_then(whole_number) {
         Some(size) if (1..=100).contains(&size) => size,
         _ => DEFAULT_SIZE,
     }
@@ -309,12 +316,13 @@ fn posts_per_page(options: &[(Text, Text)]) -> u32
 
 /// Returns the ID of the page that the front shows, if it shows one.
 fn page_on_front(options: &[(Text, Text)]) -> Option<u32>
+    requires { AreSorted options.now }
     ensures { result ≡ page_on_front options.now }
 {
     if !fronts_a_page(options) {
         return None;
     }
-    match text_named(options, "page_on_front").and_then(whole_number) {
+    match sorted_named(options, "page_on_front").and_then(whole_number) {
         Some(id) if id > 0 => Some(id),
         _ => None,
     }
@@ -322,6 +330,7 @@ fn page_on_front(options: &[(Text, Text)]) -> Option<u32>
 
 /// Returns the kind of a front that lists posts.
 fn list_kind(options: &[(Text, Text)]) -> FoundKind
+    requires { AreSorted options.now }
     ensures { result ≡ list_kind options.now }
 {
     if fronts_a_page(options) {
@@ -333,7 +342,8 @@ fn list_kind(options: &[(Text, Text)]) -> FoundKind
 
 /// Returns whether the front is to show a page.
 fn fronts_a_page(options: &[(Text, Text)]) -> bool
+    requires { AreSorted options.now }
     ensures { result ≡ fronts_a_page options.now }
 {
-    matches!(text_named(options, "show_on_front"), Some("page"))
+    matches!(sorted_named(options, "show_on_front"), Some("page"))
 }

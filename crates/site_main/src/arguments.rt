@@ -1,7 +1,7 @@
 //! What the command-line arguments ask for.
 ghost use Rattle.std.specs.Prelude.{◌≤◌};
 
-use crate::files::missing_file;
+use crate::files::unfit_file;
 use crate::http::{serve_http, serve_http_file, token_in};
 use crate::serving::{serve, serve_file};
 use callback_store::{Plugins, Stated};
@@ -32,12 +32,13 @@ pub fn run<S: Stated>(rt: &HostRuntime, plugins: &Plugins<S>) -> ExitCode {
             cache,
             trace,
             must_exist,
+            without_wal,
             http,
             framed,
             token_file,
             task,
         } => {
-            if let Some(status) = missing_file(rt, &task, must_exist) {
+            if let Some(status) = unfit_file(rt, &task, must_exist, without_wal) {
                 return status;
             }
             match way_of(rt, http, framed, token_file) {

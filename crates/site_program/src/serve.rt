@@ -46,7 +46,8 @@ impl<'p, S: Stated> Commands for Site<'p, S> {
     ghost rebuilds = { λ site lines. IsHistory site.rows lines };
 
     fn carry_out<V: Watch>(&mut self, line: &[u8], watch: &mut V) -> LineReply {
-        self.setup.command(&mut self.state, line, watch)
+        self.setup
+            .command(&mut self.state, &mut self.reader, line, watch)
     }
 
     fn short_history(&mut self) -> Result<Vec<String>, Refusal> {

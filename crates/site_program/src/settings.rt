@@ -1,12 +1,14 @@
 //! What the pages of a site need of its options and templates.
 ghost use Rattle.std.specs.Prelude.{◌≡◌, [], codes, IfOk, map, unwrap_or};
 ghost use Rattle.site_records.specs.Texts.{text_named};
+ghost use Rattle.sorted_texts.specs.Sorted.{AreSorted};
 ghost use Rattle.template_parts.specs.Choice.{template_choice};
 ghost use Rattle.site_program.specs.Requests.{template_for, settings_for};
 
 use plain_data::{Shared, Text};
-use site_records::{FoundKind, text_named};
+use site_records::FoundKind;
 use site_store::Templates;
+use sorted_texts::sorted_named;
 use std::alloc::{AllocError, Global};
 use template_parts::{Settings, choose};
 use template_trees::Template;
@@ -18,6 +20,7 @@ pub(crate) fn settings_for(
     options: &[(Text, Text)],
     templates: &mut Templates,
 ) -> Result<Settings, AllocError>
+    requires { AreSorted options.now }
     ensures settings { IfOk result (λ settings. settings
         ≡ settings_for kind options.now templates.old) }
     ensures same { templates.new ≡ templates.old }
@@ -33,10 +36,11 @@ pub(crate) fn settings_for(
 
 /// Returns the option `blogname`, empty if it isn't set.
 fn site_name(alloc: Global, options: &[(Text, Text)]) -> Result<Text, AllocError>
+    requires { AreSorted options.now }
     ensures { IfOk result (λ name. name ≡ unwrap_or (text_named (codes "blogname") options.now)
         []) }
 {
-    match text_named(options, "blogname") {
+    match sorted_named(options, "blogname") {
         Some(name) => Text::copied(alloc, name),
         None => Ok(Text::empty(alloc)),
     }

@@ -11,7 +11,7 @@ use content_cache::PieceCache;
 use hook_machine::KeptLoad;
 use page_trace::{Unwatched, Watch};
 use post_tables::Tables;
-use site_commands::{Command, read_command, read_line};
+use site_commands::{Command, CommandReader};
 use site_edits::StoreFault;
 use site_replies::{Refusal, SiteReply};
 use site_serving::LineReply;
@@ -26,11 +26,17 @@ use template_parts::OpenPages;
 pub struct Site<'p, S> {
     pub(crate) setup: Setup<'p, S>,
     pub(crate) state: SiteState,
+    /// Reads its lines. No contract speaks of it.
+    pub(crate) reader: CommandReader,
 }
 
 impl<'p, S> Drop for Site<'p, S> {
     fn drop(self) {
-        let Site { setup: _, state: _ } = self;
+        let Site {
+            setup: _,
+            state: _,
+            reader: _,
+        } = self;
     }
 }
 
@@ -78,7 +84,12 @@ impl<'p, S: Stated> Site<'p, S> {
             cache,
             load: KeptLoad::none(),
         };
-        Ok(Site { setup, state })
+        let reader = CommandReader::new(alloc)?;
+        Ok(Site {
+            setup,
+            state,
+            reader,
+        })
     }
 
     /// Limits how many rows each later statement on the site's tables may visit; with `None` there
@@ -132,7 +143,7 @@ impl<'p, S: Stated> Site<'p, S> {
         ensures cache { cache_of self.new ≡ cache_of self.old }
     {
         self.setup
-            .command(&mut self.state, line, &mut Unwatched)
+            .command(&mut self.state, &mut self.reader, line, &mut Unwatched)
             .reply
     }
 }
@@ -153,6 +164,7 @@ impl<'p, S: Stated> Setup<'p, S> {
     pub(crate) fn command<V: Watch>(
         &self,
         state: &mut SiteState,
+        reader: &mut CommandReader,
         line: &[u8],
         watch: &mut V,
     ) -> LineReply
@@ -167,13 +179,10 @@ impl<'p, S: Stated> Setup<'p, S> {
         ensures limit { state.new.stored.step_limit ≡ state.old.stored.step_limit }
         ensures cache { state.new.cache ≡ state.old.cache }
     {
-        let Ok(read) = read_line(self.alloc, line) else {
+        let Ok(read) = reader.read(self.alloc, line) else {
             return LineReply::refused(Refusal::OutOfMemory);
         };
-        let Some(tree) = read else {
-            return LineReply::refused(Refusal::BadCommand);
-        };
-        let Some(command) = read_command(&tree) else {
+        let Some(command) = read else {
             return LineReply::refused(Refusal::BadCommand);
         };
         let edits = is_edit(command);

@@ -1,7 +1,9 @@
 -- What is kept of the rows is still theirs after a command.
 use Rattle.std.proofs.Common.{◌≡◌, ◌∙◌, ℕ, List, [], ◌∷◌, ◌++◌, Option, None, Result, Ok, Err, true, false, cond, inl, inr, sym, ap, subst}
-use Rattle.std.specs.FinMap.{insert}
-use Rattle.std.specs.Prelude.{Bool, IfOk, OnErr, ◌⊎◌}
+use Rattle.std.specs.Cmp.Lexicographic.{nat_list_cmp_total}
+use Rattle.std.specs.FinMap.{entries, entries-insert, insert}
+use Rattle.std.specs.FinMap.Entries.{put as put_in}
+use Rattle.std.specs.Prelude.{Bool, IfOk, IfSome, OnErr, Some, ◌⊎◌}
 use Rattle.std.proofs.lemmas.List.Elements.{All-nil, All-push, All-weaker}
 use Rattle.callback_store.specs.Shape.{Shape}
 use Rattle.plain_data.specs.Texts.{Text}
@@ -10,21 +12,22 @@ use Rattle.site_records.specs.declared.found.Found.{Found}
 use Rattle.site_records.specs.declared.post.Post.{Post}
 use Rattle.site_records.specs.declared.post.PostKind.{PostKind}
 use Rattle.site_records.specs.declared.post.PostStatus.{PostStatus}
-use Rattle.post_tables.specs.Rows.{Rows, Named, Names, PostEdit}
+use Rattle.post_tables.specs.Rows.{Rows, Named, Names, PostEdit, by_bytes}
 use Rattle.site_replies.specs.declared.reply.SiteReply.{SiteReply}
-use Rattle.site_replies.specs.Reply.{ReplyData, reply_data}
+use Rattle.site_replies.specs.Reply.{ReplyData, done, refused, reply_data}
+use Rattle.site_replies.specs.declared.reply.Refusal.TheVariants.{TooLarge}
 use Rattle.site_edits.specs.Edits.{put, edit, delete, set_option, set_active}
 use Rattle.site_edits.specs.Templates.{set_template}
 use Rattle.site_edits.proofs.After.{After, put-after, edit-after, delete-after, option-after, active-after, template-after}
-use Rattle.site_store.specs.Stored.{Texts, found_by}
+use Rattle.site_store.specs.Stored.{Texts, found_by, options_of}
 use Rattle.site_store.specs.Kept.{AreFound, KeepsUp, IsKeptFrom, decides_what_is_found}
 use Rattle.site_store.proofs.OtherOptions.{finds_the_same}
 
 -- what holds of the rows before a command, and of those that it makes, holds of the rows that it leaves
-pub left : {E : Type 0} (P : Rows → Type 0) (result : Result SiteReply E) (old new : Rows) (done : Rows × ReplyData)
-    → IfOk result (λ reply. (new, reply_data reply) ≡ done) → OnErr result (new ≡ old) → P old → P done.0 → P new
-left P (Ok reply) old new done ok err before after = subst P (sym (ap (λ p. p.0) ok)) after
-left P (Err fault) old new done ok err before after = subst P (sym err) before
+pub left : {E : Type 0} (P : Rows → Type 0) (result : Result SiteReply E) (old new : Rows) (meant : Rows × ReplyData)
+    → IfOk result (λ reply. (new, reply_data reply) ≡ meant) → OnErr result (new ≡ old) → P old → P meant.0 → P new
+left P (Ok reply) old new meant ok err before after = subst P (sym (ap (λ p. p.0) ok)) after
+left P (Err fault) old new meant ok err before after = subst P (sym err) before
 
 module _ (rows : Rows) (options templates : Option Texts) (active : Option (List Text)) (kept : List (Text × Found))
     (up : KeepsUp rows options templates active kept) where
@@ -110,6 +113,49 @@ module _ (rows : Rows) (options templates : Option Texts) (active : Option (List
           → KeepsUp (cond b p q).0 None templates active kept
       either true p q x y = x
       either false p q x y = y
+
+  -- what was found and may stay: nothing, or all if the option is another one
+  abbrev pub Stays : Text → List (Text × Found) → Type 0
+  Stays name new = (new ≡ []) ⊎ ((decides_what_is_found name ≡ false) × (new ≡ kept))
+
+  module _ (name value : Text) (new : List (Text × Found)) (stays : Stays name new) where
+    before_set : KeepsUp rows None templates active new
+    before_set = elim stays [
+      | inl none ↦ subst (KeepsUp rows None templates active) (sym none) without_options
+      | inr same ↦ subst (KeepsUp rows None templates active) (sym same.1) with_found
+    ]
+
+    after_set : After (λ r. KeepsUp r None templates active new) (set_option rows name value)
+    after_set = elim stays [
+      | inl none ↦ subst (λ n. After (λ r. KeepsUp r None templates active n) (set_option rows name value)) (sym none) (option-up name value)
+      | inr same ↦ subst (λ n. After (λ r. KeepsUp r None templates active n) (set_option rows name value)) (sym same.1) (other-up name value same.0)
+    ]
+
+    -- an option was set, or refused, and no options are kept
+    pub set-without : {E : Type 0} (result : Result SiteReply E) (after : Rows)
+        → IfOk result (λ reply. (after, reply_data reply) ≡ set_option rows name value) → OnErr result (after ≡ rows) → KeepsUp after None templates active new
+    set-without result after ok err = left (λ r. KeepsUp r None templates active new) result rows after (set_option rows name value) ok err before_set after_set
+
+    -- an option was set, and so it was in those that are kept
+    pub set-with : (after : Rows) (before texts : Texts) → IfSome (Some before) (λ (was : Texts). was ≡ options_of rows) → texts ≡ put_in by_bytes name value before
+        → ◌≡◌ {A = Rows × ReplyData} (after, done) (set_option rows name value) → KeepsUp after (Some texts) templates active new
+    unfolding set_option
+    set-with after before texts was are is = record {
+      options = are ∙ ap (put_in by_bytes name value) was ∙ sym (entries-insert nat_list_cmp_total rows.options name value)
+          ∙ ap entries (sym (stored _ is));
+      templates = others.templates;
+      active = others.active;
+      found = others.found;
+    }
+      where
+        others : KeepsUp after None templates active new
+        others = subst (λ r. KeepsUp r None templates active new) (sym (ap (λ p. p.0) is)) after_set
+
+        stored : (b : Bool)
+            → ◌≡◌ {A = Rows × ReplyData} (after, done) (cond b (record rows { options = insert rows.options name value }, done) (rows, refused TooLarge))
+            → after.options ≡ insert rows.options name value
+        stored true same = ap (λ (p : Rows × ReplyData). p.0.options) same
+        stored false same = absurd (let reply = ap (λ (p : Rows × ReplyData). p.1) same in cc)
 
   pub without_active : KeepsUp rows options templates None kept
   without_active = record { options = up.options; templates = up.templates; active = tt; found = up.found }

@@ -1,3 +1,4 @@
 mod Keeping
 mod OtherOptions
 mod UnderNames
+pub mod SettingOptions

@@ -11,6 +11,7 @@ ghost use Rattle.site_edits.specs.Carried.{CarriesOut};
 ghost use Rattle.site_store.specs.Kept.{decides_what_is_found};
 
 use crate::kept_finds::KeptFinds;
+use crate::kept_options::with_option;
 use crate::stored::SiteStore;
 use callback_store::{Plugins, Stated};
 use serde_json::Value;
@@ -72,12 +73,20 @@ impl SiteStore {
     ) -> Result<SiteReply, StoreFault>
         ensures { CarriesOut self.old (set_option self.old name.now value.now) result self.new }
     {
-        self.options = None;
-        if !decides_what_is_found(name) {
-            return set_option(&mut self.tables, name, value);
+        let before = self.options.take();
+        if decides_what_is_found(name) {
+            self.found = KeptFinds::none(alloc);
         }
-        self.found = KeptFinds::none(alloc);
-        set_option(&mut self.tables, name, value)
+        let done = set_option(&mut self.tables, name, value);
+        if let (Some(options), Ok(SiteReply::Ok)) = (&before, &done) {
+            // If memory runs out here, or the options are too many or were copied too often, they are
+            // read again for the next page.
+            if let Ok(options) = with_option(alloc, options.as_slice(), self.copies, name, value) {
+                self.options = Some(options);
+                self.copies = self.copies.saturating_add(1);
+            }
+        }
+        done
     }
 
     /// Activates or deactivates a plugin.
@@ -123,6 +132,7 @@ impl SiteStore {
         let SiteStore {
             tables,
             options,
+            copies: _,
             templates,
             active,
             found,

@@ -8,6 +8,7 @@
 
 mod changes;
 mod kept_finds;
+mod kept_options;
 mod stored;
 mod templates;
 

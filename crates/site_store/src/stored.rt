@@ -5,6 +5,7 @@ ghost use Rattle.permalink_query.specs.Found.{query_result};
 ghost use Rattle.post_tables.specs.Faults.{IsStoreReadFault};
 ghost use Rattle.site_export.specs.Lines.{IsHistory, IsShort, FitsLines};
 ghost use Rattle.site_store.specs.Stored.{options_of, templates_of, active_of, found_by};
+ghost use Rattle.sorted_texts.specs.Sorted.{AreSorted};
 
 use crate::kept_finds::KeptFinds;
 use crate::templates::Templates;
@@ -23,6 +24,8 @@ use std::marker::Model;
 pub struct SiteStore {
     pub(crate) tables: Tables,
     pub(crate) options: Option<SharedList<(Text, Text)>>,
+    // How often the kept options were copied to set one of them, since they were last asked for.
+    pub(crate) copies: u8,
     pub(crate) templates: Option<Templates>,
     pub(crate) active: Option<SharedList<Text>>,
     pub(crate) found: KeptFinds,
@@ -47,6 +50,7 @@ impl Drop for SiteStore {
         let SiteStore {
             tables: _,
             options: _,
+            copies: _,
             templates: _,
             active: _,
             found: _,
@@ -62,6 +66,7 @@ impl SiteStore {
         SiteStore {
             tables,
             options: None,
+            copies: 0,
             templates: None,
             active: None,
             found: KeptFinds::none(alloc),
@@ -92,6 +97,7 @@ impl SiteStore {
         ensures same { self.new ≡ self.old }
         ensures fault { IfErr result (IsStoreReadFault self.old.step_limit) }
     {
+        self.copies = 0;
         if let Some(options) = &self.options {
             return Ok(options.share()?);
         }
@@ -167,6 +173,7 @@ fn found_by(
     path: &str,
     options: &[(Text, Text)],
 ) -> Result<Found, StoreFault>
+    requires { AreSorted options.now }
     ensures found { IfOk result (λ f.
         f ≡ query_result tables.old.posts options.now (query_of path.now)) }
     ensures same { tables.new ≡ tables.old }

@@ -6,16 +6,16 @@ use Rattle.site_program.proofs.Limits.{limit-stays}
 use Rattle.site_program.proofs.Refusals.{carried_out-refused}
 use Rattle.site_program.proofs.setup.Setup.command.Goals as goal
 
-pub returns-in-Ok-carry_out-clause-refused : goal.returns-in-Ok-carry_out-clause-refused
-returns-in-Ok-carry_out-clause-refused g c =
+pub returns-after-edits-clause-refused : goal.returns-after-edits-clause-refused
+returns-after-edits-clause-refused g c =
     let seen = seen_by g.S.Stated.says g.S.Stated.number c.args.self.now in
     λ r is. carried_out-refused (engine_of g.S.Stated.says g.S.Stated.number c.args.self.now) (calls_of c.args.self.now) (seen c.args.state.now)
-    (seen c.carry_out.new.state) (Some (asked_by c.in-Some-read_command.command)) (reply_data c.in-Ok-carry_out.reply) r
+    (seen c.carry_out.new.state) (Some (asked_by c.in-Some.command)) (reply_data c.in-Ok-carry_out.reply) r
     c.in-Ok-carry_out.ensures.carried.ok is
 
-pub returns-in-Ok-carry_out-clause-limit : goal.returns-in-Ok-carry_out-clause-limit
-returns-in-Ok-carry_out-clause-limit g c =
+pub returns-after-edits-clause-limit : goal.returns-after-edits-clause-limit
+returns-after-edits-clause-limit g c =
     let seen = seen_by g.S.Stated.says g.S.Stated.number c.args.self.now in
     limit-stays (engine_of g.S.Stated.says g.S.Stated.number c.args.self.now) (calls_of c.args.self.now) (seen c.args.state.now)
-    (seen c.carry_out.new.state) (Some (asked_by c.in-Some-read_command.command)) (reply_data c.in-Ok-carry_out.reply)
+    (seen c.carry_out.new.state) (Some (asked_by c.in-Some.command)) (reply_data c.in-Ok-carry_out.reply)
     c.in-Ok-carry_out.ensures.carried.ok

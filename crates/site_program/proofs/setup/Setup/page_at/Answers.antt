@@ -1,9 +1,19 @@
 use Rattle.std.proofs.Common.{rules, ◌≡◌}
+use Rattle.std.specs.FinMap.{entries_sorted}
+use Rattle.sorted_texts.specs.Sorted.{AreSorted}
 use Rattle.site_store.specs.Stored.{options_of, templates_of, active_of, found_by}
 use Rattle.site_program.specs.Requests.{settings_for}
 use Rattle.site_program.specs.Site.{engine_of, calls_of, opened_as}
 use Rattle.site_program.proofs.Pages.{opened-page, requested-is}
 use Rattle.site_program.proofs.setup.Setup.page_at.Goals as goal
+
+-- the rows hold the options in ascending order of their names
+pub settings_for-settings-requires : goal.settings_for-settings-requires
+settings_for-settings-requires g c =
+    let rows = c.args.stored.now in
+    let is : c.in_ok-options.options ≡ options_of rows = search rules in
+    let sorted : AreSorted c.in_ok-options.options = rw is (entries_sorted rows.options) in
+    search (rules, sorted)
 
 -- the page is that of what was found, and what was read is what the rows hold
 pub returns-clause-ok : goal.returns-clause-ok

@@ -1,5 +1,7 @@
 use Rattle.std.proofs.Common.{◌≡◌, ◌∙◌, sym, ap, rules}
+use Rattle.std.specs.FinMap.{entries_sorted}
 use Rattle.std.specs.Prelude.{option_map}
+use Rattle.sorted_texts.specs.Sorted.{AreSorted}
 use Rattle.site_store.specs.Stored.{found_by}
 use Rattle.site_store.proofs.Keeping.{found-up}
 use Rattle.site_store.proofs.UnderNames.{kept_is}
@@ -11,6 +13,12 @@ returns-in-Some-clause-found c =
     let kept = sym (ap (option_map (λ found. found.now)) c.in-Some.is) ∙ c.at.ensures in
     let is = kept_is (found_by c.self.inside.tables) c.self.inside.found c.args.path.now c.in-Some.found.now c.self.invariant.found kept in
     c.in_ok-share.ensures ∙ rw (← c.self.view_is) is
+
+-- the rows hold the options in ascending order of their names
+pub found_by-requires : goal.found_by-requires
+found_by-requires c =
+    let sorted : AreSorted c.args.options.now = rw c.requires (entries_sorted c.args.self.now.options) in
+    search (rules, sorted)
 
 -- of the path what it finds is kept, or nothing more
 pub invariant_of-self-2 : goal.invariant_of-self-2
