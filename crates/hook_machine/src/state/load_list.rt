@@ -55,8 +55,13 @@ fn push_own<'p, S: Stated>(
     ensures { OnOk result (map load_change list.new.items ≡ map load_change list.old.items
         ++ with_active (shapes_of S.number plugins.now) active.now plugin.entry.now.load) }
 {
+    // Most changes register a callback of their own plugin. If the names are in order, as those of
+    // a site's tables are, its own is the first here, and the others aren't looked at.
+    let at = active.partition_point(|name| name.as_str() < plugin.name.as_str());
+    let from = &active[at..];
     for change in plugin.load.as_slice() {
-        list.push((change, has_active(plugins, active, change)))?;
+        let is_active = has_active(plugins, from, change) || has_active(plugins, active, change);
+        list.push((change, is_active))?;
     }
     Ok(())
 }
