@@ -43,7 +43,7 @@ PLAIN = ("php", "-d", "opcache.enable_cli=0")
 # Without a size for its buffer PHP's JIT stays off, whatever else is asked for.
 JIT = ("php", "-d", "opcache.enable_cli=1", "-d", "opcache.jit=tracing", "-d", "opcache.jit_buffer_size=64M")
 # Why a page after a change may take longer here.
-TABLES = "each post is read from the tables again; there it is an item of an array"
+TABLES = "which posts there are is asked of the tables again; there they are the items of an array"
 
 
 class Page(NamedTuple):
@@ -221,8 +221,7 @@ def hostile_texts(smoke: bool) -> Iterator[Page]:
     for title, text, count in texts:
         count = max(1, count // scale)
         yield Page(title.format(count), active + put(1, text(count)), "/?p=1")
-    copies = "the text is read from its tables again, and copied several times on its way to the reply"
-    yield Page("the same text, after a change", active + put(1, text(count)), "/?p=1", True, copies)
+    yield Page("the same text, after a change", active + put(1, text(count)), "/?p=1", True, TABLES)
 
 
 def bars(compared: Comparison, title: str, cases: Iterable[Page]) -> Bars:

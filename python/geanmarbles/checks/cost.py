@@ -8,10 +8,11 @@ of them and a run with one, divided by their number. A request fails that replie
 either than counts.txt beside this script says; --record writes that file anew. What takes less than recorded by as much
 is named, so that it can be recorded. Without valgrind nothing is counted, which is said.
 
-Among the requests are a site in a file: edits of which many come in one read and so in one commit, as many as fill a
-read, and edits that a start carries out; pages that are watched by a log, also by one that can't be written, and a page
-by single turns; large pages and texts; every plugin of `press`; and a site of 10,000 options. Lines that ask for one
-page differ, so that each is printed, but for two requests whose pages are kept.
+Among the requests are fronts that are found anew, of posts that were read before but for one; a site in a file: edits
+of which many come in one read and so in one commit, as many as fill a read, and edits that a start carries out; pages
+that are watched by a log, also by one that can't be written, and a page by single turns; large pages and texts; every
+plugin of `press`; and a site of 10,000 options. Lines that ask for one page differ, so that each is printed, but for
+two requests whose pages are kept.
 
 A snippet of the program `press`, which is crates/press/out/press, is counted beside a bundled plugin that prints the
 same: it may take twice as many instructions.
@@ -133,7 +134,11 @@ def requests() -> Iterator[Request]:
     edited = done("edit", id=1, title="")
     yield Request("200 shortcodes, after an edit of their post", activate("bold") + site, edited + front)
     yield Request("eight pages of 200 shortcodes, of which two texts are kept", *pages_in_turn(), ("--cache", "2"))
-    yield Request("50,000 letters", *posts(1, LETTERS))
+    site, front = posts(1, LETTERS)
+    yield Request("50,000 letters", site, front)
+    # The option says what the front shows, so that is found anew.
+    decided = done("option", name="show_on_front", value="posts")
+    yield Request("50,000 letters, after an option that decides what is found", site, decided + front)
     yield Request("a path that finds nothing", nothing, get("/?p=7", NOTHING, 404))
     yield Request("a line that is no command", nothing, Exchange("{}\n", "refused 1 BadCommand\n"))
     yield Request("an option", nothing, done("option", name="blogname", value="Site"))
@@ -168,6 +173,7 @@ def watched_requests() -> Iterator[Request]:
     site, front = posts(100)
     traced = ("--trace",)
     yield Request("100 empty posts", site, front)
+    yield Request("100 empty posts, after an edit of one of them", site, done("edit", id=50, title="") + front)
     yield Request("100 empty posts, watched", site, front, traced)
     yield Request("100 empty posts, watched by a log that is full", site, front, traced, errors="/dev/full")
     begun = Exchange('{"cmd":"begin","path":"/"}\n', "ok 1\n")
@@ -194,6 +200,8 @@ def large_requests() -> Iterator[Request]:
     yield Request("the front of no post, beside 10,000 options", options, get(body=NOTHING))
     change = done("option", name="o5000", value="v")
     yield Request("the same after a change of one of them", options, change + get(body=NOTHING))
+    changes = joined(done("option", name=f"o{it}", value="v") for it in range(0, 10_000, 100))
+    yield Request("the same after changes of 100 of them", options, changes + get(body=NOTHING))
 
 
 def pressed_requests() -> Iterator[Request]:

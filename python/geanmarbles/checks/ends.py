@@ -50,16 +50,21 @@ FIRST_LINE = INPUT.index(b"\n")
 READ_FAILED = (1, b"site: read failed\n")
 WRITE_FAILED = (1, b"site: write failed\n")
 
-# An input whose last reply is a page that doesn't fit into the buffer that gathers short pieces: its bytes are
-# written from where they are, between the line before them and the newline after them.
-LONG_INPUT = b"""{"cmd":"put","title":"T","content":"%s","date":"2024-05-01 10:00:00"}
-{"cmd":"get","path":"/"}
-""" % (
-    b"x" * 2_000
-)
 
-# What a run shows, its input, and in how many writes its replies are written.
-WRITES = [("short replies", INPUT, 5), ("a long page", LONG_INPUT, 4)]
+def page_of(size: int) -> bytes:
+    """An input whose last reply is a page with a content of that many bytes."""
+    put = b'{"cmd":"put","title":"T","content":"%s","date":"2024-05-01 10:00:00"}\n' % (b"x" * size)
+    return put + b'{"cmd":"get","path":"/"}\n'
+
+
+# What a run shows, its input, and in how many writes its replies are written. A page that doesn't fit into the room in
+# which pieces are gathered is written from where it is, between the line before it and the newline after it.
+WRITES = [
+    ("short replies", INPUT, 5),
+    ("a page of 2,000 bytes", page_of(2_000), 2),
+    ("a page of 16,000 bytes", page_of(16_000), 2),
+    ("a page of 20,000 bytes", page_of(20_000), 4),
+]
 
 # What a run shows, what limits its ends, what it must write, and its status and line on standard error.
 RUNS: list[tuple[str, dict[str, int], bytes, tuple[int, bytes]]] = [

@@ -28,7 +28,7 @@ the file is judged too. Besides a refused line and nothing, what may come is
   written, and the history has the edits that were replied to, and no others.
 
 Each of these must come of some allocation. `--export` and `--compact` of the same file are either whole or refused as a
-start is, and then the history is as it was and nothing was printed.
+start is, and then the history is as it was and nothing was printed. A file without its log is never opened.
 
 With `--http` the program serves requests so. What may come is
 
@@ -38,7 +38,8 @@ With `--http` the program serves requests so. What may come is
 - the end `site: other error`, as no copy of an edit could be kept: no response tells of that edit;
 - the end of the connection, with status 0, as memory ran out for a request or a response that is under way.
 
-What was written before an end is the first responses, as they are without the refusal.
+What was written before an end is the first responses, as they are without the refusal. A start over a folder in place
+of a file ends with status 1, and says that it can't be opened, or that memory ran out.
 
 refuse.c is compiled by the toolchain's own compiler. The last line is 'N passed, M failed', over the lines of the
 script and what else must come. The exit status is 0 if nothing failed.
@@ -56,7 +57,7 @@ from pathlib import Path
 from typing import Any, NamedTuple
 
 from geanmarbles.checks.database.clients import done, get, is_edit, joined, line_of, over, put, replies, run
-from geanmarbles.checks.database.files import check_equal, copied, history, summary
+from geanmarbles.checks.database.files import check_equal, copied, history, log_of, summary
 from geanmarbles.checks.memory_over_http import http_checks
 from geanmarbles.checks.over_http import Program
 from geanmarbles.checks.programs import compiled, missing, parser_of
@@ -167,8 +168,8 @@ def served() -> list[bytes]:
 
 
 class Came(NamedTuple):
-    """What came of a refused allocation: 'start', 'ended', 'commit', 'refused' or 'nothing', and how many lines, or
-    which one."""
+    """What came of a refused allocation: 'start', 'named', 'ended', 'commit', 'refused' or 'nothing', and how many
+    lines, or which one."""
 
     kind: str
     lines: int = 0
@@ -283,6 +284,40 @@ class FileRuns:
             check_equal(history(file), self.before if came.kind == "start" else self.short)
             return came
 
+    def lone(self, folder: str, **variables: str) -> tuple[Path, subprocess.CompletedProcess[bytes]]:
+        """A run over a copy of the file without its log."""
+        file = copied(self.file, folder)
+        log_of(file).unlink()
+        return file, self.run(file, b"", **variables)
+
+    def count_alone(self) -> int:
+        """How many allocations a run over such a copy makes. With all memory it is refused by name."""
+        with tempfile.TemporaryDirectory() as folder:
+            count = Path(folder, "count")
+            file, ran = self.lone(folder, REFUSE_COUNT=str(count))
+            if not ran.stderr.startswith(self.lack_of_log(file)):
+                raise Wrong(f"without its log it says {shown(ran.stderr)}")
+            return int(count.read_text(encoding="ascii"))
+
+    def lack_of_log(self, file: Path) -> bytes:
+        return f"site: {file}: {log_of(file)} is not there".encode()
+
+    def alone(self, number: int) -> Came:
+        """What comes of a refused allocation as the file has no log: it is never opened."""
+        with tempfile.TemporaryDirectory() as folder:
+            file, ran = self.lone(folder, REFUSE_AT=str(number))
+            if (ran.returncode, ran.stdout) != (1, b"") or file.read_bytes() != self.file.read_bytes():
+                raise Wrong(
+                    f"without its log: status {ran.returncode}, it wrote {shown(ran.stdout)} or changed the file"
+                )
+            if log_of(file).exists():
+                raise Wrong("without its log: it was opened, which made the log")
+            if ran.stderr.startswith(self.lack_of_log(file)):
+                return Came("named")
+            if self.is_start_refused(file, ran.stderr, 0):
+                return Came("start")
+            raise Wrong(f"without its log it says {shown(ran.stderr)}")
+
     def made(self, file: Path, ran: subprocess.CompletedProcess[bytes], output: bytes, told: bytes = b"") -> Came:
         """What came of a run that prints this, and says this, or is refused as a start is."""
         if (ran.returncode, ran.stdout, ran.stderr) == (0, output, told):
@@ -334,6 +369,8 @@ def file_checks(program: str, folder: Path) -> Iterator[tuple[str, bool]]:
     for what, judge in (("--export", runs.printed), ("--compact", runs.compacted)):
         made = Counter(it.kind for it in in_turn(runs.count(b"", what), judge))
         yield f"{what}: {made['start']} refused, {made['nothing']} as without", made["start"] > 0
+    made = Counter(it.kind for it in in_turn(runs.count_alone(), runs.alone))
+    yield f"without its log: {made['start']} out of memory, {made['named']} refused by name", made["start"] > 0
 
 
 def tried_over_a_file(program: str) -> tuple[int, int]:

@@ -21,8 +21,10 @@ EMPTY_503 = came("503 Service Unavailable", "content-length: 0")
 BARE_503 = b"HTTP/1.1 503 Service Unavailable\r\n\r\n"
 NO_MEMORY = came("503 Service Unavailable", body=b"memory ran out\n")
 REFUSED = b"refused 11 OutOfMemory\n"
-# What is said if memory ran out at the start or for a read, and if it did for a copy of an edit that was done.
+# What is said if memory ran out at the start, for a read or a request, and if it did for the copy of an edit.
 ENDED, LOST = re.compile(rb"site: (\S+/token: )?out of memory\n"), b"site: other error\n"
+# What a start over a folder in place of a file says; why, for want of memory; and why, if there is enough.
+NO_START, NO_ROOM, CANNOT_OPEN = re.compile(r"site: (?:\S+: )?(.*)\n"), "out of memory", "the file cannot be opened"
 
 
 class Asked(NamedTuple):
@@ -105,7 +107,7 @@ class Runs:
         return int(file.read_text(encoding="ascii"))
 
     def judge(self, number: int) -> str:
-        """What came of a refused allocation: 'nothing', 'ended', 'lost', 'closed' or 'refused'."""
+        """What came of a refused allocation: 'nothing', 'ended', 'lost' or 'refused'."""
         try:
             return self.kind(self.run(SCRIPT, REFUSE_AT=str(number)))
         except Wrong as wrong:
@@ -119,9 +121,8 @@ class Runs:
             raise Wrong(f"it ended with status 0 and {shown(ran.stderr)}")
         if got == self.whole:
             return "nothing"
-        if got == self.whole[: len(got)]:
-            # The connection was closed: memory ran out as a request was read.
-            return "closed"
+        if len(got) < len(self.whole):
+            raise Wrong(f"it ended with status 0 after {len(got)} responses")
         return self.refused(got)
 
     def ended(self, ran: subprocess.CompletedProcess[bytes], got: list[bytes]) -> str:
@@ -147,12 +148,31 @@ class Runs:
         return "refused"
 
 
+def refused_starts(program: Program, refuser: Path) -> Counter[str]:
+    """What is said at starts over a folder in place of a file, each with another allocation refused."""
+    words, count_file = program.words("--database", str(program.folder)), program.folder / "count"
+
+    def said(**variables: str) -> str:
+        given = {"LD_PRELOAD": str(refuser), **variables}
+        ran = subprocess.run(words, input=b"", capture_output=True, env=given, timeout=SECONDS, check=False)
+        why = NO_START.fullmatch(ran.stderr.decode())
+        if (ran.returncode, ran.stdout) != (1, b"") or not why:
+            raise Wrong(f"a start over a folder: status {ran.returncode}, {shown(ran.stderr)}, with {variables}")
+        return why[1]
+
+    said(REFUSE_COUNT=str(count_file))
+    numbers = range(1, 1 + int(count_file.read_text(encoding="ascii")))
+    with ThreadPoolExecutor(os.cpu_count()) as pool:
+        return Counter(pool.map(lambda number: said(REFUSE_AT=str(number)), numbers))
+
+
 def http_checks(program: Program, refuser: Path) -> Iterator[tuple[str, bool]]:
     """What must come of the allocations of a run, and whether it came."""
+    starts = refused_starts(program, refuser)
+    yield f"starts over a folder: {dict(starts)}", {NO_ROOM} <= set(starts) <= {NO_ROOM, CANNOT_OPEN}
     runs = Runs(program, refuser)
     count = runs.count()
     with ThreadPoolExecutor(os.cpu_count()) as pool:
         kinds = Counter(pool.map(runs.judge, range(1, count + 1)))
     for kind in ("ended", "lost", "refused", "nothing"):
         yield f"{kind}: {kinds[kind]} allocations of {count}", kinds[kind] > 0
-    print(f"closed: {kinds['closed']} allocations of {count}")

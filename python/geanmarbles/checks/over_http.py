@@ -12,17 +12,20 @@ PROGRAM is crates/site/out/site of this repository if it is left out. What is sh
 - the number of a start differs each time, in every byte;
 - Python's own client reads what comes, also without a body (HEAD, 304), and a connection is used again;
 - a page that the client has isn't sent again until an edit is done;
-- a site in a file: an edit that a 200 tells of is there after a kill, at a start without HTTP too; a commit that fails,
-  as the file is gone or can't grow, is told by no response, and ends the program by name;
-- a read or a write that fails ends the program with status 1;
-- arguments that don't go together, and a token that can't be read or isn't there.
+- a site in a file: an edit that a 200 tells of is there after a kill, at a start without HTTP too; at an end FILE has
+  all by itself; a commit that fails, as the file is gone or can't grow, is told by no response, and ends the program by
+  name;
+- a read or a write that fails ends the program with status 1 and a line that has the system's error;
+- arguments that don't go together, a token that can't be read or isn't there, and a file that can't be opened.
 
 The last line is 'N passed, M failed'. The exit status is 0 if nothing failed.
 """
 
+import errno
 import http.client
 import os
 import re
+import shutil
 import signal
 import socket
 import subprocess
@@ -230,6 +233,11 @@ def without_a_token(program: Program) -> None:
     same(program.run(BEGUN + sent("GET", "/"), token=None), refused + page(EMPTY, 0), "the responses")
 
 
+def around_a_token(program: Program) -> None:
+    """White space at both ends of a file isn't of its token."""
+    same(program.run(BEGUN, token=f"\n\t {TOKEN} \r"), DONE, "the response")
+
+
 def old_version(program: Program) -> None:
     """A client of HTTP/1.0 is told that the connection closes."""
     got = program.run(sent("GET", "/", version="1.0") + sent("GET", "/"))
@@ -344,6 +352,14 @@ def after_a_kill(program: Program) -> None:
     same(ran.stdout, b"page 200 %d\n%s\n" % (len(RYE), RYE), "the page by a line")
 
 
+def kept_alone(program: Program) -> None:
+    """After a client that was served to its end FILE has the whole history by itself."""
+    file = program.folder / "alone.db"
+    same(program.run(BEGUN, "--database", str(file)), DONE, "the response")
+    with tempfile.TemporaryDirectory() as folder:
+        same(history(Path(shutil.copy(file, folder)))[1:], [PUT % b"Rye"], "the history in FILE alone")
+
+
 def no_commit(program: Program) -> None:
     """A file that is removed ends the program, and the edit after that is told by no response."""
     file = program.folder / "gone.db"
@@ -375,23 +391,30 @@ def full(program: Program) -> None:
 
 
 def failing_ends(program: Program) -> None:
-    """A write that fails, and a read that does, end the program with status 1 and a line that says so."""
+    """A write that fails, and a read that does, end the program with status 1 and the system's error in one line."""
+    no_room, a_folder = system_error(errno.ENOSPC), system_error(errno.EISDIR)
+    ends_at_faults(program.words(), sent("GET", "/"), of_write=no_room, of_read=a_folder)
+    # With FILE a read also looks whether FILE is still there, and of a fault it tells only that there was one.
+    words = program.words("--database", str(program.folder / "failing.db"))
+    ends_at_faults(words, sent("GET", "/"), of_write=no_room, of_read="other error")
+
+
+def system_error(number: int) -> str:
+    """What is said of an error of the system."""
+    return f"{os.strerror(number)} (os error {number})"
+
+
+def ends_at_faults(words: Sequence[str], request: bytes, *, of_write: str, of_read: str) -> None:
+    """Writes to a device that is full, and then reads a folder: the program ends by name at both."""
     with open("/dev/full", "wb") as device:
-        ran = subprocess.run(
-            program.words(), input=sent("GET", "/"), stdout=device, stderr=subprocess.PIPE, timeout=SECONDS, check=False
-        )
-    must(ran.returncode == 1 and told_once(ran.stderr), f"of a write: status {ran.returncode}, {ran.stderr!r}")
-    folder = os.open(program.folder, os.O_RDONLY)
+        ran = subprocess.run(words, input=request, stdout=device, stderr=subprocess.PIPE, timeout=SECONDS, check=False)
+    same((ran.returncode, ran.stderr), (1, f"site: {of_write}\n".encode()), "the end at a write")
+    folder = os.open("/", os.O_RDONLY)
     try:
-        ran = subprocess.run(program.words(), stdin=folder, capture_output=True, timeout=SECONDS, check=False)
+        ran = subprocess.run(words, stdin=folder, capture_output=True, timeout=SECONDS, check=False)
     finally:
         os.close(folder)
-    must(ran.returncode == 1 and told_once(ran.stderr), f"of a read: status {ran.returncode}, {ran.stderr!r}")
-
-
-def told_once(errors: bytes) -> bool:
-    """Whether the program has said in one line why it ends."""
-    return errors.startswith(b"site: ") and errors.count(b"\n") == 1
+    same((ran.returncode, ran.stderr), (1, f"site: {of_read}\n".encode()), "the end at a read")
 
 
 # Arguments that are refused, with what the line on standard error has.
@@ -403,15 +426,20 @@ REFUSED: list[tuple[Sequence[str], int, str]] = [
     (["--http", "--database", "a", "--compact"], 2, "'--http' excludes"),
     (["--http", "--database", "a", "--check"], 2, "'--http' excludes"),
     (["--http", "--http"], 2, "--http"),
-    (["--http", "--token-file", "/nowhere/at/all"], 1, "site: /nowhere/at/all: "),
-    (["--http", "--token-file", "/dev/null"], 1, "site: /dev/null: "),
-    (["--http", "--token-file", "blank"], 1, "site: blank: "),
+    (["--http", "--token-file", "/nowhere/at/all"], 1, f"site: /nowhere/at/all: {system_error(errno.ENOENT)}\n"),
+    (["--http", "--token-file", "/dev/null"], 1, "site: /dev/null: invalid data\n"),
+    (["--http", "--token-file", "blank"], 1, "site: blank: invalid data\n"),
+    (["--http", "--token-file", "latin"], 1, "site: latin: stream did not contain valid UTF-8\n"),
+    (["--http", "--database", "."], 1, "site: .: the file cannot be opened\n"),
 ]
+# Files without a token.
+TOKENLESS = {"blank": b" \n\t\n", "latin": b"caf\xe9\n"}
 
 
 def refused(program: Program, words: Sequence[str], status: int, line: str) -> None:
     """The program ends at once, and says why."""
-    (program.folder / "blank").write_text(" \n\t\n", encoding="utf-8")
+    for name, text in TOKENLESS.items():
+        (program.folder / name).write_bytes(text)
     ran = subprocess.run([program.path, *words], input=b"", capture_output=True, cwd=program.folder, check=False)
     same((ran.returncode, ran.stdout), (status, b""), "the end")
     must(line in ran.stderr.decode(), f"it said {ran.stderr!r}")
@@ -427,7 +455,7 @@ def cases(program: Program) -> Iterator[tuple[str, partial[None]]]:
         yield f"one stream in pieces of {size} bytes", partial(cut, program, size)
     for at in (1, 10, len(OPEN[0].request) - 1):
         yield f"an input that ends after {at} bytes", partial(ends_within, program, OPEN[0], at)
-    for check in (one_by_one, largest, large_page, starts, full, failing_ends):
+    for check in (around_a_token, one_by_one, largest, large_page, starts, kept_alone, full, failing_ends):
         yield str(check.__doc__), partial(check, program)
     yield "Python's client", partial(by_a_client, program)
     yield "a kill after an edit", partial(after_a_kill, program)

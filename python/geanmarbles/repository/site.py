@@ -17,6 +17,7 @@ Each line of standard input is a JSON command, and each gets a reply on standard
     --compact        puts such lines in the place of the file's history, and serves nothing
     --check          says how many edits the file has and their digest, and serves nothing
     --must-exist     refuses a file that isn't there or is empty, in place of making it
+    --without-wal    takes a file that has no FILE-wal beside it, which is else refused
     --http           serves one client of HTTP on standard input and output, in place of lines
     --framed         with --http, serves many clients, on one stream of frames
     --token-file FILE  takes edits over HTTP from whoever sends the token in this file
@@ -60,7 +61,9 @@ LARGEST = {"--calls": 100_000, "--cache": 4_096}
 TRACE = "--trace"
 # The heading of a version in CHANGELOG.md.
 RELEASED = re.compile(r"^## \[(\d+\.\d+\.\d+)\]", re.M)
-DATABASE, MUST_EXIST, ALONE = "--database", "--must-exist", ("--export", "--compact", "--check")
+DATABASE, ALONE = "--database", ("--export", "--compact", "--check")
+# What else needs a database.
+BESIDE = ("--must-exist", "--without-wal")
 HTTP, FRAMED, TOKEN_FILE = "--http", "--framed", "--token-file"
 # Options that take a path.
 PATHS = (DATABASE, TOKEN_FILE)
@@ -97,7 +100,7 @@ def check_options(seen: list[str]) -> None:
         if seen.count(option) > 1:
             raise BadArguments(f"{option} is given twice")
     alone = [it for it in seen if it in ALONE]
-    needing = [*alone, *(it for it in seen if it == MUST_EXIST)]
+    needing = [*alone, *(it for it in seen if it in BESIDE)]
     if needing and DATABASE not in seen:
         raise BadArguments(f"{needing[0]} needs {DATABASE} FILE")
     if len(alone) > 1:
@@ -136,7 +139,7 @@ def read_arguments(given: Sequence[str]) -> Asked:
             check_value(option, value)
             seen.append(option)
             words += [option, value]
-        elif word in (TRACE, MUST_EXIST, HTTP, FRAMED, *ALONE):
+        elif word in (TRACE, *BESIDE, HTTP, FRAMED, *ALONE):
             seen.append(word)
             words.append(word)
         elif word in ("-h", "--help", "--version"):

@@ -1,7 +1,9 @@
 """FILE and FILE-wal of different moments of one site, or of two sites: as after a backup of which one half was put
 back."""
 
+import contextlib
 import shutil
+import sqlite3
 import tempfile
 from collections import Counter
 from functools import partial
@@ -11,7 +13,7 @@ from typing import NamedTuple
 
 from geanmarbles.checks.database.clients import Cases, Client, check_end, over, put, run, same_pages
 from geanmarbles.checks.database.damage import FRAME, HEADER, OLDER, SALT, check_refusal
-from geanmarbles.checks.database.files import copied, found_by_sqlite, history, last_number, log_of, opened
+from geanmarbles.checks.database.files import copied, found_by_sqlite, history, last_number, log_of
 from geanmarbles.client.replies import Wrong
 
 # How many moments of a site are kept, and of how many pairs of them, both ways, a start is judged.
@@ -180,9 +182,9 @@ def half_written(program: str) -> None:
         check_refusal(file, said, ran.stdout, before)
         if not OLDER.fullmatch(said.removeprefix(f"site: {file}")):
             raise Wrong(f"FILE ends at a larger number than its log, and the start says {said!r}")
-        with opened(file) as connection:
+        with contextlib.closing(sqlite3.connect(file)) as connection:
             connection.execute("SELECT count(*) FROM command").fetchall()
-        check_end((run(program, b"", *over(file)).returncode, b""), 0, b"")
+        check_end((run(program, b"", *over(file, "--without-wal")).returncode, b""), 0, b"")
         if history(file) != wanted:
             raise Wrong("the history is another once SQLite has opened and closed the file")
 

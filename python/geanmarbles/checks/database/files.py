@@ -36,13 +36,15 @@ def copied(file: Path, folder: str | Path, name: str = "copy.db") -> Path:
 
 @contextlib.contextmanager
 def opened(file: Path) -> Iterator[sqlite3.Connection]:
-    """A connection of SQLite's to a file, which is closed after the block."""
+    """A connection of SQLite's to a file, which is closed after the block. That removes the log, and a start wants one
+    beside the file."""
     connection = sqlite3.connect(file, isolation_level=None)
     try:
         connection.text_factory = bytes
         yield connection
     finally:
         connection.close()
+        log_of(file).touch(mode=0o600)
 
 
 @contextlib.contextmanager

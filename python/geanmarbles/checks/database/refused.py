@@ -34,6 +34,7 @@ from geanmarbles.checks.database.files import (
     history,
     log_of,
     opened,
+    summary,
 )
 from geanmarbles.checks.judging import Cases, Skipped
 from geanmarbles.client.replies import Wrong, shown
@@ -84,6 +85,7 @@ NOT_A_LOG = "the database is not a log of commands"
 OTHER_PROGRAM = "the file was written by a program with other plugins or of another version.."
 CANNOT_OPEN = "the file cannot be opened"
 UNSOUND = "the file is no sound database"
+LONE = "{}-wal is not there: put it back, or give --without-wal if the file is whole without it"
 # Lines that can't be in a history, with the reply that is named.
 WRONG_LINES = {
     b'{"cmd":"edit","id":99,"title":"x"}': "3 NoSuchPost",
@@ -163,8 +165,15 @@ def refuses_a_second_program(program: str, folder: str) -> None:
 
 
 def refuses_what_it_cannot_open(program: str, folder: str) -> None:
-    """Folders, files in folders that aren't there, SQLite's names for other things, and files with a second name."""
+    """Folders, pipes, files in folders that aren't there, SQLite's names for other things, and files with a second
+    name."""
     refuses_in_every_way(program, Path(folder), CANNOT_OPEN)
+    pipe = Path(folder, "pipe")
+    os.mkfifo(pipe)
+    for words in WAYS[:-1]:
+        refuses(program, pipe, CANNOT_OPEN, *words)
+    refuses(program, pipe, "the file is empty", *WAYS[-1])
+    pipe.unlink()
     for file in (Path(folder, "none", "site.db"), Path(":memory:"), Path("file:site.db")):
         for words in WAYS[:-1]:
             refuses(program, file, CANNOT_OPEN, *words)
@@ -173,6 +182,7 @@ def refuses_what_it_cannot_open(program: str, folder: str) -> None:
         raise Wrong(f"it left {os.listdir(folder)}")
     file, link = made(program, folder), Path(folder, "link.db")
     os.link(file, link)
+    log_of(link).touch()
     for name in (file, link):
         refuses_in_every_way(program, name, CANNOT_OPEN)
     link.unlink()
@@ -210,6 +220,35 @@ def refuses_what_must_exist(program: str, folder: str) -> None:
     replies(program, [put(title="V")], *over(file, "--must-exist"))
     if len(history(file)) != 4:
         raise Wrong(f"the history has {len(history(file))} lines")
+
+
+def refuses_a_lone_file(program: str, folder: str) -> None:
+    """FILE without its FILE-wal is refused, and nothing is made, unless --without-wal says that it is whole. A start
+    then leaves a FILE-wal. A file of another kind is refused as that, and an empty one is a new site."""
+    wanted = history(made(program, folder))
+    alone, text, new = (Path(folder, name) for name in ("alone.db", "text", "new.db"))
+    shutil.copyfile(Path(folder, "site.db"), alone)
+    text.write_bytes(b"no database\n" * 400)
+    new.touch()
+    before = sorted(os.listdir(folder))
+    for words in (*WAYS, ("--must-exist",), ("--http",), ("--http", "--framed")):
+        refuses(program, alone, LONE.format(alone.resolve()), *words)
+    link = Path(folder, "link.db")
+    link.symlink_to(alone.name)
+    refuses(program, link, LONE.format(alone.resolve()))
+    link.unlink()
+    if sorted(os.listdir(folder)) != before:
+        raise Wrong(f"{before} became {sorted(os.listdir(folder))}")
+    refuses(program, text, UNSOUND)
+    ran = run(program, b"", *over(alone, "--check", "--without-wal"))
+    check_end((ran.returncode, ran.stdout), 0, f"{summary(wanted)}\n".encode())
+    replies(program, [put(title="V")], *over(alone))
+    check_equal(history(alone), [*wanted, put(title="V")])
+    replies(program, [put(title="V")], *over(new, "--without-wal"))
+    for words in ((), ("--without-wal",)):
+        replies(program, [put(title="W")], *over(new, *words))
+    if len(history(new)) != 4:
+        raise Wrong(f"the history has {len(history(new))} lines")
 
 
 def refuses_what_is_no_database(program: str, folder: str) -> None:
@@ -417,6 +456,7 @@ def cases(program: str) -> Cases:
         refuses_what_it_cannot_open,
         refuses_without_permission,
         refuses_what_must_exist,
+        refuses_a_lone_file,
         refuses_what_is_no_database,
         refuses_other_forms,
         refuses_other_programs,

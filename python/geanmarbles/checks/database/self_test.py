@@ -54,7 +54,7 @@ head -n 150 >"$2.given" && exec {program} "$@" <"$2.given"
 # Never lets the program know of a limit on calls.
 UNLIMITED = '#!/bin/sh\n[ "$3" != --calls ] || set -- "$1" "$2"\nexec {program} "$@"\n'
 # Looks at FILE without its log.
-LOSES = '#!/bin/sh\n[ "$1" != --database ] || rm -f "$2-wal"\nexec {program} "$@"\n'
+LOSES = '#!/bin/sh\n[ "$1" != --database ] || : >"$2-wal"\nexec {program} "$@"\n'
 # Tells another digest than a file has.
 MISTELLS = '#!/bin/sh\n{program} "$@" | sed "s/digest ../digest xx/"\n'
 # Tells of another ID than the first post's in a file.

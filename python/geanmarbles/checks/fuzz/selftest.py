@@ -52,6 +52,8 @@ class Forgetful(Program):
         super().compact(file)
         with closing(sqlite3.connect(file, isolation_level=None)) as connection:
             self.forget(connection)
+        # SQLite has removed its log, and a start wants one beside the file.
+        Path(f"{file}-wal").touch(mode=0o600)
 
 
 class Stale(Program):

@@ -11,7 +11,7 @@ from pathlib import Path
 from typing import Any
 
 from geanmarbles.checks.judging import Cases, must
-from geanmarbles.client.exchanges import get, put
+from geanmarbles.client.exchanges import Exchange, get, put
 from geanmarbles.client.program import Program
 from geanmarbles.client.replies import Wrong, read_replies, shown
 
@@ -41,6 +41,9 @@ ALL_TURNS = 1_000_000
 AMPLE = 4 * 1_048_576
 # How many lines ask for a page of some bytes, and how many kilobytes their pages may take: the program keeps 4 MiB.
 ASKED, PAGE_BYTES, KEPT = 2_000, 16_000, 6_144
+# How many posts of some bytes are asked for, and how many kilobytes more that may take than to ask for one of them: the
+# program keeps 16 MiB of posts, what 64 paths found and 4 MiB of pages.
+POSTS, POST_BYTES, KEPT_POSTS = 1_000, 60_000, 24_576
 
 
 def post(number: int, title: str = "", content: str = "") -> Keys:
@@ -262,13 +265,11 @@ class Stack:
             raise Wrong("the replies are others than without a limit")
 
 
-def peak_after(program: str, numbers: Iterable[int]) -> int:
-    """Peak memory of a program, in kilobytes, after a line of each number has asked for a page."""
-    text = "x" * PAGE_BYTES
+def peak_after(program: str, puts: Iterable[Exchange], gets: Iterable[Exchange]) -> int:
+    """Peak memory of a program, in kilobytes, after these posts were stored and these pages asked for."""
     with Program(program) as site:
-        site.ask(put(1, text).lines.encode().strip())
-        for number in numbers:
-            site.ask(get("/?p=1", n=number).lines.encode().strip())
+        for asked in (*puts, *gets):
+            site.ask(asked.lines.encode().strip())
         status = Path(f"/proc/{site.child.pid}/status").read_text(encoding="ascii")
     found = re.search(r"^VmHWM:\s+(\d+) kB$", status, re.M)
     return int(found[1]) if found else 0
@@ -276,13 +277,27 @@ def peak_after(program: str, numbers: Iterable[int]) -> int:
 
 def keeps_few_pages(program: str) -> None:
     """Pages by many lines take little more memory than one page by one line."""
-    one, many = (peak_after(program, numbers) for numbers in ([0] * ASKED, range(ASKED)))
+    stored = [put(1, "x" * PAGE_BYTES)]
+    one, many = (
+        peak_after(program, stored, (get("/?p=1", n=it) for it in numbers)) for numbers in ([0] * ASKED, range(ASKED))
+    )
     must(0 < one <= many < one + KEPT, f"{many - one} kB are kept of {ASKED * PAGE_BYTES // 1_024} kB")
+
+
+def keeps_few_posts(program: str) -> None:
+    """Pages of many posts take little more memory than as many of one post."""
+    stored = [put(it, "x" * POST_BYTES) for it in range(1, POSTS + 1)]
+    one, many = (
+        peak_after(program, stored, (get(f"/?p={it}", n=at) for at, it in enumerate(numbers)))
+        for numbers in ([1] * POSTS, range(1, POSTS + 1))
+    )
+    must(0 < one <= many < one + KEPT_POSTS, f"{many - one} kB are kept of {POSTS * POST_BYTES // 1_024} kB")
 
 
 def cases(program: str) -> Cases:
     """Each run by its name, with what judges it."""
     yield "pages that are kept", partial(keeps_few_pages, program)
+    yield "posts that are kept", partial(keeps_few_posts, program)
     stack = Stack(program)
     yield "the smallest stack", stack.measure
     for kilobytes in STACKS:

@@ -8,7 +8,7 @@ PROGRAM is crates/site/out/site of this repository if it is left out. The parts,
   readers that go away in mid-page;
 - signals: SIGTERM and others in mid-line and in mid-import, and a stop that is continued;
 - memory: limits on the address space, from the smallest with which the program serves no line at all up to the smallest
-  with which all replies to a list of hostile lines are whole;
+  with which all replies to a list of hostile lines are whole; and how much is kept of many pages, and of many posts;
 - stack: lines that nest and pages that go as deep as they may, under limits on the stack.
 
 The first two are made over an empty site, and again with pages left open, over which what is asked for are pages by

@@ -6,6 +6,7 @@ many ways. What a client gets is what it would get alone.
 
 from __future__ import annotations
 
+import errno
 import signal
 import struct
 import subprocess
@@ -32,9 +33,11 @@ from geanmarbles.checks.over_http import (
     Exchange,
     Program,
     edit,
+    ends_at_faults,
     page,
     same,
     sent,
+    system_error,
 )
 from geanmarbles.client.program import pipe
 
@@ -277,6 +280,12 @@ def no_commit(framed: Framed) -> None:
         same(client.child.wait(SECONDS), 1, "the status")
 
 
+def failing_ends(framed: Framed) -> None:
+    """A read that fails ends the program with the system's error, and a write that does with the kind of its fault."""
+    request = Frame(1, GET).bytes()
+    ends_at_faults(framed.words(), request, of_write="write zero", of_read=system_error(errno.EISDIR))
+
+
 # Streams that aren't frames, and what is said of them.
 TOO_LONG, CUT_SHORT = "invalid data", "unexpected end of file"
 BAD = {
@@ -296,7 +305,7 @@ def cases(program: Program) -> Iterator[tuple[str, partial[None]]]:
             yield f"frames of {part} bytes in pieces of {size}", partial(in_pieces, framed, part, size)
     for seed in range(STREAMS):
         yield f"frames at random, {seed}", partial(at_random, framed, seed)
-    for check in (numbers, many, long_run, large, in_order, after_a_kill, no_commit):
+    for check in (numbers, many, long_run, large, in_order, after_a_kill, no_commit, failing_ends):
         yield f"frames: {check.__doc__}", partial(check, framed)
     for name, (stream, why) in BAD.items():
         yield f"frames: {name}", partial(framed.refuses, stream, why)
