@@ -11,5 +11,6 @@ pub mod Alone
 pub mod Edits
 pub mod GroupPlaces
 pub mod Adding
+pub mod CallbackSets
 pub mod NextGroup
 pub mod Looks

@@ -1,9 +1,10 @@
 //! The entries of one priority: the registry's own list of them, and the one that passes share.
-ghost use Rattle.std.specs.Prelude.{◌≡◌, ◌∷◌, ◌++◌, [], ◌==◌, not, filter, length};
+ghost use Rattle.std.specs.Prelude.{◌≡◌, ◌∷◌, ◌++◌, [], ◌==◌, ◌&&◌, ℕ, not, filter, length};
 ghost use Rattle.std.specs.Prelude.{IfOk, IfSome, MatchOption, OnOk, OnErr};
 ghost use Rattle.std.specs.List.{list_any};
-ghost use Rattle.hook_registry.specs.Entries.{with_entry, is_by};
+ghost use Rattle.hook_registry.specs.Entries.{with_entry, is_by, is_among, AreCallbacksOf};
 
+use crate::callbacks::Callbacks;
 use crate::registration::Entry;
 use plain_data::CallbackId;
 use std::alloc::{AllocError, Global};
@@ -119,24 +120,37 @@ pub struct GroupEntries {
     /// The same entries, for passes to share. There are none after a removal while a pass shared
     /// them, until an entry is added.
     shared: Option<SharedEntries>,
+    /// The callbacks of the entries, once there have been more than [`FEW`], so that another one is
+    /// added without all of them being compared with it.
+    callbacks: Option<Callbacks>,
 }
+
+/// The number of entries up to which comparing a callback with all of them costs no more than
+/// finding it by its hash.
+const FEW: usize = 32;
 
 impl Model for GroupEntries {
     ghost use Rattle.std.specs.Prelude.{◌≡◌, List, IfSome};
     ghost use Rattle.hook_registry.specs.declared.registration.Entry.{Entry};
+    ghost use Rattle.hook_registry.specs.Entries.{AreCallbacksOf};
 
     ghost Value = { List Entry };
 
     ghost view = { λ e. e.own.items };
 
-    ghost invariant = { λ e. IfSome e.shared (λ shared. shared ≡ e.own.items) };
+    ghost invariant = { λ e. IfSome e.shared (λ shared. shared ≡ e.own.items)
+        × IfSome e.callbacks (λ callbacks. AreCallbacksOf callbacks e.own.items) };
 }
 
 /// Written out, so that all who own entries call this drop, and no proof tells apart whether there
 /// is a list to share.
 impl Drop for GroupEntries {
     fn drop(self) {
-        let GroupEntries { own: _, shared: _ } = self;
+        let GroupEntries {
+            own: _,
+            shared: _,
+            callbacks: _,
+        } = self;
     }
 }
 
@@ -148,7 +162,11 @@ impl GroupEntries {
         let mut own = Vec::new(alloc);
         own.push(entry)?;
         let shared = Some(SharedEntries::copied(alloc, own.as_slice())?);
-        Ok(GroupEntries { own, shared })
+        Ok(GroupEntries {
+            own,
+            shared,
+            callbacks: None,
+        })
     }
 
     /// Borrows the entries.
@@ -173,7 +191,10 @@ impl GroupEntries {
     pub fn has(&self, callback: CallbackId) -> bool
         ensures { result ≡ list_any (is_by callback) self.now }
     {
-        self.own.iter().any(|entry| entry.callback == callback)
+        match &self.callbacks {
+            Some(callbacks) => callbacks.contains(callback),
+            None => self.own.iter().any(|entry| entry.callback == callback),
+        }
     }
 
     /// Returns whether there is no entry.
@@ -206,8 +227,12 @@ impl GroupEntries {
         let shared = self.shared.take();
         let for_passes = new;
         let more = with_pushed(alloc, shared, self.own.as_slice(), for_passes)?;
+        let callbacks = self.callbacks.take();
+        let for_callbacks = new;
+        let callbacks = with_callback(alloc, callbacks, self.own.as_slice(), for_callbacks)?;
         push_to(&mut self.own, new)?;
         self.shared = Some(more);
+        self.callbacks = callbacks;
         Ok(())
     }
 
@@ -219,8 +244,40 @@ impl GroupEntries {
         let was_there = self.has(callback);
         remove_from(&mut self.own, callback);
         self.shared = without(self.shared.take(), callback);
+        self.callbacks = without_callback(self.callbacks.take(), callback);
         was_there
     }
+}
+
+/// Returns the callbacks without one, if there are any. Does not allocate.
+fn without_callback(callbacks: Option<Callbacks>, callback: CallbackId) -> Option<Callbacks>
+    ensures { IfSome result (λ left. MatchOption callbacks ⊥ (λ all. (c : ℕ) →
+        is_among left c ≡ (not (callback == c) && is_among all c))) }
+{
+    let mut left = callbacks?;
+    left.remove(callback);
+    Some(left)
+}
+
+/// Adds the callback of a new entry to those of the others. They are read first if there are many
+/// others and none has been read.
+fn with_callback(
+    alloc: Global,
+    callbacks: Option<Callbacks>,
+    others: &[Entry],
+    new: Entry,
+) -> Result<Option<Callbacks>, AllocError>
+    requires { IfSome callbacks (λ callbacks. AreCallbacksOf callbacks others.now) }
+    ensures { IfOk result (λ more. IfSome more
+        (λ callbacks. AreCallbacksOf callbacks (others.now ++ new ∷ []))) }
+{
+    let mut more = match callbacks {
+        Some(callbacks) => callbacks,
+        None if others.len() < FEW => return Ok(None),
+        None => Callbacks::of(alloc, others)?,
+    };
+    more.insert(new.callback)?;
+    Ok(Some(more))
 }
 
 /// Adds an entry after the others. On allocation failure nothing is added.

@@ -2,6 +2,7 @@
 //! callback handles which tag, and how often each action was fired.
 #![tactic(auto)]
 
+mod callbacks;
 mod entries;
 mod group;
 mod hook_groups;
