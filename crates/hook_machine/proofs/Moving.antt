@@ -37,7 +37,7 @@ use Rattle.hook_machine.specs.Handling.{handling_pass}
 use Rattle.plain_data.specs.Texts.{Text}
 use Rattle.hook_meaning.specs.World.{World}
 use Rattle.hook_meaning.specs.Trace.{Trace, Done, Refused, and_then}
-use Rattle.hook_meaning.specs.Meaning.{Engine, Invocation, hook_call, arguments, value_after, pass, filter_pass, action_pass, filtered, with_firing, text_at}
+use Rattle.hook_meaning.specs.Meaning.{Engine, Invocation, hook_call, arguments, value_after, pass, filter_pass, action_pass, filtered, acted, with_firing, text_at}
 use Rattle.hook_meaning.specs.Meaning.{shortcode_filter, pieces_pass, shortcodes_pass, answered, invoke, first_or_empty, last_or_empty, has_answer}
 use Rattle.hook_meaning.specs.Meaning.{text_or_false}
 use Rattle.call_plans.specs.Position.{first_of, reach, next_entry}
@@ -201,6 +201,19 @@ module _ (engine : Engine) where
       action_moves world counted hook name nothing args frames same_name is_hook counted_is is_empty _ _ _
       (handed_moves (pass (invoke engine) Action counted name nothing args) counted nothing frames
       (unhooked (invoke engine) Action counted name nothing args none))
+
+  -- what an action does on which nothing is registered
+  pub acted_alone : (world counted : World) (hook name : Text) (args : List Text) → name ≡ hook → is_hook_name hook ≡ true
+      → counted ≡ with_firing world name → has world.table hook ≡ false → acted engine world hook args ≡ Done counted tt
+  unfolding acted
+  acted_alone world counted hook name args same_name is_hook counted_is none = rw (counted_is, same_name)
+      (ap (λ (t : Trace Text). and_then t (λ later nothing. Done later tt))
+      (action_named (invoke engine) world hook args is_hook ∙ unhooked (invoke engine) Action (with_firing world hook) hook [] args none))
+
+  pub acted_unnamed : (world : World) (hook : Text) (args : List Text) → is_hook_name hook ≡ false → acted engine world hook args ≡ Done world tt
+  unfolding acted
+  acted_unnamed world hook args no_hook =
+      ap (λ (t : Trace Text). and_then t (λ later nothing. Done later tt)) (action_unnamed (invoke engine) world hook args no_hook)
 
   -- core's callback alone, over a text without shortcodes, is passed over
   pub passed_over : {pace : Pace} (world spent : World) (hook value : Text) (args : List Text)

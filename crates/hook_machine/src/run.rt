@@ -28,7 +28,7 @@ use crate::state::loaded::KeptLoad;
 use crate::state::tables::RunTables;
 use callback_store::{Plugins, Stated};
 use content_cache::PieceCache;
-use hook_changes::{SharedList, Text};
+use hook_changes::{HookName, SharedList, Text};
 use hook_meaning::RunFault;
 use std::alloc::{AllocError, Global};
 
@@ -71,10 +71,10 @@ fn fault_in<T>(outcome: &Result<T, RunFault>) -> Option<RunFault>
 
 impl<'a, S: Stated> Run<'a, S> {
     ghost use Rattle.std.specs.Prelude.{◌≡◌, ◌++◌, ℕ, List, [], None, IfOk, IfErr, OnOk, IsOk};
-    ghost use Rattle.std.specs.Prelude.{IsTrue, IsFalse};
+    ghost use Rattle.std.specs.Prelude.{IsTrue, IsFalse, MatchOption};
     ghost use Rattle.callback_store.specs.Shape.{shapes_of};
     ghost use Rattle.hook_meaning.specs.World.{fresh, loaded};
-    ghost use Rattle.hook_meaning.specs.Meaning.{Engine, filtered};
+    ghost use Rattle.hook_meaning.specs.Meaning.{Engine, filtered, acted};
     ghost use Rattle.hook_machine.specs.Outcomes.{engine_with};
     ghost use Rattle.hook_registry.specs.Table.{has};
     ghost use Rattle.hook_meaning.specs.Trace.{Done};
@@ -202,6 +202,39 @@ impl<'a, S: Stated> Run<'a, S> {
         }
         self.state.spend_call();
         Ok(true)
+    }
+
+    /// Passes over an action on which nothing is registered: its firing is counted (Code Reference,
+    /// do_action). If anything is registered, nothing is done, and the hook is returned.
+    pub fn pass_over_action(&mut self, hook: Text) -> Result<Option<Text>, RunFault>
+        requires idle { CanBegin self.old }
+        ensures idle { OnOk result (IsIdle self.new) }
+        ensures passed { fault_of self.old ≡ None → IfOk result (λ left. MatchOption left
+            ((args : List (List ℕ)) → acted (engine_of S.says S.number self.old)
+            (world_of self.old) hook args
+            ≡ Done (world_of self.new) tt)
+            (λ same. (same ≡ hook) × (world_of self.new ≡ world_of self.old))) }
+        ensures memory { fault_of self.old ≡ None
+            → IfErr result (λ fault. fault ≡ RunFault.OutOfMemory) }
+        ensures keeps { Keeps S.says S.number self.old result self.new }
+    {
+        if let Some(fault) = self.fault {
+            return Err(fault);
+        }
+        if self.state.is_hooked(hook.as_str()) {
+            return Ok(Some(hook));
+        }
+        let fired = match HookName::of(hook) {
+            Some(hook) => self.state.fire(&hook),
+            None => Ok(()),
+        };
+        match fired {
+            Ok(()) => Ok(None),
+            Err(AllocError) => {
+                self.fault = Some(RunFault::OutOfMemory);
+                Err(RunFault::OutOfMemory)
+            }
+        }
     }
 
     /// Prints a text of the page's own, after what was printed so far.

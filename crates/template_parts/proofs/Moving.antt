@@ -95,6 +95,11 @@ module _ (engine : Engine) (settings : Settings) where
   unfolding action_pass acted
   action_begun world now hook given args left same none is = rw (is, same, none) refl
 
+  -- the work of an action that was passed over is done
+  pub action_alone : (world later : World) (hook : Text) → acted engine world hook [] ≡ Done later tt → action_pass engine settings world hook ≡ Done later tt
+  unfolding action_pass
+  action_alone world later hook is = is
+
   -- the work of a filter that was started is that of the value that is shown
   pub filter_begun : (world now : World) (shown : Shown) (hook given value : Text) (args : List Text) (left : Trace Text) → given ≡ hook
       → left ≡ job_left engine world (Filters given value args)

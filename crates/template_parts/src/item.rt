@@ -92,7 +92,7 @@ fn print_permalink<S: Stated>(
     print(run, path.as_str())
 }
 
-/// Starts an action with no arguments.
+/// Starts an action with no arguments, unless nothing is registered on it.
 pub(crate) fn start_action<S: Stated>(
     alloc: Global,
     run: &mut Run<'_, S>,
@@ -103,9 +103,14 @@ pub(crate) fn start_action<S: Stated>(
     ensures { Begins S.says S.number run.old result run.new
         (λ engine world. action_pass engine settings.now world hook) }
 {
-    let args = Listed::empty(alloc);
-    run.start(Job::Action { hook, args })?;
-    Ok(Some(Hand::Dropped))
+    match run.pass_over_action(hook)? {
+        None => Ok(None),
+        Some(hook) => {
+            let args = Listed::empty(alloc);
+            run.start(Job::Action { hook, args })?;
+            Ok(Some(Hand::Dropped))
+        }
+    }
 }
 
 /// Starts a filter, whose value is to be printed.
