@@ -4,9 +4,10 @@
 
 The starts are over histories of no edit, 10,000 edits and, with --million, 1,000,000, of up to 1,000 posts; each is
 timed once more after --compact. Printed are the size of both files, what a start takes of a processor, and the
-program's own peak memory (from /proc). Then edits a second: of a client that waits for each reply, by the clock, beside
-the writes of 4 KB that the same disk syncs in a second; and of a pipe by the clock, beside the same lines in memory.
-The files are in the system's folder for temporary files, or where TMPDIR says. bench/README.md says how all is
+program's own peak memory (from /proc). Then starts over drafts of which each is edited once: in its title, or in its
+status, which the index of dates has too. Then edits a second: of a client that waits for each reply, by the clock,
+beside the writes of 4 KB that the same disk syncs in a second; and of a pipe by the clock, beside the same lines in
+memory. The files are in the system's folder for temporary files, or where TMPDIR says. bench/README.md says how all is
 measured, and what can follow.
 """
 
@@ -30,6 +31,8 @@ from geanmarbles.output import quiet_output
 SIZES, MILLION, POSTS = (0, 10_000), 1_000_000, 1_000
 WAITED, PIPED = 1_000, 20_000
 SMALL, FEW = (0, 200), 20
+# How many drafts histories have of which each is edited once.
+DRAFTS, FEW_DRAFTS = (1_000, 2_000, 4_000), (10, 20)
 CONTENT = "Some words of a post, as they are edited. " * 5
 PAGE = bytes(4_096)
 
@@ -109,6 +112,22 @@ def show_starts(files: Files, sizes: Iterable[int]) -> Lines:
     return Lines("Starts over a history", "edits", "seconds of a processor", families)
 
 
+def show_published(files: Files, sizes: Iterable[int]) -> None:
+    """A row for each number of drafts that are edited once, and then published."""
+    print("\ndrafts, each edited once   of its title, ms   of its status, ms")
+    for count in sizes:
+        drafts = joined(put(at + 1, f"Draft {at}", status="draft") for at in range(count))
+        taken: list[float] = []
+        for name, keys in (("titles", {"title": "T"}), ("statuses", {"status": "publish"})):
+            lines = drafts + joined(done("edit", id=at + 1, **keys) for at in range(count))
+            file = files.folder / f"{count}_{name}.db"
+            with tempfile.TemporaryFile(dir=files.folder) as given:
+                given.write(lines.lines.encode())
+                files.serve(file, given, lines.replies.encode())
+            taken.append(files.start(file).seconds * 1e3)
+        print(f"{count:>25,} {taken[0]:>18.1f} {taken[1]:>19.1f}", flush=True)
+
+
 def waited(files: Files, file: Path, exchange: Exchange) -> float:
     """Seconds that a client takes which waits for the reply to each line."""
     child = subprocess.Popen(files.words(file), stdin=subprocess.PIPE, stdout=subprocess.PIPE, bufsize=0)
@@ -178,5 +197,6 @@ def main() -> None:
     with tempfile.TemporaryDirectory() as folder:
         files = Files(bench, Path(folder))
         panel = show_starts(files, sizes)
+        show_published(files, FEW_DRAFTS if bench.smoke else DRAFTS)
         show_edits(files, FEW if bench.smoke else WAITED, 10 * FEW if bench.smoke else PIPED)
     draw(bench.svg, [panel])

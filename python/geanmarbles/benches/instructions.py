@@ -8,21 +8,17 @@ between the requests. Counts are the same in each run, whatever else the machine
 passes. bench/README.md says what else can follow.
 """
 
-import re
 import shutil
-import subprocess
 import sys
-import tempfile
-from collections.abc import Iterator, Sequence
+from collections.abc import Iterator
 from itertools import islice
 from typing import NamedTuple
 
 from geanmarbles.benches.drawn import Bars, draw
-from geanmarbles.benches.measured import PASSES, Bench, parser_of
+from geanmarbles.benches.measured import PASSES, Bench, counted, parser_of
 from geanmarbles.client.exchanges import ARTICLE, SHOWN, UNSEEN, Exchange, activate, done, get, joined, put
 from geanmarbles.output import quiet_output
 
-TOTAL = re.compile(r"^(?:summary|totals): (\d+)", re.M)
 POSTS, SHORTCODES, CALLBACKS, LETTERS = 100, 1_000, 1_000, 500_000
 # How many rows are enough to see that the script works: passes, a page, and one after a change.
 FEW_ROWS = 5
@@ -60,17 +56,6 @@ def pages(smoke: bool) -> Iterator[Page]:
     plain = activate("atts", "bold") + put(1, "word " * (letters // 5))
     yield Page(f"plain text of {letters:,} bytes", plain, Exchange(), 1, "page", 10)
     yield Page(f"plain text of {letters:,} bytes, after an edit of it", plain, EDIT, 1, "page", 10)
-
-
-def counted(words: Sequence[str], given: bytes = b"") -> tuple[int, bytes]:
-    """The instructions of a run, and what it writes."""
-    with tempfile.NamedTemporaryFile("r", encoding="utf-8", errors="replace") as counts:
-        valgrind = ["valgrind", "--tool=callgrind", f"--callgrind-out-file={counts.name}", *words]
-        ran = subprocess.run(valgrind, input=given, capture_output=True, check=False)
-        found = TOTAL.search(counts.read())
-    if ran.returncode or not found:
-        sys.exit(f"{words[0]} ended with status {ran.returncode}: {ran.stderr.decode(errors='replace')}")
-    return int(found[1]), ran.stdout
 
 
 def of_page(bench: Bench, page: Page, times: int) -> float:

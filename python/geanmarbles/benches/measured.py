@@ -8,6 +8,7 @@ it must be, so a program that replies wrongly isn't timed.
 
 import argparse
 import os
+import re
 import subprocess
 import sys
 import tempfile
@@ -27,6 +28,8 @@ TURNS = 15
 PASSED, FEWEST = 200_000, 20
 # A difference that can't be told from none counts as this, in seconds, so that it has a ratio and a logarithm.
 NONE = 1e-9
+# What callgrind writes of a whole run.
+TOTAL = re.compile(r"^(?:summary|totals): (\d+)", re.M)
 
 
 class Run(NamedTuple):
@@ -101,6 +104,17 @@ def spent(run: Run) -> Spent:
         if written.read() != run.expected:
             sys.exit(f"{run.words[0]} replied wrongly")
     return figures
+
+
+def counted(words: Sequence[str], given: bytes = b"") -> tuple[int, bytes]:
+    """The instructions of a run, and what it writes."""
+    with tempfile.NamedTemporaryFile("r", encoding="utf-8", errors="replace") as counts:
+        valgrind = ["valgrind", "--tool=callgrind", f"--callgrind-out-file={counts.name}", *words]
+        ran = subprocess.run(valgrind, input=given, capture_output=True, check=False)
+        found = TOTAL.search(counts.read())
+    if ran.returncode or not found:
+        sys.exit(f"{words[0]} ended with status {ran.returncode}: {ran.stderr.decode(errors='replace')}")
+    return int(found[1]), ran.stdout
 
 
 def difference(whole: float, part: float) -> float:

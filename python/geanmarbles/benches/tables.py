@@ -1,20 +1,34 @@
-"""Times the program's edits and pages over sites of several sizes.
+"""Times the program's edits and pages over sites of several sizes, and counts the instructions of edits.
 
     bench/tables/run [--smoke] [--svg FILE] [PROGRAM]
 
 For 10, 1,000 and 10,000 posts it prints how many `put` lines the program carries out in a second of a processor while
 it fills the site, what a page of the front then takes after a change and if nothing has changed since it was asked for
-before, how many of the latter it serves in a second, and its peak memory (from /proc). bench/README.md says how all is
-measured, and what can follow. """
+before, how many of the latter it serves in a second, and its peak memory (from /proc). For 1,000, 4,000 and 16,000
+posts, if valgrind is there, it then prints how many instructions edits of each kind take, each of another post; and the
+same of titles beside contents of several sizes, and of options among several numbers of others, with the front that is
+asked for after it. bench/README.md says how all is measured, and what can follow.
+"""
+
+import shutil
+import sys
+from collections.abc import Callable, Iterable, Iterator, Sequence
 
 from geanmarbles.benches.drawn import Lines, draw
-from geanmarbles.benches.measured import Bench, difference, parser_of
-from geanmarbles.client.exchanges import Exchange, dated, get, joined, part, shown
+from geanmarbles.benches.measured import Bench, counted, difference, parser_of
+from geanmarbles.client.exchanges import NOTHING, Exchange, dated, done, get, joined, part, put, shown
 from geanmarbles.output import quiet_output
-
 
 SIZES, PAGES = (10, 1_000, 10_000), 2_000
 SMALL, FEW = (10, 100), 20
+# How many posts and options sites have whose edits are counted, how long contents are, and how many edits are counted.
+STORED, OPTIONS, LETTERS, COUNTED = (1_000, 4_000, 16_000), (10, 1_000, 10_000), (1_000, 64_000, 512_000), 8
+FEW_STORED, FEW_LETTERS = (10, 20), (10, 100)
+# Dates before and after those of `dated`.
+OLD, NEW = "1999-01-01 00:00:00", "2101-01-01 00:00:00"
+
+# What is counted over a site of some size: its name, and how it is made of the size.
+Counted = tuple[str, Callable[[int], tuple[Exchange, Exchange]]]
 
 
 def content(number: int) -> str:
@@ -25,6 +39,70 @@ def filled(posts: int) -> tuple[Exchange, Exchange]:
     """The exchange that stores this many posts, and the request of the front of that site."""
     body = "".join(shown(content(number), f"Post {number}") for number in part(posts, 1))
     return joined(dated(number, content(number)) for number in range(1, posts + 1)), get("/", body)
+
+
+def stored(posts: int) -> Exchange:
+    """The exchange that stores this many posts, from the oldest to the newest."""
+    return joined(dated(number, content(number)) for number in range(1, posts + 1))
+
+
+def some(posts: int) -> range:
+    """The posts that are edited, from the middle of all on."""
+    return range(posts // 2, posts // 2 + COUNTED)
+
+
+def edits() -> Iterator[Counted]:
+    """Edits of each kind in a site of a number of posts."""
+
+    def of_posts(cmd: str, **keys: object) -> Callable[[int], tuple[Exchange, Exchange]]:
+        return lambda posts: (stored(posts), joined(done(cmd, id=it, **keys) for it in some(posts)))
+
+    def new(date: str) -> Callable[[int], tuple[Exchange, Exchange]]:
+        return lambda posts: (stored(posts), joined(put(posts + 1 + it, date=date) for it in range(COUNTED)))
+
+    yield "a title", of_posts("edit", title="Another title")
+    yield "a content", of_posts("edit", content="Another content.")
+    yield "a status", of_posts("edit", status="draft")
+    yield "a date", of_posts("edit", date=NEW)
+    yield "a post that is deleted", of_posts("delete")
+    yield "a new post of the newest date", new(NEW)
+    yield "a new post of the oldest date", new(OLD)
+
+
+def beside_contents(letters: int) -> tuple[Exchange, Exchange]:
+    """Edits of titles beside contents of this many bytes."""
+    posts = range(1, COUNTED + 1)
+    return joined(put(it, "x" * letters) for it in posts), joined(done("edit", id=it, title="T") for it in posts)
+
+
+def among_options(options: int) -> tuple[Exchange, Exchange]:
+    """Options that are set among this many, each with the front after it."""
+    before = joined(done("option", name=f"option_{it:05}", value="x") for it in range(options))
+    each = (done("option", name=f"option_{it:05}", value=f"{it}") + get("/", NOTHING) for it in range(COUNTED))
+    return before + get("/", NOTHING), joined(each)
+
+
+def instructions(bench: Bench, before: Exchange, after: Exchange) -> float:
+    """The instructions of each of some edits, after a site was made."""
+    (made, _), (edited, written) = (counted(bench.words, it.lines.encode()) for it in (before, before + after))
+    if written.decode() != before.replies + after.replies:
+        sys.exit(f"{bench.program} replied wrongly")
+    return (edited - made) / COUNTED
+
+
+def count(bench: Bench, of: str, sizes: Sequence[int], rows: Iterable[Counted]) -> None:
+    """Prints a line for each row, with the instructions of an edit at each size."""
+    print(f"\n{'instructions of an edit':<32}" + "".join(f"{f'{size:,} {of}':>18}" for size in sizes))
+    for name, made in rows:
+        counts = (f"{instructions(bench, *made(size)):>18,.0f}" for size in sizes)
+        print(f"{name:<32}{''.join(counts)}", flush=True)
+
+
+def count_all(bench: Bench) -> None:
+    posts, letters = (FEW_STORED, FEW_LETTERS) if bench.smoke else (STORED, LETTERS)
+    count(bench, "posts", posts, edits())
+    count(bench, "bytes", letters, [("a title beside a content", beside_contents)])
+    count(bench, "options", letters if bench.smoke else OPTIONS, [("an option, and the front", among_options)])
 
 
 @quiet_output()
@@ -46,5 +124,7 @@ def main() -> None:
         )
     growth = pages[-1][1] / pages[0][1]
     print(f"after a change a page at {sizes[-1]} posts takes {growth:.1f} times as long as one at {sizes[0]}")
+    if shutil.which("valgrind"):
+        count_all(bench)
     families = {"a `put`": puts, "a page of the front after a change": pages}
     draw(bench.svg, [Lines("Edits and pages as a site grows", "posts", "microseconds of a processor", families)])

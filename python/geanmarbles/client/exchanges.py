@@ -72,9 +72,9 @@ CHANGE = done("option", name="page_on_front", value="")
 UNSEEN = done("option", name="unseen", value="")
 
 
-def put(number: int, content: str = "", title: str = "", date: str = DATE) -> Exchange:
-    """Stores a post, which gets this number."""
-    return Exchange(line("put", title=title, content=content, date=date), f"ok {number}\n")
+def put(number: int, content: str = "", title: str = "", date: str = DATE, **more: object) -> Exchange:
+    """Stores a post, which gets this number; `more` are other keys of it."""
+    return Exchange(line("put", title=title, content=content, date=date, **more), f"ok {number}\n")
 
 
 def dated(number: int, content: str) -> Exchange:
