@@ -12,6 +12,7 @@ TESTS = ROOT / "tests"
 BUILT_PROGRAM = CRATES / "site" / "out" / "site"
 # The program that has the plugin `snippets` too.
 BUILT_PRESS = CRATES / "press" / "out" / "press"
+BUILT_PASSES = CRATES / "test_bench" / "out" / "test_bench"
 
 
 def command(name: str) -> list[str]:

@@ -15,9 +15,10 @@ from itertools import islice
 from typing import NamedTuple
 
 from geanmarbles.benches.drawn import Bars, draw
-from geanmarbles.benches.measured import PASSES, Bench, counted, parser_of
+from geanmarbles.benches.measured import Bench, counted, parser_of
 from geanmarbles.client.exchanges import ARTICLE, SHOWN, UNSEEN, Exchange, activate, done, get, joined, put
 from geanmarbles.output import quiet_output
+from geanmarbles.paths import BUILT_PASSES
 
 POSTS, SHORTCODES, CALLBACKS, LETTERS = 100, 1_000, 1_000, 500_000
 # How many rows are enough to see that the script works: passes, a page, and one after a change.
@@ -75,7 +76,7 @@ def of_page(bench: Bench, page: Page, times: int) -> float:
 
 def of_pass(count: int, spread: bool, times: int) -> float:
     """The instructions of one pass over callbacks that give the value back."""
-    words = [str(PASSES), str(count), *["many"] * spread]
+    words = [str(BUILT_PASSES), str(count), *["many"] * spread]
     begun, ended = (counted([*words[:2], str(it), *words[2:]])[0] for it in (1, 1 + times))
     return (ended - begun) / times
 
@@ -99,8 +100,8 @@ def main() -> None:
     given = parser.parse_args()
     if not shutil.which("valgrind"):
         sys.exit("valgrind isn't on the PATH")
-    if not PASSES.is_file():
-        sys.exit(f"{PASSES} isn't built: run `rt run` in its crate's folder once")
+    if not BUILT_PASSES.is_file():
+        sys.exit(f"{BUILT_PASSES} isn't built: run `rt run` in its crate's folder once")
     bench = Bench(given)
     bars: dict[str, list[float]] = {}
     print(f"{'work':<70} {'instructions':>12}   of a")

@@ -19,10 +19,8 @@ from typing import NamedTuple
 
 from geanmarbles.arguments import Parser
 from geanmarbles.client.exchanges import CHANGE, Exchange
-from geanmarbles.paths import CRATES
+from geanmarbles.paths import BUILT_PASSES, BUILT_PROGRAM
 
-SITE = CRATES / "site" / "out" / "site"
-PASSES = CRATES / "test_bench" / "out" / "test_bench"
 TURNS = 15
 # How many callbacks all passes of one run call, and the smallest number of passes of a run.
 PASSED, FEWEST = 200_000, 20
@@ -61,7 +59,7 @@ def parser_of(about: str | None) -> Parser:
     parser.add_argument("--smoke", action="store_true", help="run small sizes once, to see that the script works")
     parser.add_argument("--svg", type=Path, metavar="FILE", help="draw the tables into FILE too")
     program = "the program, crates/site/out/site if it is left out"
-    parser.add_argument("program", nargs="?", default=str(SITE), metavar="PROGRAM", help=program)
+    parser.add_argument("program", nargs="?", default=str(BUILT_PROGRAM), metavar="PROGRAM", help=program)
     return parser
 
 
@@ -145,12 +143,12 @@ class Bench:
 
     def passes(self, count: int, spread: bool) -> Case:
         """The case of passes of a filter over `count` callbacks, at one priority or, if spread, each at its own."""
-        if not os.access(PASSES, os.X_OK):
-            sys.exit(f"{PASSES} isn't built: run `rt run` in its crate's folder once")
+        if not os.access(BUILT_PASSES, os.X_OK):
+            sys.exit(f"{BUILT_PASSES} isn't built: run `rt run` in its crate's folder once")
         times = FEWEST if self.smoke else max(PASSED // count, FEWEST)
 
         def run(passes: int) -> Run:
-            return Run((str(PASSES), str(count), str(passes), *["many"] * spread), b"", b"value\n")
+            return Run((str(BUILT_PASSES), str(count), str(passes), *["many"] * spread), b"", b"value\n")
 
         return Case(run(times), run(0), times)
 

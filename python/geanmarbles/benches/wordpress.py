@@ -29,11 +29,11 @@ from pathlib import Path
 from typing import NamedTuple
 
 from geanmarbles.benches.drawn import Bars, Lines, draw
-from geanmarbles.benches.measured import PASSES, Bench, parser_of
+from geanmarbles.benches.measured import Bench, parser_of
 from geanmarbles.benches.piped import SECONDS, Asked, Figure, Piped, figures_of, request_of
 from geanmarbles.client.exchanges import ARTICLE, CHANGE, WORDS, Exchange, activate, done, get, joined, line, put
 from geanmarbles.output import quiet_output
-from geanmarbles.paths import ROOT
+from geanmarbles.paths import BUILT_PASSES, ROOT
 
 HERE = ROOT / "bench" / "wordpress"
 NAMES = ("Here", "WordPress's functions", "with JIT", "Page cache", "Pipe alone")
@@ -262,10 +262,10 @@ def compare(bench: Bench, wordpress: Path) -> None:
         bold_pages(compared, (100,) if bench.smoke else (100, 1_000, 10_000, 60_000)),
         bars(compared, "A page of a hostile text", hostile_texts(bench.smoke)),
     ]
-    if os.access(PASSES, os.X_OK):
+    if os.access(BUILT_PASSES, os.X_OK):
         panels.append(passes(bench, compared))
     else:
-        print(f"\n{PASSES.name} isn't built (`rt run` in its folder), so passes aren't timed.")
+        print(f"\n{BUILT_PASSES.name} isn't built (`rt run` in its folder), so passes aren't timed.")
     compared.print_processor()
     compared.asked_again([*single_posts(), *lists_of_posts()])
     draw(bench.svg, panels)

@@ -14,6 +14,8 @@ that are watched by a log, also by one that can't be written, and a page by sing
 plugin of `press`; and a site of 10,000 options. Lines that ask for one page differ, so that each is printed, but for
 two requests whose pages are kept.
 
+`test_bench`, if it is built, adds 1,000 callbacks at one priority: that takes what its run takes more than one without.
+
 A snippet of the program `press`, which is crates/press/out/press, is counted beside a bundled plugin that prints the
 same: it may take twice as many instructions.
 
@@ -47,7 +49,7 @@ from geanmarbles.client.exchanges import (
     put,
     shown,
 )
-from geanmarbles.paths import BUILT_PRESS, BUILT_PROGRAM, TESTS
+from geanmarbles.paths import BUILT_PASSES, BUILT_PRESS, BUILT_PROGRAM, TESTS
 
 HERE = TESTS / "cost"
 COUNTS = HERE / "counts.txt"
@@ -212,6 +214,14 @@ def pressed_requests() -> Iterator[Request]:
     yield Request("100 filters of a text of 50,000 letters", site, get(body=shown(LETTERS)), program="press")
 
 
+def added_callbacks() -> Iterator[Request]:
+    """Callbacks that are added at one priority, if the program that adds them is there."""
+    if BUILT_PASSES.is_file():
+        yield Request("1,000 callbacks added at one priority", Exchange(), Exchange(), program="test_bench")
+    else:
+        print(f"{BUILT_PASSES} isn't built, so no callbacks are added: `rt run` in its crate's folder builds it")
+
+
 def made_file(program: str, folder: str, exchange: Exchange) -> str:
     """A file with the edits of an exchange."""
     file = str(Path(folder, "site.db"))
@@ -260,11 +270,22 @@ def cost_in(counts: Iterable[str]) -> Cost:
 
 def cost_of(program: str, request: Request) -> Cost | None:
     """What one request takes, or None if one is replied to wrongly."""
+    if request.program == "test_bench":
+        return cost_of_added(request)
     program = str(BUILT_PRESS) if request.program == "press" else program
     one, many = (counted(program, request, request.times(it)) for it in (1, 1 + TIMES))
     if not one or not many:
         return None
     return Cost((many.instructions - one.instructions) / TIMES, (many.allocations - one.allocations) / TIMES)
+
+
+def cost_of_added(request: Request) -> Cost | None:
+    """What the callbacks of a run of `test_bench` take, which makes no pass."""
+    value = Exchange("", "value\n")
+    none, all_of = (counted(str(BUILT_PASSES), request._replace(options=(it, "0")), value) for it in ("0", "1000"))
+    if not none or not all_of:
+        return None
+    return Cost(all_of.instructions - none.instructions, all_of.allocations - none.allocations)
 
 
 def recorded() -> dict[str, Cost]:
@@ -311,6 +332,7 @@ def main() -> int:
         print("tests/cost/run: valgrind isn't on the PATH, so nothing is counted\n0 passed, 0 failed")
         return 0
     asked = [*requests(), *links(), *stored_requests(), *watched_requests(), *large_requests(), *pressed_requests()]
+    asked += added_callbacks()
     with ThreadPoolExecutor(2) as pool:
         costs = list(pool.map(lambda it: cost_of(options.program, it), asked))
     if options.record and all(costs):
