@@ -22,13 +22,14 @@ from geanmarbles.output import quiet_output
 SIZES, PAGES = (10, 1_000, 10_000), 2_000
 SMALL, FEW = (10, 100), 20
 # How many posts and options sites have whose edits are counted, how long contents are, and how many edits are counted.
-STORED, OPTIONS, LETTERS, COUNTED = (1_000, 4_000, 16_000), (10, 1_000, 10_000), (1_000, 64_000, 512_000), 8
+STORED, OPTIONS, LETTERS, COUNTED = (1_000, 4_000, 16_000), (10, 1_000, 10_000), (1_000, 64_000, 512_000), 9
 FEW_STORED, FEW_LETTERS = (10, 20), (10, 100)
 # Dates before and after those of `dated`.
 OLD, NEW = "1999-01-01 00:00:00", "2101-01-01 00:00:00"
 
-# What is counted over a site of some size: its name, and how it is made of the size.
-Counted = tuple[str, Callable[[int], tuple[Exchange, Exchange]]]
+# A site and edits of it; and what is counted over a site of some size: its name, and how both are made of the size.
+Edited = tuple[Exchange, list[Exchange]]
+Counted = tuple[str, Callable[[int], Edited]]
 
 
 def content(number: int) -> str:
@@ -47,18 +48,19 @@ def stored(posts: int) -> Exchange:
 
 
 def some(posts: int) -> range:
-    """The posts that are edited, from the middle of all on."""
-    return range(posts // 2, posts // 2 + COUNTED)
+    """The posts that are edited, in the middle of all."""
+    first = (posts - COUNTED) // 2 + 1
+    return range(first, first + COUNTED)
 
 
 def edits() -> Iterator[Counted]:
     """Edits of each kind in a site of a number of posts."""
 
-    def of_posts(cmd: str, **keys: object) -> Callable[[int], tuple[Exchange, Exchange]]:
-        return lambda posts: (stored(posts), joined(done(cmd, id=it, **keys) for it in some(posts)))
+    def of_posts(cmd: str, **keys: object) -> Callable[[int], Edited]:
+        return lambda posts: (stored(posts), [done(cmd, id=it, **keys) for it in some(posts)])
 
-    def new(date: str) -> Callable[[int], tuple[Exchange, Exchange]]:
-        return lambda posts: (stored(posts), joined(put(posts + 1 + it, date=date) for it in range(COUNTED)))
+    def new(date: str) -> Callable[[int], Edited]:
+        return lambda posts: (stored(posts), [put(posts + 1 + it, date=date) for it in range(COUNTED)])
 
     yield "a title", of_posts("edit", title="Another title")
     yield "a content", of_posts("edit", content="Another content.")
@@ -69,25 +71,26 @@ def edits() -> Iterator[Counted]:
     yield "a new post of the oldest date", new(OLD)
 
 
-def beside_contents(letters: int) -> tuple[Exchange, Exchange]:
+def beside_contents(letters: int) -> Edited:
     """Edits of titles beside contents of this many bytes."""
     posts = range(1, COUNTED + 1)
-    return joined(put(it, "x" * letters) for it in posts), joined(done("edit", id=it, title="T") for it in posts)
+    return joined(put(it, "x" * letters) for it in posts), [done("edit", id=it, title="T") for it in posts]
 
 
-def among_options(options: int) -> tuple[Exchange, Exchange]:
+def among_options(options: int) -> Edited:
     """Options that are set among this many, each with the front after it."""
     before = joined(done("option", name=f"option_{it:05}", value="x") for it in range(options))
     each = (done("option", name=f"option_{it:05}", value=f"{it}") + get("/", NOTHING) for it in range(COUNTED))
-    return before + get("/", NOTHING), joined(each)
+    return before + get("/", NOTHING), list(each)
 
 
-def instructions(bench: Bench, before: Exchange, after: Exchange) -> float:
-    """The instructions of each of some edits, after a site was made."""
-    (made, _), (edited, written) = (counted(bench.words, it.lines.encode()) for it in (before, before + after))
-    if written.decode() != before.replies + after.replies:
+def instructions(bench: Bench, site: Exchange, edited: Sequence[Exchange]) -> float:
+    """The instructions of each of some edits of a site but the first."""
+    one, all_of = site + edited[0], site + joined(edited)
+    (begun, _), (ended, written) = (counted(bench.words, it.lines.encode()) for it in (one, all_of))
+    if written.decode() != all_of.replies:
         sys.exit(f"{bench.program} replied wrongly")
-    return (edited - made) / COUNTED
+    return (ended - begun) / (len(edited) - 1)
 
 
 def count(bench: Bench, of: str, sizes: Sequence[int], rows: Iterable[Counted]) -> None:

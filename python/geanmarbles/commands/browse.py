@@ -80,6 +80,8 @@ from geanmarbles.web.pages import NoPage, PageServer
 
 BAKERY = EXAMPLES / "bakery.jsonl"
 ADDRESS = "127.0.0.1"
+# How long requests that are under way at Ctrl-C may take to end.
+END_SECONDS = 2.0
 # The names by which a browser on this machine can mean this machine, with any port or none.
 HERE = re.compile(r"(127\.0\.0\.1|localhost|\[::1\])(:[0-9]*)?", re.I)
 NOT_MADE = (
@@ -266,7 +268,11 @@ def say(what: str) -> None:
 
 def announce(server: Server) -> None:
     print(f"http://{ADDRESS}:{server.server_port}/", flush=True)
-    server.serve_forever()
+    try:
+        server.serve_forever()
+    finally:
+        # Python aborts if a thread is writing to standard error as it ends, as each does once it has served a page.
+        server.drain(0, END_SECONDS)
 
 
 def read_token(path: Path) -> bytes:
