@@ -101,19 +101,19 @@ fn respond_with_page(
     tag: EntityTag,
     condition: Option<&[u8]>,
     status: u16,
-    page: Vec<u8>,
+    page: Bytes,
     response: &mut Response,
 ) -> Result<(), AllocError>
     requires { IsBlank response.old }
     ensures { OnOk result (Shows (page_response tag (option_map (λ c. c.now) condition.entry) status
-        page.items) response.new) }
+        page) response.new) }
 {
     let Ok(code) = StatusCode::from_u16(status) else {
         return Err(AllocError);
     };
     response.status = code;
     if status != 200 {
-        return fill(alloc, HTML, Bytes::from_vec(page)?, response);
+        return fill(alloc, HTML, page, response);
     }
     let text = tag_text(alloc, tag)?;
     if let Some(condition) = condition
@@ -121,7 +121,7 @@ fn respond_with_page(
     {
         response.status = StatusCode::NOT_MODIFIED;
     } else {
-        fill(alloc, HTML, Bytes::from_vec(page)?, response)?;
+        fill(alloc, HTML, page, response)?;
     }
     let Ok(value) = HeaderValue::from_vec(text) else {
         return Err(AllocError);

@@ -26,21 +26,21 @@ module _ {C : Type 0} (c : commands.Ghosts C) {A : Type 0} (at : C) where
 
   -- what a look-up of a line finds was kept of it
   pub kept-lookup : (line : List ℕ) (es : List (Vec ℕ A × Page)) (v : Page) → AllRepeat c at es
-      → lookup (λ k. bytes_eq line k.items) es ≡ Some v → Repeats c at line (page v.status v.body.items)
+      → lookup (λ k. bytes_eq line k.items) es ≡ Some v → Repeats c at line (page v.status v.body)
   kept-lookup line es v all is =
       let found = Contains-lookup (λ k. bytes_eq line k.items) es v is in
-      subst (λ (l : List ℕ). Repeats c at l (page v.status v.body.items)) (sym ((bytes_eq-Decides line found.0.items).0 found.2)) (all (found.0, v) found.1)
+      subst (λ (l : List ℕ). Repeats c at l (page v.status v.body)) (sym ((bytes_eq-Decides line found.0.items).0 found.2)) (all (found.0, v) found.1)
 
-  -- so does a copy of it
-  pub kept-copy : (line : List ℕ) (es : List (Vec ℕ A × Page)) (v : Page) (copy : Option SiteReply) → AllRepeat c at es
-      → lookup (λ k. bytes_eq line k.items) es ≡ Some v → IfSome copy (λ reply. reply_data reply ≡ page v.status v.body.items)
-      → IfSome copy (λ reply. Repeats c at line (reply_data reply))
-  kept-copy line es v None all is same = tt
-  kept-copy line es v (Some reply) all is same = subst (Repeats c at line) (sym same) (kept-lookup line es v all is)
+  -- so does the reply that shares it
+  pub kept-shared : (line : List ℕ) (es : List (Vec ℕ A × Page)) (v : Page) (shared : Option SiteReply) → AllRepeat c at es
+      → lookup (λ k. bytes_eq line k.items) es ≡ Some v → IfSome shared (λ reply. reply_data reply ≡ page v.status v.body)
+      → IfSome shared (λ reply. Repeats c at line (reply_data reply))
+  kept-shared line es v None all is same = tt
+  kept-shared line es v (Some reply) all is same = subst (Repeats c at line) (sym same) (kept-lookup line es v all is)
 
   -- what is kept of a line beside the others
   pub kept-put : (cache : LruCache (Vec ℕ A) Page) (key : Vec ℕ A) (v : Page) → AllRepeat c at cache.entries
-      → Repeats c at key.items (page v.status v.body.items)
+      → Repeats c at key.items (page v.status v.body)
       → AllRepeat c at (put_entries (λ x y. pointwise nat_eq x.items y.items) cache key v)
   kept-put cache key v all is entry is_in = elim (Contains-put_entries (λ x y. pointwise nat_eq x.items y.items) cache key v entry is_in) [
     | inl was ↦ all entry was
@@ -50,13 +50,13 @@ module _ {C : Type 0} (c : commands.Ghosts C) {A : Type 0} (at : C) where
     ]
   ]
     where
-      kept_under : v ≡ entry.1 → key.items ≡ entry.0.items → Repeats c at entry.0.items (page entry.1.status entry.1.body.items)
-      kept_under same bytes = subst (λ (z : Page). Repeats c at entry.0.items (page z.status z.body.items)) same
-          (subst (λ (l : List ℕ). Repeats c at l (page v.status v.body.items)) bytes is)
+      kept_under : v ≡ entry.1 → key.items ≡ entry.0.items → Repeats c at entry.0.items (page entry.1.status entry.1.body)
+      kept_under same bytes = subst (λ (z : Page). Repeats c at entry.0.items (page z.status z.body)) same
+          (subst (λ (l : List ℕ). Repeats c at l (page v.status v.body)) bytes is)
 
   -- after a put, also if it is refused
   pub kept-after_put : {R E : Type 0} (r : Result R E) (after was : LruCache (Vec ℕ A) Page) (k : Vec ℕ A) (v : Page) → AllRepeat c at was.entries
-      → Repeats c at k.items (page v.status v.body.items)
+      → Repeats c at k.items (page v.status v.body)
       → OnOk r (after ≡ lru_cache (put_entries (λ x y. pointwise nat_eq x.items y.items) was k v) was.cap) → OnErr r (after ≡ was)
       → AllRepeat c at after.entries
   kept-after_put (Ok x) after was k v all is ok err = rw ok (kept-put was k v all is)

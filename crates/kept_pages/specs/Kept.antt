@@ -15,4 +15,4 @@ module _ {C : Type 0} (c : commands.Ghosts C) where
   module _ {A : Type 0} where
     -- so is each that is kept
     abbrev pub AllRepeat : C → List (Vec ℕ A × Page) → Type 0
-    AllRepeat at entries = (e : Vec ℕ A × Page) → Contains entries e → Repeats at e.0.items (page e.1.status e.1.body.items)
+    AllRepeat at entries = (e : Vec ℕ A × Page) → Contains entries e → Repeats at e.0.items (page e.1.status e.1.body)

@@ -3,6 +3,7 @@ ghost use Rattle.std.specs.Prelude.{◌≡◌, IfOk, IfSome};
 ghost use Rattle.site_replies.specs.Reply.{page, reply_data};
 ghost use Rattle.kept_pages.specs.Kept.{Repeats};
 
+use bytes::Bytes;
 use lru::LruCache;
 use page_trace::Watch;
 use site_replies::{Refusal, SiteReply};
@@ -24,22 +25,20 @@ const MOST_LINE: usize = 16_384;
 #[derive(Drop)]
 struct Page {
     status: u16,
-    body: Vec<u8>,
+    body: Bytes,
 }
 
 impl Page {
-    /// Returns the page as a reply, unless memory for a copy runs out.
-    fn copy(&self, alloc: Global) -> Option<SiteReply>
-        ensures { IfSome result (λ reply. reply_data reply
-            ≡ page self.now.status self.now.body.items) }
+    /// Returns the page as a reply, which shares its bytes. Does not allocate; `None` says that they
+    /// have too many owners to count.
+    fn shared(&self) -> Option<SiteReply>
+        ensures { IfSome result (λ reply. reply_data reply ≡ page self.now.status self.now.body) }
     {
-        match Vec::from_slice(alloc, self.body.as_slice()) {
-            Ok(body) => Some(SiteReply::Page {
-                status: self.status,
-                body,
-            }),
-            Err(_) => None,
-        }
+        let body = self.body.clone().ok()?;
+        Some(SiteReply::Page {
+            status: self.status,
+            body,
+        })
     }
 }
 
@@ -88,8 +87,7 @@ impl<C: Commands + Drop> KeptPages<C> {
 }
 
 impl<C: Commands> KeptPages<C> {
-    /// Returns the page that is kept for a line. It isn't found if memory for a
-    /// copy runs out.
+    /// Returns the page that is kept for a line, if there is one.
     fn known(&mut self, line: &[u8]) -> Option<SiteReply>
         ensures known { IfSome result
             (λ reply. Repeats C.Commands self.old line.now (reply_data reply)) }
@@ -99,12 +97,13 @@ impl<C: Commands> KeptPages<C> {
             return None;
         }
         if let Some(page) = self.pages.get(line) {
-            return page.copy(self.alloc);
+            return page.shared();
         }
         None
     }
 
-    /// Keeps a page that a line got, unless memory for a copy runs out or it has too many bytes.
+    /// Keeps a page that a line got, and shares its bytes with the reply. A page with too many bytes
+    /// isn't kept, and none is if memory for its line runs out.
     fn keep(&mut self, line: &[u8], reply: &SiteReply)
         requires { Repeats C.Commands self.old line.now (reply_data reply.now) }
         ensures { self.new ≡ self.old }
@@ -120,12 +119,12 @@ impl<C: Commands> KeptPages<C> {
         let Ok(key) = Vec::from_slice(self.alloc, line) else {
             return;
         };
-        let Ok(copy) = Vec::from_slice(self.alloc, body.as_slice()) else {
+        let Ok(body) = body.clone() else {
             return;
         };
         let page = Page {
             status: *status,
-            body: copy,
+            body,
         };
         if let Ok(dropped) = self.pages.push(key, page) {
             self.bytes = self.bytes.saturating_add(size);

@@ -119,6 +119,14 @@ module _ (site : State) (page count : ℕ) (new : State) where
       → CarriesOn (Some (asked.turns page count)) site (turned site page count) (Err why) new
   turned-forgone why gone memory = record { ok = tt; err = closed gone; late = λ is. absurd (let clash = sym memory ∙ is in cc) }
 
+  -- a page that is printed is closed, also if memory ran out for its reply
+  pub turned-closed : (before : Opened) (meant : ReplyData) (result : Result SiteReply StoreFault) → page_in (page - 1) site.pages ≡ Some before
+      → after_turns count before ≡ (None, meant) → new ≡ with_page site (page - 1) None → IfOk result (λ reply. reply_data reply ≡ meant)
+      → IfErr result (λ why. why ≡ store.OutOfMemory) → CarriesOn (Some (asked.turns page count)) site (turned site page count) result new
+  turned-closed before meant (Ok reply) there turns gone is memory =
+      turned-on before None reply there (turns ∙ ap (λ (r : ReplyData). (None, r)) (sym is)) gone
+  turned-closed before meant (Err why) there turns gone is memory = turned-forgone why gone memory
+
   -- a page that is refused is closed, and so is one at which memory ran out
   pub turned-failed : (engine : Engine) (kept : OpenPage) (fault : RunFault) (result : Result SiteReply StoreFault)
       → page_in (page - 1) site.pages ≡ Some (opened_as engine kept) → new ≡ with_page site (page - 1) None

@@ -1,6 +1,6 @@
 //! The pages of a site: those of requests, and those that are open.
 ghost use Rattle.std.specs.Prelude.{◌≡◌, ◌≢◌, IfOk, IfErr};
-ghost use Rattle.site_replies.specs.Reply.{reply_data, refused};
+ghost use Rattle.site_replies.specs.Reply.{page, reply_data, refused};
 ghost use Rattle.post_tables.specs.Faults.{IsStoreReadFault};
 ghost use Rattle.site_edits.specs.Carried.{CarriesOut};
 ghost use Rattle.site_program.specs.Requests.{requested, refusal_of};
@@ -8,6 +8,7 @@ ghost use Rattle.site_program.specs.Requests.{requested, refusal_of};
 use crate::settings::settings_for;
 use crate::setup::Setup;
 use crate::state::SiteState;
+use bytes::Bytes;
 use callback_store::Stated;
 use content_cache::PieceCache;
 use hook_machine::{KeptLoad, Run, RunFault};
@@ -102,7 +103,7 @@ impl<'p, S: Stated> Setup<'p, S> {
                 state.pages.put(place, page);
                 Ok(SiteReply::Ok)
             }
-            Ok(Turned::Closed(status, body)) => Ok(SiteReply::Page { status, body }),
+            Ok(Turned::Closed(status, body)) => printed(status, body),
             Err(fault) => refused_by(fault),
         }
     }
@@ -144,7 +145,7 @@ impl<'p, S: Stated> Setup<'p, S> {
         ensures cache { cache.new ≡ cache.old }
     {
         match page.finish(self.plugins, cache) {
-            Ok((status, body)) => Ok(SiteReply::Page { status, body }),
+            Ok((status, body)) => printed(status, body),
             Err(fault) => refused_by(fault),
         }
     }
@@ -166,6 +167,19 @@ impl<'p, S: Stated> Setup<'p, S> {
             return self.turns_watched(page, PageName::Open(number), count, cache, watch);
         }
         page.turns(self.plugins, count, cache)
+    }
+}
+
+/// Replies with a page that was printed, whose bytes whoever keeps the page then shares.
+pub(crate) fn printed(status: u16, mut body: Vec<u8>) -> Result<SiteReply, StoreFault>
+    ensures ok { IfOk result (λ reply. reply_data reply ≡ page status body.items) }
+    ensures memory { IfErr result (λ fault. fault ≡ StoreFault.OutOfMemory) }
+{
+    // A page that is kept has no room to grow.
+    body.shrink_to_fit();
+    match Bytes::from_vec(body) {
+        Ok(body) => Ok(SiteReply::Page { status, body }),
+        Err(_) => Err(StoreFault::OutOfMemory),
     }
 }
 

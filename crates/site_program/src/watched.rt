@@ -4,7 +4,7 @@ ghost use Rattle.callback_store.specs.Shape.{owner};
 ghost use Rattle.site_replies.specs.Reply.{reply_data};
 ghost use Rattle.template_parts.specs.Open.{GoesOn};
 
-use crate::page::{refusal_of, refused_by};
+use crate::page::{printed, refusal_of, refused_by};
 use crate::setup::Setup;
 use callback_store::Stated;
 use content_cache::PieceCache;
@@ -153,7 +153,7 @@ impl<'p, S: Stated> Setup<'p, S> {
             return self.finish_at_once(page, cache);
         }
         match self.turns_watched(page, PageName::Path(path), u32::MAX, cache, watch) {
-            Ok(Turned::Closed(status, body)) => Ok(SiteReply::Page { status, body }),
+            Ok(Turned::Closed(status, body)) => printed(status, body),
             // No page has so many turns.
             Ok(Turned::Open(page)) => self.finish_at_once(page, cache),
             Err(fault) => refused_by(fault),

@@ -1,5 +1,5 @@
 use Rattle.std.proofs.Common.{sym}
-use Rattle.kept_pages.proofs.Kept.{kept-promoted, kept-copy}
+use Rattle.kept_pages.proofs.Kept.{kept-promoted, kept-shared}
 use Rattle.kept_pages.proofs.pages.KeptPages.known.Goals as goal
 
 pub invariant_of-self : goal.invariant_of-self
@@ -10,5 +10,5 @@ invariant_of-self-2 g c = rw c.get.follows.holds-at-none (kept-promoted g.C.Comm
 
 pub returns-in-Some-clause-known : goal.returns-in-Some-clause-known
 returns-in-Some-clause-known g c = rw (← c.self.view_is)
-    (kept-copy g.C.Commands c.self.inside.commands c.args.line.now c.self.inside.pages.entries c.in-Some.page.now c.copy.result
-    c.self.invariant (sym c.in-Some.ensures.value) c.copy.ensures)
+    (kept-shared g.C.Commands c.self.inside.commands c.args.line.now c.self.inside.pages.entries c.in-Some.page.now c.shared.result
+    c.self.invariant (sym c.in-Some.ensures.value) c.shared.ensures)

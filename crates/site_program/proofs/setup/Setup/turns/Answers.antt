@@ -5,7 +5,7 @@ use Rattle.template_parts.specs.declared.open_page.Turned.{Turned}
 use Rattle.template_parts.specs.declared.open_page.Turned.TheVariants.{Open, Closed}
 use Rattle.template_parts.specs.Open.{GoesOn}
 use Rattle.site_program.specs.Site.{engine_of, opened_as, seen_by}
-use Rattle.site_program.proofs.Carrying.{turned-on, turned-failed}
+use Rattle.site_program.proofs.Carrying.{turned-on, turned-closed, turned-failed}
 use Rattle.site_program.proofs.Places.{turned-open, turned-printed, taken_from, taken_seen, put_back_seen}
 use Rattle.site_program.proofs.setup.Setup.turns.Goals as goal
 
@@ -33,8 +33,9 @@ returns-in-Ok-Closed-clause-carried g c =
     (c.take.ensures.left ∙ ap (λ k. slice_set c.args.state.now.pages k None) at) in
     let closed_is : c.in-Ok-Closed.field-0 ≡ Closed c.in-Ok-Closed.status c.in-Ok-Closed.body = first_of (search rules, cc) in
     let how = subst (λ (r : Turned). GoesOn engine c.args.count c.in-Some.page (Ok r)) closed_is c.in-Ok-Closed.ensures.turns in
-    turned-on site c.args.number c.args.count _ (opened_as engine c.in-Some.page) None (reply.Page c.in-Ok-Closed.status c.in-Ok-Closed.body) there
-    (turned-printed engine c.args.count c.in-Some.page c.in-Ok-Closed.status c.in-Ok-Closed.body.items how.0 how.1 how.2) is
+    turned-closed site c.args.number c.args.count _ (opened_as engine c.in-Some.page) _ c.printed.result there
+    (turned-printed engine c.args.count c.in-Some.page c.in-Ok-Closed.status c.in-Ok-Closed.body.items how.0 how.1 how.2) is c.printed.ensures.ok
+    c.printed.ensures.memory
 
 pub returns-in-Err-clause-carried : goal.returns-in-Err-clause-carried
 returns-in-Err-clause-carried g c =
