@@ -8,6 +8,7 @@ pub mod Comparing
 pub mod NamedTable
 pub mod NamedRows
 pub mod Replacing
+pub mod Upserting
 pub mod Refusing
 pub mod NamedReading
 pub mod NamedDeleting
@@ -26,3 +27,4 @@ pub mod After
 pub mod Beyond
 pub mod NewIds
 pub mod Keeping
+pub mod ListedParts

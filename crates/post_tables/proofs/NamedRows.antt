@@ -154,25 +154,47 @@ module _ {V : Type 0} {rest : V → Row} {value_in : Row → V} (k : NamedTable 
           absurd (other (ap name_in same ∙ meets r.0 r.1 r.2))
     ]
 
+  -- ---- the rows with another name, and the new one among them
+
+  pub record IsSet (rows next : List Row) (name : List ℕ) (v : V) : Type 0 where
+    pub id : ℤ
+    pub kept : List Row
+    pub ordered : IsTable kept
+    pub left : (x : Row) → Has kept x → Has rows x × (name_in x ≢ name)
+    pub stays : (x : Row) → Has rows x → name_in x ≢ name → Has kept x
+    pub free : is_taken kept (Int id ∷ Text name ∷ rest v) ≡ false
+    pub is : next ≡ put_row (Int id ∷ Text name ∷ rest v) kept
+
+  pub set_by_replacing : (rows next : List Row) → AreNamed rest value_in rows → (name : List ℕ) (v : V) → IsReplaced rows next name v → IsSet rows next name v
+  set_by_replacing rows next ok name v made = record {
+    id = next_rowid rows;
+    kept = without_all rows (ids_of made.found);
+    ordered = left_is_table (ids_of made.found) rows ok.ordered (all_from _ rows (λ r h. (ok.each r h).0));
+    left = left_other rows ok name v made.found made.conflicts_are;
+    stays = other_left rows ok name v made.found made.conflicts_are;
+    free = made.free;
+    is = made.is;
+  }
+
   -- ---- the map
 
   module _ (rows next : List Row) (name : List ℕ) (v : V) (texts : AllByRecursion IsText (Text name ∷ rest v)) (ok : AreNamed rest value_in rows)
-      (made : IsReplaced rows next name v) where
+      (made : IsSet rows next name v) where
     abbrev new : Row
-    new = put_in rows name v
+    new = Int made.id ∷ Text name ∷ rest v
 
     abbrev kept : List Row
-    kept = without_all rows (ids_of made.found)
+    kept = made.kept
 
     was : (x : Row) → Has next x → (x ≡ new) ⊎ (Has rows x × (name_in x ≢ name))
     was x h = elim (put_has new kept x (subst (λ l. Has l x) made.is h)) [
       | inl same ↦ inl same
-      | inr stays ↦ inr (left_other rows ok name v made.found made.conflicts_are x stays)
+      | inr stays ↦ inr (made.left x stays)
     ]
 
     keeps : (x : Row) → Has rows x → name_in x ≢ name → Has next x
     keeps x h other = subst (λ l. Has l x) (sym made.is)
-        (put_all_keeps (new ∷ []) kept x (and_from _ _ (rw made.free refl) refl) (other_left rows ok name v made.found made.conflicts_are x h other))
+        (put_all_keeps (new ∷ []) kept x (and_from _ _ (rw made.free refl) refl) (made.stays x h other))
 
     adds : Has next new
     adds = subst (λ l. Has l new) (sym made.is) (has_put new kept)
@@ -191,11 +213,10 @@ module _ {V : Type 0} {rest : V → Row} {value_in : Row → V} (k : NamedTable 
 
     pub still_named : AreNamed rest value_in next
     still_named = record {
-      ordered = subst IsTable (sym made.is) (IsTable-put_row new kept
-          (left_is_table (ids_of made.found) rows ok.ordered (all_from _ rows (λ r h. (ok.each r h).0))));
+      ordered = subst IsTable (sym made.is) (IsTable-put_row new kept made.ordered);
       each = λ r h. elim (was r h) [
         | inl same ↦ subst (IsNamed rest value_in) (sym same)
-            (refl, ap (λ x. Int (next_rowid rows) ∷ Text name ∷ rest x) (sym (k.value_of (Int (next_rowid rows)) name v)), texts)
+            (refl, ap (λ x. Int made.id ∷ Text name ∷ rest x) (sym (k.value_of (Int made.id) name v)), texts)
         | inr old ↦ ok.each r old.0
       ];
       distinct = one_each;
@@ -203,7 +224,7 @@ module _ {V : Type 0} {rest : V → Row} {value_in : Row → V} (k : NamedTable 
 
     same_at : (q : List ℕ) → find by_bytes q (map (pair value_in) next) ≡ cond (eq_by_cmp by_bytes q name) (Some v) (find by_bytes q (map (pair value_in) rows))
     same_at q = elim (cases_Bool (eq_by_cmp by_bytes q name)) [
-      | inl here ↦ rw (here, same_name q name here) (find_at value_in next new one_each adds ∙ ap Some (k.value_of (Int (next_rowid rows)) name v))
+      | inl here ↦ rw (here, same_name q name here) (find_at value_in next new one_each adds ∙ ap Some (k.value_of (Int made.id) name v))
       | inr other ↦ rw other (elim (named_or_not rows q) [
         | inl some ↦
             let apart : name_in some.0 ≢ name = apart_names q name other (name_in some.0) some.2 in

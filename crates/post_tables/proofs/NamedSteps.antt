@@ -22,18 +22,19 @@ use Rattle.std.proofs.lemmas.List.Elements.{All-from_recursion}
 use Rattle.post_tables.proofs.Statements.{IsDone}
 use Rattle.post_tables.proofs.Parts.{options_now, templates_now, active_now}
 use Rattle.post_tables.proofs.NamedTable.{options, templates, actives}
-use Rattle.post_tables.proofs.NamedRows.{still_named, named_set, others_named, named_removed}
+use Rattle.post_tables.proofs.NamedRows.{set_by_replacing, still_named, named_set, others_named, named_removed}
 use Rattle.post_tables.proofs.Replacing.{ReplaceText, replaced}
+use Rattle.post_tables.proofs.Upserting.{UpsertText, upserted}
 use Rattle.post_tables.proofs.NamedDeleting.{DeleteText, deleted}
 use Rattle.post_tables.proofs.NamedReading.{SelectText, names_read, names_texts, shown}
 
 -- ---- the texts
 
 abbrev pub put_option_text : List ℕ
-put_option_text = codes "INSERT OR REPLACE INTO option (name, value) VALUES (?1, ?2)"
+put_option_text = codes "INSERT INTO option (name, value) VALUES (?1, ?2) ON CONFLICT (name) DO UPDATE SET value = excluded.value"
 
 abbrev pub put_template_text : List ℕ
-put_template_text = codes "INSERT OR REPLACE INTO template (name, body) VALUES (?1, ?2)"
+put_template_text = codes "INSERT INTO template (name, body) VALUES (?1, ?2) ON CONFLICT (name) DO UPDATE SET body = excluded.body"
 
 abbrev pub put_active_text : List ℕ
 put_active_text = codes "INSERT OR REPLACE INTO active (name) VALUES (?1)"
@@ -53,11 +54,11 @@ templates_text = codes "SELECT name, body FROM template ORDER BY name"
 abbrev pub active_text : List ℕ
 active_text = codes "SELECT name FROM active ORDER BY name"
 
-put_option_is : ReplaceText options put_option_text
+put_option_is : UpsertText options put_option_text
 unfolding understood everything
 put_option_is = record { terms = lit Null ∷ col 0 0 ∷ col 0 1 ∷ []; width = 3; is = refl; plain = (refl, refl); source = λ name v. refl }
 
-put_template_is : ReplaceText templates put_template_text
+put_template_is : UpsertText templates put_template_text
 unfolding understood everything
 put_template_is = record { terms = lit Null ∷ col 0 0 ∷ col 0 1 ∷ []; width = 3; is = refl; plain = (refl, refl); source = λ name v. refl }
 
@@ -122,7 +123,7 @@ module _ (old new : Held MemStore) (holds : HoldsSite (state over_memory old).no
       (Ok count) → IsDone (λ s. record s { options = insert s.options name value }) old new
   puts_option value utf8 h =
       let texts : AllByRecursion IsText (Text name ∷ Text value ∷ []) = ((name, refl, named_utf8), ((value, refl, utf8), tt)) in
-      let it = replaced options put_option_text put_option_is old new name value count holds h in
+      let it = upserted options put_option_text put_option_is old new name value count holds holds.sound.options h in
       let db = trees_of old in
       let now = options_now old.step_limit db (trees_of new) holds.sound it.others
       (still_named options (db 2) (trees_of new 2) name value texts holds.sound.options it.made) _
@@ -133,7 +134,7 @@ module _ (old new : Held MemStore) (holds : HoldsSite (state over_memory old).no
       (state over_memory new) (Ok count) → IsDone (λ s. record s { templates = insert s.templates name value }) old new
   puts_template value utf8 h =
       let texts : AllByRecursion IsText (Text name ∷ Text value ∷ []) = ((name, refl, named_utf8), ((value, refl, utf8), tt)) in
-      let it = replaced templates put_template_text put_template_is old new name value count holds h in
+      let it = upserted templates put_template_text put_template_is old new name value count holds holds.sound.templates h in
       let db = trees_of old in
       let now = templates_now old.step_limit db (trees_of new) holds.sound it.others
       (still_named templates (db 4) (trees_of new 4) name value texts holds.sound.templates it.made) _
@@ -146,9 +147,10 @@ module _ (old new : Held MemStore) (holds : HoldsSite (state over_memory old).no
       let texts : AllByRecursion IsText (Text name ∷ []) = ((name, refl, named_utf8), tt) in
       let it = replaced actives put_active_text put_active_is old new name tt count holds h in
       let db = trees_of old in
+      let made = set_by_replacing actives (db 6) (trees_of new 6) holds.sound.active name tt it.made in
       let now = active_now old.step_limit db (trees_of new) holds.sound it.others
-      (still_named actives (db 6) (trees_of new 6) name tt texts holds.sound.active it.made) _
-      (named_set actives (db 6) (trees_of new 6) name tt texts holds.sound.active it.made) in
+      (still_named actives (db 6) (trees_of new 6) name tt texts holds.sound.active made) _
+      (named_set actives (db 6) (trees_of new 6) name tt texts holds.sound.active made) in
       record { holds = record { schema_is = it.schema_is; sound = now.sound }; rows = now.are; idle = it.idle }
 
   pub deletes_template : Executes delete_template_text (Text name ∷ []) (state over_memory old) (state over_memory new) (Ok count)

@@ -12,7 +12,7 @@ use Rattle.sqlite_trees.specs.Tree.{Trees, rowid}
 use Rattle.sqlite.specs.Program.{overlay}
 use Rattle.sqlite_rules.specs.Keys.{conflicts}
 use Rattle.sqlite_rules.specs.Cast.{cast_all}
-use Rattle.sqlite.specs.Rows.{mended_from}
+use Rattle.sqlite.specs.Rows.{mended_from, shown}
 use Rattle.post_tables.specs.Schema.{site_schema, named_table, option_table, template_table, active_table}
 use Rattle.post_tables.specs.Stored.{text_rest, text_in, no_rest, nothing_in}
 
@@ -34,6 +34,12 @@ pub record NamedTable {V : Type 0} (rest : V → Row) (value_in : Row → V) : T
   pub conflict_is : (r : Row) (n : ℤ) (name : List ℕ) (v : V) → conflicts None site_schema.indexes (named_table title tree columns)
       (Int n ∷ Text name ∷ rest v) r
       ≡ met (equal Binary (rowid r) (Int n)) (equal Binary (column r 1) (Text name))
+  -- and by the name alone if that is the target
+  pub target_is : (r : Row) (n : ℤ) (name : List ℕ) (v : V) → conflicts (Some (1 ∷ [])) site_schema.indexes (named_table title tree columns)
+      (Int n ∷ Text name ∷ rest v) r
+      ≡ ((equal Binary (column r 1) (Text name) && true) || false)
+  -- a row as `excluded` reads it
+  pub shown_is : (n : ℤ) (name : List ℕ) (v : V) → shown (named_table title tree columns) (Int n ∷ Text name ∷ rest v) ≡ Int n ∷ Text name ∷ rest v
 
 abbrev pub options : NamedTable text_rest text_in
 options = record {
@@ -47,6 +53,8 @@ options = record {
   cast_is = λ name v. refl;
   mend_is = λ name v. refl;
   conflict_is = λ r n name v. rw first_key-plain refl;
+  target_is = λ r n name v. rw first_key-plain refl;
+  shown_is = λ n name v. refl;
 }
 
 abbrev pub templates : NamedTable text_rest text_in
@@ -61,6 +69,8 @@ templates = record {
   cast_is = λ name v. refl;
   mend_is = λ name v. refl;
   conflict_is = λ r n name v. rw first_key-plain refl;
+  target_is = λ r n name v. rw first_key-plain refl;
+  shown_is = λ n name v. refl;
 }
 
 abbrev pub actives : NamedTable no_rest nothing_in
@@ -75,4 +85,6 @@ actives = record {
   cast_is = λ name v. refl;
   mend_is = λ name v. refl;
   conflict_is = λ r n name v. rw first_key-plain refl;
+  target_is = λ r n name v. rw first_key-plain refl;
+  shown_is = λ n name v. refl;
 }

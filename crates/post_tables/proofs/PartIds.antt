@@ -5,7 +5,6 @@ use Rattle.std.specs.List.{AllByRecursion, flat_map}
 use Rattle.std.specs.Option.{option_to_list}
 use Rattle.std.specs.declared.alloc.Global.{Global}
 use Rattle.std.proofs.lemmas.List.Elements.{All-from_recursion}
-use Rattle.std.proofs.lemmas.List.Folds.{flat_map-map}
 use Rattle.sqlite.specs.declared.error.Error.{Error}
 use Rattle.sqlite.specs.Order.{Row}
 use Rattle.sqlite.specs.Term.{Term, col}
@@ -126,19 +125,18 @@ found_each ps (p ∷ page) each =
     ap (λ o. option_to_list o ++ flat_map (found_of ps) (map (λ q. q.id) page)) (each p (inl refl))
     ∙ ap (λ l. p ∷ l) (found_each ps page (λ q h. each q (inr h)))
 
-part_by_ids : (h : Held MemStore) (is : IsSite h) (kind : PostKind) (from to : List ℕ) (limit offset : ℕ) (ids : List Row)
-    → map id_of ids ≡ map (λ p. p.id) (page_of kind from to limit offset (rows_of h).posts)
-    → flat_map (λ r. found_of (rows_of h).posts (id_of r)) ids ≡ page_of kind from to limit offset (rows_of h).posts
+part_by_ids : (h : Held MemStore) (is : IsSite h) (kind : PostKind) (from to : List ℕ) (limit offset : ℕ) (ids : List ℕ)
+    → ids ≡ map (λ p. p.id) (page_of kind from to limit offset (rows_of h).posts)
+    → flat_map (found_of (rows_of h).posts) ids ≡ page_of kind from to limit offset (rows_of h).posts
 part_by_ids h is kind from to limit offset ids are =
     let ps : List Post = (rows_of h).posts in
-    sym (flat_map-map (found_of ps) id_of ids) ∙ ap (flat_map (found_of ps)) are
+    ap (flat_map (found_of ps)) are
     ∙ found_each ps (page_of kind from to limit offset ps) (λ p there. found_in_part kind from to limit offset ps (site_rises h is) p there)
 
--- so they are the posts of the part, if the tables are still as they were
-pub part_given : (h mid : Held MemStore) (is : IsSite h) (kind : PostKind) (from to : List ℕ) (limit offset : ℕ) (ids : List Row) → rows_of mid ≡ rows_of h
-    → map id_of ids ≡ map (λ p. p.id) (page_of kind from to limit offset (rows_of h).posts)
-    → (r : Result (Vec Post Global) TablesFault) → IfOk r (λ posts. posts.items ≡ flat_map (λ r. found_of (rows_of mid).posts (id_of r)) ids)
+-- so they are the posts of the part
+pub part_given : (h : Held MemStore) (is : IsSite h) (kind : PostKind) (from to : List ℕ) (limit offset : ℕ) (ids : List ℕ)
+    → ids ≡ map (λ p. p.id) (page_of kind from to limit offset (rows_of h).posts)
+    → (r : Result (Vec Post Global) TablesFault) → IfOk r (λ posts. posts.items ≡ flat_map (found_of (rows_of h).posts) ids)
     → IfOk r (λ posts. posts.items ≡ page_of kind from to limit offset (rows_of h).posts)
-part_given h mid is kind from to limit offset ids same are (Err e) given = tt
-part_given h mid is kind from to limit offset ids same are (Ok posts) given =
-    given ∙ ap (λ s. flat_map (λ r. found_of s.posts (id_of r)) ids) same ∙ part_by_ids h is kind from to limit offset ids are
+part_given h is kind from to limit offset ids are (Err e) given = tt
+part_given h is kind from to limit offset ids are (Ok posts) given = given ∙ part_by_ids h is kind from to limit offset ids are

@@ -42,7 +42,7 @@ module _ {V : Type 0} {rest : V → Row} {value_in : Row → V} (k : NamedTable 
   table = named_table k.title k.tree k.columns
 
   module _ (limit : Option ℕ) (keys : Keys) (params : Row) where
-    abbrev job : Task
+    abbrev pub job : Task
     job = record { limit = limit; keys = keys; schema = site_schema; table = table; params = params }
 
     judged : (new : Row) (db : Trees) (one : Written) (verdict : Option Refusal) → Judged job Replace [] new db verdict (Ok one)
@@ -60,7 +60,7 @@ module _ {V : Type 0} {rest : V → Row} {value_in : Row → V} (k : NamedTable 
         (it.0, done.rows, done.tables, it.2)
 
     -- and the new one is put in
-    put : (db : Trees) (n : ℤ) (name : List ℕ) (v : V) (one : Written) → Puts job (Int n ∷ Text name ∷ rest v) db (Ok one)
+    pub put : (db : Trees) (n : ℤ) (name : List ℕ) (v : V) (one : Written) → Puts job (Int n ∷ Text name ∷ rest v) db (Ok one)
         → (one.trees k.tree ≡ put_row (Int n ∷ Text name ∷ rest v) (db k.tree)) × (is_taken (db k.tree) (Int n ∷ Text name ∷ rest v) ≡ false)
         × Others k.tree db one.trees
     put db n name v one h =

@@ -4,6 +4,7 @@
 mod fault;
 mod import;
 mod kept;
+mod kept_parts;
 mod listing;
 mod named;
 mod posts;

@@ -2,7 +2,7 @@
 ghost use Rattle.std.specs.Prelude.{◌≡◌, ◌++◌, map, All, IfOk, IfErr, OnOk};
 ghost use Rattle.std.specs.List.{flat_map};
 ghost use Rattle.std.specs.Option.{option_to_list};
-ghost use Rattle.post_tables.specs.Kept.{AreStored};
+ghost use Rattle.post_tables.specs.Kept.{AreListed, AreStored};
 ghost use Rattle.post_tables.specs.Page.{page_of};
 ghost use Rattle.post_tables.specs.Reading.{IsId, IsStopped};
 ghost use Rattle.post_tables.specs.Rows.{IsReadFault, post_with};
@@ -12,8 +12,9 @@ ghost use Rattle.sqlite_value.specs.Order.{column};
 
 use crate::fault::TablesFault;
 use crate::kept::KeptPosts;
+use crate::kept_parts::KeptParts;
 use crate::posts::{kind_text, largest_id, page_rows, post_rows};
-use crate::read::{push, read_found, read_id, read_posts};
+use crate::read::{push, read_found, read_ids, read_posts};
 use site_records::{Post, PostDate, PostKind};
 use sqlite::{Connection, Error, MemStore, Row, params};
 use std::alloc::Global;
@@ -27,6 +28,7 @@ const FEW: usize = 4;
 pub(crate) fn part(
     conn: &mut Connection<MemStore>,
     kept: &mut KeptPosts,
+    parts: &mut KeptParts,
     alloc: Global,
     kind: PostKind,
     from: &PostDate,
@@ -36,27 +38,80 @@ pub(crate) fn part(
 ) -> Result<Vec<Post>, TablesFault>
     requires site { IsSite conn.old }
     requires stored { AreStored kept.old (rows_of conn.old).posts }
+    requires listed { AreListed parts.old (rows_of conn.old).posts }
     ensures reads { Reads conn.old conn.new }
     ensures posts { IfOk result (λ posts. posts.items
         ≡ page_of kind from.now to.now limit offset (rows_of conn.old).posts) }
     ensures stored { AreStored kept.new (rows_of conn.old).posts }
+    ensures listed { AreListed parts.new (rows_of conn.old).posts }
     ensures stopped { IfErr result (IsReadFault (rows_of conn.old).step_limit) }
 {
     // There are fewer IDs than that.
     let Ok(offset) = u32::try_from(offset) else {
         return Ok(Vec::new(alloc));
     };
+    if let Some(ids) = parts.at(kind, from, to, limit, offset) {
+        return known_part(conn, kept, alloc, kind, from, to, limit, offset, ids);
+    }
+    let posts = new_part(conn, kept, alloc, kind, from, to, limit, offset)?;
+    parts.keep(alloc, kind, from, to, limit, offset, &posts);
+    Ok(posts)
+}
+
+/// Returns the same part, whose IDs aren't kept.
+fn new_part(
+    conn: &mut Connection<MemStore>,
+    kept: &mut KeptPosts,
+    alloc: Global,
+    kind: PostKind,
+    from: &PostDate,
+    to: &PostDate,
+    limit: u32,
+    offset: u32,
+) -> Result<Vec<Post>, TablesFault>
+    requires site { IsSite conn.old }
+    requires stored { AreStored kept.old (rows_of conn.old).posts }
+    ensures reads { Reads conn.old conn.new }
+    ensures posts { IfOk result (λ posts. posts.items
+        ≡ page_of kind from.now to.now limit offset (rows_of conn.old).posts) }
+    ensures stored { AreStored kept.new (rows_of conn.old).posts }
+    ensures stopped { IfErr result (IsReadFault (rows_of conn.old).step_limit) }
+{
     if offset > 0 {
         return later_part(conn, kept, alloc, kind, from, to, limit, offset);
     }
     if kept.is_empty() {
         return first_part(conn, kept, alloc, kind, from, to, limit);
     }
-    let ids = id_rows(conn, kind, from, to, limit, offset)?;
-    if lacks_few(kept, &ids) {
-        return posts_with(conn, kept, alloc, &ids);
+    part_by_ids(conn, kept, alloc, kind, from, to, limit, offset)
+}
+
+/// Returns the same part, whose IDs are known.
+fn known_part(
+    conn: &mut Connection<MemStore>,
+    kept: &mut KeptPosts,
+    alloc: Global,
+    kind: PostKind,
+    from: &PostDate,
+    to: &PostDate,
+    limit: u32,
+    offset: u32,
+    ids: &[u32],
+) -> Result<Vec<Post>, TablesFault>
+    requires site { IsSite conn.old }
+    requires stored { AreStored kept.old (rows_of conn.old).posts }
+    requires ids { ids.now
+        ≡ map (λ p. p.id) (page_of kind from.now to.now limit offset (rows_of conn.old).posts) }
+    ensures reads { Reads conn.old conn.new }
+    ensures posts { IfOk result (λ posts. posts.items
+        ≡ page_of kind from.now to.now limit offset (rows_of conn.old).posts) }
+    ensures stored { AreStored kept.new (rows_of conn.old).posts }
+    ensures stopped { IfErr result (IsReadFault (rows_of conn.old).step_limit) }
+{
+    if offset == 0 && !lacks_few(kept, ids) {
+        return first_part(conn, kept, alloc, kind, from, to, limit);
     }
-    first_part(conn, kept, alloc, kind, from, to, limit)
+    posts_with(conn, kept, alloc, ids)
 }
 
 /// Returns the same part, of which nothing is left out: one statement reads what is returned and no
@@ -84,17 +139,13 @@ fn first_part(
     Ok(posts)
 }
 
-/// Returns whether all posts with these IDs are kept, but for a few. That decides nothing but how they
-/// are read.
-fn lacks_few(kept: &KeptPosts, ids: &[Row]) -> bool
-    requires { All (λ r. IsId (column r 0)) ids.now }
-{
+/// Returns whether all posts with these IDs are kept, but for a few. That decides nothing but how
+/// they are read.
+fn lacks_few(kept: &KeptPosts, ids: &[u32]) -> bool {
     let mut lacking: usize = 0;
-    for row in ids {
-        if let Ok(id) = read_id(row) {
-            if kept.lacks(id) {
-                lacking = lacking.saturating_add(1);
-            }
+    for id in ids {
+        if kept.lacks(*id) {
+            lacking = lacking.saturating_add(1);
         }
     }
     lacking <= FEW
@@ -127,8 +178,8 @@ fn later_part(
     part_by_ids(conn, kept, alloc, kind, from, to, limit, offset)
 }
 
-/// Returns the same part, found by its IDs: of the posts that are left out no row is read, only
-/// their places in the index.
+/// Returns the same part, whose IDs are read first: of the posts that are left out no row is read,
+/// only their places in the index.
 fn part_by_ids(
     conn: &mut Connection<MemStore>,
     kept: &mut KeptPosts,
@@ -147,8 +198,9 @@ fn part_by_ids(
     ensures stored { AreStored kept.new (rows_of conn.old).posts }
     ensures stopped { IfErr result (IsReadFault (rows_of conn.old).step_limit) }
 {
-    let ids = id_rows(conn, kind, from, to, limit, offset)?;
-    posts_with(conn, kept, alloc, &ids)
+    let rows = id_rows(conn, kind, from, to, limit, offset)?;
+    let ids = read_ids(alloc, &rows)?;
+    known_part(conn, kept, alloc, kind, from, to, limit, offset, &ids)
 }
 
 /// Returns the IDs of a part, in its order. All that the statement reads is in the index of dates.
@@ -180,22 +232,19 @@ fn posts_with(
     conn: &mut Connection<MemStore>,
     kept: &mut KeptPosts,
     alloc: Global,
-    ids: &[Row],
+    ids: &[u32],
 ) -> Result<Vec<Post>, TablesFault>
     requires site { IsSite conn.old }
     requires stored { AreStored kept.old (rows_of conn.old).posts }
-    requires readable { All (λ r. IsId (column r 0)) ids.now }
     ensures reads { Reads conn.old conn.new }
     ensures posts { IfOk result (λ posts. posts.items
-        ≡ flat_map (λ r. option_to_list
-        (post_with (magnitude (id_in (column r 0))) (rows_of conn.old).posts)) ids.now) }
+        ≡ flat_map (λ id. option_to_list (post_with id (rows_of conn.old).posts)) ids.now) }
     ensures stored { AreStored kept.new (rows_of conn.old).posts }
     ensures stopped { IfErr result (IsReadFault (rows_of conn.old).step_limit) }
 {
     let mut posts = Vec::new(alloc);
-    for row in ids {
-        let id = read_id(row)?;
-        push_post(conn, kept, &mut posts, id)?;
+    for id in ids {
+        push_post(conn, kept, &mut posts, *id)?;
     }
     Ok(posts)
 }

@@ -12,9 +12,13 @@ ghost use Rattle.post_tables.specs.Stored.{IsSite, IsOpen, Makes, MakesInside, R
 
 use sqlite::{Connection, Error, MemStore, Row, Transaction, params};
 
-const PUT_OPTION: &str = "INSERT OR REPLACE INTO option (name, value) VALUES (?1, ?2)";
+// A row that is there is updated in place. OR REPLACE would remove it first, and a removal from a
+// table in memory goes over all of the table's rows.
+const PUT_OPTION: &str = "INSERT INTO option (name, value) VALUES (?1, ?2) \
+     ON CONFLICT (name) DO UPDATE SET value = excluded.value";
 
-const PUT_TEMPLATE: &str = "INSERT OR REPLACE INTO template (name, body) VALUES (?1, ?2)";
+const PUT_TEMPLATE: &str = "INSERT INTO template (name, body) VALUES (?1, ?2) \
+     ON CONFLICT (name) DO UPDATE SET body = excluded.body";
 
 const PUT_ACTIVE: &str = "INSERT OR REPLACE INTO active (name) VALUES (?1)";
 

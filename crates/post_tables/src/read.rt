@@ -97,13 +97,27 @@ fn read_date(text: &str) -> PostDate
     }
 }
 
-/// Reads the ID that a row begins with.
-pub(crate) fn read_id(row: &Row) -> Result<u32, Error>
+// Reads the ID that a row begins with.
+fn read_id(row: &Row) -> Result<u32, Error>
     requires { IsId (column row.now 0) }
     ensures ok { IfOk result (λ id. id ≡ magnitude (id_in (column row.now 0))) }
     ensures memory { IfErr result IsNoMemory }
 {
     row.get(0)
+}
+
+/// Reads the IDs that rows begin with.
+pub(crate) fn read_ids(alloc: Global, rows: &[Row]) -> Result<Vec<u32>, Error>
+    requires { All (λ r. IsId (column r 0)) rows.now }
+    ensures ok { IfOk result (λ ids. ids.items
+        ≡ map (λ r. magnitude (id_in (column r 0))) rows.now) }
+    ensures memory { IfErr result IsNoMemory }
+{
+    let mut ids = Vec::new(alloc);
+    for row in rows {
+        push(&mut ids, read_id(row)?)?;
+    }
+    Ok(ids)
 }
 
 // Reads the kind in a post's row.

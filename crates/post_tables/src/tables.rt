@@ -45,6 +45,7 @@ ghost use Rattle.post_tables.specs.Stored.{IsSite, Reads, rows_of};
 use crate::fault::TablesFault;
 use crate::import::import;
 use crate::kept::KeptPosts;
+use crate::kept_parts::KeptParts;
 use crate::listing::{part, post_at};
 use crate::named::{
     active_rows, delete_active, delete_template, option_rows, put_active, put_option, put_template,
@@ -65,19 +66,21 @@ use std::marker::Model;
 /// in a database in memory. Contracts see its rows as a record of lists and maps. A call that is
 /// refused leaves each of them as it was.
 ///
-/// Posts that were read are kept until they change, so that a page whose posts are found anew reads
-/// those again that have changed. Contracts don't see them.
+/// Posts that were read are kept until they change, and the IDs of a part until a post is added or
+/// deleted, or the status or the date of one is set: a page whose posts are found anew reads those
+/// again that have changed. Contracts don't see what is kept.
 #[derive(Drop)]
 pub struct Tables {
     conn: Connection<MemStore>,
     kept: KeptPosts,
+    parts: KeptParts,
     alloc: Global,
 }
 
 impl Model for Tables {
     ghost use Rattle.post_tables.specs.Rows.{Rows, rows_code};
     ghost use Rattle.post_tables.specs.Stored.{IsSite, rows_of};
-    ghost use Rattle.post_tables.specs.Kept.{AreStored};
+    ghost use Rattle.post_tables.specs.Kept.{AreListed, AreStored};
 
     ghost Value = { Rows };
 
@@ -85,7 +88,8 @@ impl Model for Tables {
 
     ghost view = { λ t. rows_of t.conn };
 
-    ghost invariant = { λ t. IsSite t.conn × AreStored t.kept (rows_of t.conn).posts };
+    ghost invariant = { λ t. IsSite t.conn × AreStored t.kept (rows_of t.conn).posts
+        × AreListed t.parts (rows_of t.conn).posts };
 }
 
 /// Returns the ID after the largest that was ever given, or `IdsUsedUp` if there is none left.
@@ -145,6 +149,7 @@ impl Tables {
         Ok(Tables {
             conn,
             kept: KeptPosts::new(alloc),
+            parts: KeptParts::new(alloc),
             alloc,
         })
     }
@@ -200,6 +205,7 @@ impl Tables {
             content,
             date,
         };
+        self.parts.clear();
         insert_post(&mut self.conn, &post)?;
         Ok(id)
     }
@@ -225,6 +231,7 @@ impl Tables {
         ensures fault { IfErr result (λ e. (e ≡ TablesFault.NoSuchPost) ⊎ IsOfStore e) }
     {
         self.kept.forget(id);
+        self.parts.before_edit(status, date);
         match edit_post(&mut self.conn, id, status, title, content, date) {
             Ok(0) => Err(TablesFault::NoSuchPost),
             Ok(_) => Ok(()),
@@ -245,6 +252,7 @@ impl Tables {
         ensures fault { IfErr result (λ e. (e ≡ TablesFault.NoSuchPost) ⊎ IsOfStore e) }
     {
         self.kept.forget(id);
+        self.parts.clear();
         match delete_post(&mut self.conn, id) {
             Ok(0) => Err(TablesFault::NoSuchPost),
             Ok(_) => Ok(()),
@@ -310,6 +318,7 @@ impl Tables {
         let posts = part(
             &mut self.conn,
             &mut self.kept,
+            &mut self.parts,
             self.alloc,
             kind,
             from,
@@ -408,6 +417,7 @@ impl Tables {
         ensures fault { IfErr result (λ e. (e ≡ TablesFault.DuplicateId) ⊎ IsOfStore e) }
     {
         self.kept.clear();
+        self.parts.clear();
         import(&mut self.conn, self.alloc, records)
     }
 }

@@ -12,13 +12,14 @@ returns-in-Ok-eq0-clause-err c =
     let absent : has_post c.args.id rows.posts ≡ false = search rules in
     c.in-Ok-eq0.ensures.makes.ok ∙ ap (λ posts. record rows { posts = posts }) (absent_without c.args.id rows.posts absent) ∙ c.self.view_is
 
--- the post is forgotten first
+-- the post is forgotten first, and so are all parts
 pub invariant_of-self : goal.invariant_of-self
 invariant_of-self c = (
   c.delete_post.ensures.makes.site,
   delete_kept c.forget.new.self c.self.inside.conn c.delete_post.new.conn
       (stored_within c.self.inside.kept c.forget.new.self _ c.forget.ensures.within c.self.invariant.1) c.args.id c.forget.ensures.gone
       c.delete_post.result c.delete_post.ensures.makes,
+  c.clear.ensures _,
 )
 
 pub invariant_of-self-in-Ok : goal.invariant_of-self-in-Ok
@@ -27,4 +28,5 @@ invariant_of-self-in-Ok c = (
   delete_kept c.forget.new.self c.self.inside.conn c.delete_post.new.conn
       (stored_within c.self.inside.kept c.forget.new.self _ c.forget.ensures.within c.self.invariant.1) c.args.id c.forget.ensures.gone
       c.delete_post.result c.delete_post.ensures.makes,
+  c.clear.ensures _,
 )
