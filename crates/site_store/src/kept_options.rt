@@ -30,7 +30,7 @@ pub(crate) fn with_option(
     if copies >= MOST_COPIES || options.len() > MOST_OPTIONS {
         return Err(AllocError);
     }
-    let mut texts = Vec::new(alloc);
+    let mut texts = Vec::with_capacity(alloc, options.len() + 1)?;
     let mut is_set = false;
     for (other, text) in options {
         if !is_set {
