@@ -1,5 +1,5 @@
 -- What a row of the tables means: a change, a part of a text, a reply, a plugin.
-use Rattle.std.specs.Prelude.{◌≡◌, ◌==◌, ℕ, Bool, true, false, List, [], ◌∷◌, map, flat_map, length, decimal, Some}
+use Rattle.std.specs.Prelude.{◌≡◌, ◌==◌, ◌+◌, ℕ, Bool, true, false, List, [], ◌∷◌, map, flat_map, length, decimal, Some}
 use Rattle.std.specs.List.{list_any, AllByRecursion}
 use Rattle.plain_data.specs.Names.{core_name}
 use Rattle.hook_changes.specs.declared.reply.Call.{Call}
@@ -65,6 +65,11 @@ pub record AreStated (rows : List ReplyRow) : Type 0 where
   pub replies : (call : Call) → AllByRecursion (λ f. is_no_row f.0 ≡ false → reply_in (replies_of rows) f.0 call ≡ reply_in stated_functions f.0 call)
       stated_functions
   pub numbers : AllByRecursion (λ f. has stated_functions f.0 ≡ true) (replies_of rows)
+
+-- whether rows have one number after another, from a first one on
+abbrev pub are_numbered_from : ℕ → List ReplyRow → Type 0
+are_numbered_from first [] = Unit {0}
+are_numbered_from first (row ∷ rows) = (row.number ≡ first) × are_numbered_from (first + 1) rows
 
 -- the plugin of a row
 abbrev pub plugin_of : Shipped → Shape

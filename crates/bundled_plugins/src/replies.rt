@@ -12,15 +12,24 @@ ghost use Rattle.bundled_plugins.specs.Replies.{attributes_listed, named_listed}
 ghost use Rattle.bundled_plugins.specs.Replies.{positional_listed, link, asks_in_turn, is_run_of_d};
 ghost use Rattle.bundled_plugins.specs.Replies.{in_parentheses};
 ghost use Rattle.bundled_plugins.specs.Replies.{goes_deeper, counts_pings};
-ghost use Rattle.bundled_plugins.specs.Rows.{replies_of, AreStated};
+ghost use Rattle.bundled_plugins.specs.Rows.{replies_of, reply_of, AreStated, are_numbered_from};
 
 use crate::calls::{answer, first_argument, joined, listed, push_all, show, text_in};
 use crate::rows::{ChangeRow, ReplyRow, TextPart, changes_of, reply_of};
 use hook_changes::{Answer, Ask, Atts, Call, CallbackId, CoreHook, Listed, Reply, Text};
 use std::alloc::{AllocError, Global};
 
-// The replies of the callbacks that need no more than a row, by their numbers.
-const PLAIN: [ReplyRow; 24] = [
+// Answers empty text, and does nothing else.
+const EMPTY: ReplyRow = ReplyRow {
+    number: 0,
+    changes: &[],
+    prints: &[],
+    answers: &[],
+};
+
+// The replies of the callbacks, in the order of their numbers from 1 on, so that a row is found by
+// its place. A callback that needs more than a row has a function of its own, and its row is empty.
+const PLAIN: [ReplyRow; 31] = [
     // marks
     ReplyRow {
         number: 1,
@@ -63,6 +72,7 @@ const PLAIN: [ReplyRow; 24] = [
         prints: &[],
         answers: &[TextPart::First, TextPart::Fixed("1")],
     },
+    ReplyRow { number: 7, ..EMPTY },
     ReplyRow {
         number: 8,
         changes: &[],
@@ -148,6 +158,10 @@ const PLAIN: [ReplyRow; 24] = [
         ],
     },
     ReplyRow {
+        number: 18,
+        ..EMPTY
+    },
+    ReplyRow {
         number: 19,
         changes: &[],
         prints: &[],
@@ -171,6 +185,24 @@ const PLAIN: [ReplyRow; 24] = [
         prints: &[],
         answers: &[],
     },
+    // atts
+    ReplyRow {
+        number: 23,
+        ..EMPTY
+    },
+    ReplyRow {
+        number: 24,
+        ..EMPTY
+    },
+    ReplyRow {
+        number: 25,
+        ..EMPTY
+    },
+    // deep
+    ReplyRow {
+        number: 26,
+        ..EMPTY
+    },
     // note
     ReplyRow {
         number: 27,
@@ -183,6 +215,10 @@ const PLAIN: [ReplyRow; 24] = [
         changes: &[],
         prints: &[TextPart::Fixed("<p>note</p>")],
         answers: &[],
+    },
+    ReplyRow {
+        number: 29,
+        ..EMPTY
     },
     ReplyRow {
         number: 30,
@@ -204,52 +240,45 @@ const PLAIN: [ReplyRow; 24] = [
     },
 ];
 
-// A reply that takes more than a look at the number is made apart from this function (never
-// inline), so that it saves no registers for the others.
+// Each reply is made apart from this function (never inline), so that none saves registers for the
+// others. A reply is large, so few functions hand it on.
 
 /// Returns the reply of the bundled callback with that number. Any other number answers empty text.
 #[tactic(auto, unfolding(crate::specs::Replies::says))]
 pub fn bundled_reply(alloc: Global, id: CallbackId, call: &Call) -> Result<Reply, AllocError>
     ensures { IfOk result (λ reply. reply ≡ says id call.now) }
 {
-    let value = first_argument(call);
     let answers = call.answers.as_slice();
     match id.number() {
-        7 => ask_its_own_hook(alloc, value, answers),
+        7 => ask_its_own_hook(alloc, first_argument(call), answers),
         18 => replace_content(alloc, &call.content, answers),
         23 => list_attributes(alloc, &call.atts),
         24 => link(alloc, &call.atts),
         25 => ask_in_turn(alloc, answers),
-        26 => go_deeper(alloc, value, answers),
+        26 => go_deeper(alloc, first_argument(call), answers),
         29 => count_pings(alloc, answers),
-        number => row_reply(alloc, plain_rows(), number, call),
+        number => reply_of(alloc, row_of(plain_rows(), number), call),
     }
 }
 
-/// Returns the replies that need no more than a row. Its contract is the proof that they are what
-/// is stated.
+/// Returns the rows. Its contract is the proof that they reply what is stated, and that each is at
+/// the place of its number.
 fn plain_rows() -> &'static [ReplyRow]
-    ensures { AreStated result.now }
+    ensures stated { AreStated result.now }
+    ensures in_order { are_numbered_from 1 result.now }
 {
     &PLAIN
 }
 
-/// Replies as the row with that number does, or answers empty text if no row has the number.
-#[inline(never)]
-fn row_reply(
-    alloc: Global,
-    rows: &[ReplyRow],
-    number: u32,
-    call: &Call,
-) -> Result<Reply, AllocError>
-    ensures { IfOk result (λ reply. reply ≡ reply_in (replies_of rows.now) number call.now) }
+/// Returns the row with that number, which is at its place, or an empty row if no row has it.
+fn row_of(rows: &'static [ReplyRow], number: u32) -> &'static ReplyRow
+    requires in_order { are_numbered_from 1 rows.now }
+    ensures { (call : _) → reply_in (replies_of rows.now) number call ≡ reply_of result.now call }
 {
-    for row in rows {
-        if row.number == number {
-            return reply_of(alloc, row, call);
-        }
+    match number.checked_sub(1) {
+        Some(place) => rows.get(place as usize).unwrap_or(&EMPTY),
+        None => &EMPTY,
     }
-    answer(alloc, &[])
 }
 
 /// Number 7 takes itself out and asks what the others make of an empty title, and then adds itself

@@ -89,15 +89,31 @@ fn change_of(alloc: Global, row: &ChangeRow) -> Result<Change, AllocError>
     })
 }
 
-/// Makes the changes of rows, in order.
+/// Makes the changes of rows, in order. Inline, so that no rows, as most replies have, take no call.
+#[inline]
 pub fn changes_of(alloc: Global, rows: &[ChangeRow]) -> Result<Listed<Change>, AllocError>
     ensures { IfOk result (λ changes. changes ≡ map change_of rows.now) }
 {
     let mut changes = Listed::empty(alloc);
+    if !rows.is_empty() {
+        push_changes(alloc, &mut changes, rows)?;
+    }
+    Ok(changes)
+}
+
+/// Appends the changes of rows.
+#[inline(never)]
+fn push_changes(
+    alloc: Global,
+    changes: &mut Listed<Change>,
+    rows: &[ChangeRow],
+) -> Result<(), AllocError>
+    ensures { OnOk result (changes.new ≡ changes.old ++ map change_of rows.now) }
+{
     for row in rows {
         changes.push(change_of(alloc, row)?)?;
     }
-    Ok(changes)
+    Ok(())
 }
 
 /// Appends a part to a text.
@@ -115,6 +131,7 @@ fn push_part(text: &mut String, part: &TextPart, call: &Call) -> Result<(), Allo
 }
 
 /// Returns about how many bytes parts take together.
+#[inline(never)]
 fn room_for(parts: &[TextPart], call: &Call) -> usize {
     let mut room = 0usize;
     for part in parts {
@@ -129,7 +146,20 @@ fn room_for(parts: &[TextPart], call: &Call) -> usize {
     room
 }
 
-/// Joins parts, in room that is allocated at once.
+/// Appends parts to a text.
+#[inline(never)]
+fn push_parts(text: &mut String, parts: &[TextPart], call: &Call) -> Result<(), AllocError>
+    ensures { OnOk result (string_bytes text.new ≡ string_bytes text.old
+        ++ text_of call.now parts.now) }
+{
+    for part in parts {
+        push_part(text, part, call)?;
+    }
+    Ok(())
+}
+
+/// Joins parts, in room that is allocated at once. Inline, so that no parts take no call.
+#[inline(always)]
 fn text_of(alloc: Global, parts: &[TextPart], call: &Call) -> Result<Text, AllocError>
     ensures { IfOk result (λ text. text ≡ text_of call.now parts.now) }
 {
@@ -137,13 +167,12 @@ fn text_of(alloc: Global, parts: &[TextPart], call: &Call) -> Result<Text, Alloc
         return Ok(Text::empty(alloc));
     }
     let mut text = String::with_capacity(alloc, room_for(parts, call))?;
-    for part in parts {
-        push_part(&mut text, part, call)?;
-    }
+    push_parts(&mut text, parts, call)?;
     Ok(Text::new(text))
 }
 
 /// Makes the reply of a row to a call.
+#[inline(never)]
 pub fn reply_of(alloc: Global, row: &ReplyRow, call: &Call) -> Result<Reply, AllocError>
     ensures { IfOk result (λ reply. reply ≡ reply_of row.now call.now) }
 {

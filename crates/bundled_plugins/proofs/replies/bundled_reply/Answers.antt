@@ -7,7 +7,7 @@ pub returns-in_default : goal.returns-in_default
 unfolding says
 returns-in_default c =
     let same =
-    rows_say c.plain_rows.result.now c.plain_rows.ensures c.number.result c.args.call.now
+    rows_say c.plain_rows.result.now c.plain_rows.ensures.stated c.number.result c.args.call.now
     (a_row c.number.result (omega arith) (omega arith) (omega arith) (omega arith) (omega arith) (omega arith) (omega arith))
     in
-    rw (← c.number.ensures, ← same) c.row_reply.ensures
+    rw (← c.number.ensures, ← same, c.row_of.ensures c.args.call.now) c.reply_of.ensures

@@ -1,7 +1,0 @@
-use Rattle.std.proofs.Common.{◌≡◌, take, string_bytes}
-use Rattle.bundled_plugins.specs.Rows.{text_of}
-use Rattle.bundled_plugins.proofs.rows.text_of.Given as goal
-
--- the text is that of the parts so far
-abbrev pub invariant-loop-part : goal.invariant-loop-part
-invariant-loop-part l = string_bytes l.text ≡ text_of l.call (take l.part-index l.parts)
