@@ -1,2 +1,3 @@
 pub mod WorkedCommands
 pub mod GetLines
+pub mod Named

@@ -2,4 +2,3 @@ pub mod Tree
 pub mod Asked
 pub mod Worked
 pub mod GetLine
-pub mod LastLine

@@ -1,5 +1,5 @@
 //! A line that asks for a page, read without its JSON tree.
-ghost use Rattle.std.specs.Prelude.{◌≡◌, ◌∷◌, Some, IfOk, IfSome, IsTrue};
+ghost use Rattle.std.specs.Prelude.{◌≡◌, ◌∷◌, Some, IfOk, IfSome};
 ghost use Rattle.json.specs.Reads.{token_of};
 ghost use Rattle.json.specs.Token.{Token as SpecToken, key, string};
 ghost use Rattle.site_commands.specs.Asked.{get};
@@ -39,27 +39,37 @@ pub(crate) fn read_get_line<'t>(
 fn read_path<'t>(reader: &mut Reader<'t>) -> Option<&'t str>
     ensures { IfSome result (λ path. reader.old ≡ get_tokens path.now) }
 {
-    let begins = matches!(reader.next(), Some(Token::BeginObject));
-    if !(begins && is_key(reader, "cmd") && is_text(reader, "get") && is_key(reader, "path")) {
-        return None;
-    }
-    let Some(Token::String(path)) = reader.next() else {
+    let Some(Token::BeginObject) = reader.next() else {
         return None;
     };
-    let ends = matches!(reader.next(), Some(Token::EndObject)) && reader.next().is_none();
-    if ends { Some(path) } else { None }
+    let Some("get") = text_member(reader, "cmd") else {
+        return None;
+    };
+    let Some(path) = text_member(reader, "path") else {
+        return None;
+    };
+    let Some(Token::EndObject) = reader.next() else {
+        return None;
+    };
+    match reader.next() {
+        Some(_) => None,
+        None => Some(path),
+    }
 }
 
-/// Takes the next token, and returns whether it is this key.
-fn is_key(reader: &mut Reader<'_>, name: &str) -> bool
-    ensures { IsTrue result → reader.old ≡ key name.now ∷ reader.new }
+/// Takes the tokens of a member, and returns its text if it has this key and is a text.
+fn text_member<'t>(reader: &mut Reader<'t>, name: &str) -> Option<&'t str>
+    ensures { IfSome result
+        (λ text. reader.old ≡ key name.now ∷ string text.now ∷ reader.new) }
 {
-    matches!(reader.next(), Some(Token::Key(found)) if found == name)
-}
-
-/// Takes the next token, and returns whether it is this text.
-fn is_text(reader: &mut Reader<'_>, text: &str) -> bool
-    ensures { IsTrue result → reader.old ≡ string text.now ∷ reader.new }
-{
-    matches!(reader.next(), Some(Token::String(found)) if found == text)
+    let Some(Token::Key(found)) = reader.next() else {
+        return None;
+    };
+    if found != name {
+        return None;
+    }
+    match reader.next() {
+        Some(Token::String(text)) => Some(text),
+        _ => None,
+    }
 }

@@ -1,7 +1,6 @@
 //! Reading commands from lines.
 ghost use Rattle.std.specs.Prelude.{◌≡◌, IfOk, option_map};
 ghost use Rattle.site_commands.specs.Asked.{asked_by};
-ghost use Rattle.site_commands.specs.LastLine.{command_in};
 ghost use Rattle.site_commands.specs.Worked.{line_command};
 
 use crate::command::{Command, read_command};
@@ -12,20 +11,14 @@ use serde_json::Value;
 use std::alloc::{AllocError, Global};
 
 /// Reads commands from lines, one after another. It keeps the room that reading takes, from 16 to
-/// 48 KB, and what the last command borrows from. No contract speaks of either.
+/// 80 KB, and what the last command borrows from. No contract speaks of either.
 #[derive(Drop)]
 pub struct CommandReader {
     scratch: Box<Scratch>,
-    last: LastLine,
-}
-
-/// What was read of the last line.
-#[derive(Drop)]
-enum LastLine {
-    /// It asks for the page of this path.
-    Get(String),
-    Tree(Value),
-    NoTree,
+    // The path of the last line, if it was read without its tree.
+    path: String,
+    // The tree of the last line, if it was read.
+    tree: Option<Value>,
 }
 
 impl CommandReader {
@@ -33,7 +26,8 @@ impl CommandReader {
     pub fn new(alloc: Global) -> Result<Self, AllocError> {
         Ok(CommandReader {
             scratch: Box::new(alloc, Scratch::new(alloc))?,
-            last: LastLine::NoTree,
+            path: String::new(alloc),
+            tree: None,
         })
     }
 
@@ -43,33 +37,16 @@ impl CommandReader {
     pub fn read(&mut self, alloc: Global, line: &[u8]) -> Result<Option<Command<'_>>, AllocError>
         ensures { IfOk result (λ command. option_map asked_by command ≡ line_command line.now) }
     {
-        // What is kept of the line before is given back first.
-        self.last = LastLine::NoTree;
-        self.last = LastLine::read(alloc, line, &mut self.scratch)?;
-        Ok(self.last.command())
-    }
-}
-
-impl LastLine {
-    fn read(alloc: Global, line: &[u8], scratch: &mut Scratch) -> Result<Self, AllocError>
-        ensures { IfOk result (λ last. command_in last ≡ line_command line.now) }
-    {
-        if let Some(path) = read_get_line(line, scratch)? {
-            return Ok(LastLine::Get(String::from_str(alloc, path)?));
+        // The tree of the line before is given back first.
+        self.tree = None;
+        if let Some(path) = read_get_line(line, &mut self.scratch)? {
+            self.path.clear();
+            self.path.push_str(path)?;
+            return Ok(Some(Command::Get {
+                path: self.path.as_str(),
+            }));
         }
-        match read_line(alloc, line)? {
-            Some(tree) => Ok(LastLine::Tree(tree)),
-            None => Ok(LastLine::NoTree),
-        }
-    }
-
-    fn command(&self) -> Option<Command<'_>>
-        ensures { option_map asked_by result ≡ command_in self.now }
-    {
-        match self {
-            LastLine::Get(path) => Some(Command::Get { path }),
-            LastLine::Tree(tree) => read_command(tree),
-            LastLine::NoTree => None,
-        }
+        self.tree = read_line(alloc, line)?;
+        Ok(self.tree.as_ref().and_then(read_command))
     }
 }

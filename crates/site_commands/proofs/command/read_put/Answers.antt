@@ -1,7 +1,7 @@
-use Rattle.std.proofs.Common.{rules}
 use Rattle.site_commands.specs.Asked.{put_of}
 use Rattle.site_commands.proofs.command.read_put.Goals as goal
 
 pub returns : goal.returns
 unfolding put_of
-returns c = search rules
+returns c =
+    rw (← c.in_ok-text_or.ensures) (rw (← c.in_ok-kind.ensures) (rw (← c.in_ok-text_or-2.ensures) (rw (← c.in_ok-status.ensures) c.read_put_of.ensures)))
