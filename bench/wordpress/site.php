@@ -198,6 +198,11 @@ function reply_to($command) {
             $posts[] = [$command['title'] ?? '', $command['content'] ?? '', $command['date']];
             $listed = null;
             return 'ok ' . array_key_last($posts) . "\n";
+        case 'edit':
+            // A title or a content: the list stays as it is, where WordPress would ask its database for it again.
+            $posts[$command['id']][0] = $command['title'] ?? $posts[$command['id']][0];
+            $posts[$command['id']][1] = $command['content'] ?? $posts[$command['id']][1];
+            return "ok\n";
         case 'option':
             $options[$command['name']] = $command['value'];
             return "ok\n";

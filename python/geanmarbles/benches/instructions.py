@@ -16,7 +16,7 @@ from typing import NamedTuple
 
 from geanmarbles.benches.drawn import Bars, draw
 from geanmarbles.benches.measured import Bench, counted, parser_of
-from geanmarbles.client.exchanges import ARTICLE, SHOWN, UNSEEN, Exchange, activate, done, get, joined, put
+from geanmarbles.client.exchanges import ARTICLE, CHANGE, SHOWN, UNSEEN, Exchange, activate, done, get, joined, put
 from geanmarbles.output import quiet_output
 from geanmarbles.paths import BUILT_PASSES
 
@@ -48,6 +48,7 @@ def pages(smoke: bool) -> Iterator[Page]:
     for name, site, parts in (("ten posts of 3 KB", articles, SHOWN), (f"{posts} empty posts", empty, posts)):
         yield Page(name, site, Exchange(), parts, "post", 50)
         yield Page(f"{name}, after a change that they don't show", site, UNSEEN, parts, "post", 50)
+        yield Page(f"{name}, after a change of what decides them", site, CHANGE, parts, "post", 50)
         yield Page(f"{name}, after an edit of one", site, EDIT, parts, "post", 50)
     for plugin in ("marks", "once", "nest"):
         yield Page(f"{posts} empty posts, `{plugin}`", activate(plugin) + empty, Exchange(), posts, "post", 20)

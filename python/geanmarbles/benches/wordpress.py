@@ -42,18 +42,20 @@ RATIOS = ("Times as fast", "than with JIT", "than a page cache")
 PLAIN = ("php", "-d", "opcache.enable_cli=0")
 # Without a size for its buffer PHP's JIT stays off, whatever else is asked for.
 JIT = ("php", "-d", "opcache.enable_cli=1", "-d", "opcache.jit=tracing", "-d", "opcache.jit_buffer_size=64M")
+# Edits of a post's title, which stays what it is: the page is the same, and there is no telling before it is made.
+EDIT, RENAMED = (done("edit", id=1, title=it) for it in ("", "Title"))
 # Why a page after a change may take longer here.
-TABLES = "which posts there are is asked of the tables again; there they are the items of an array"
+TABLES = "what the path finds is put together again, of what is kept; there posts are the items of an array"
 
 
 class Page(NamedTuple):
-    """A page: its row's title, the exchange that makes its site, its path, whether a change comes before each request,
-    and what is known of why WordPress's functions are the faster ones, if they are."""
+    """A page: its row's title, the exchange that makes its site, its path, the change that comes before each request if
+    one does, and what is known of why WordPress's functions are the faster ones, if they are."""
 
     title: str
     site: Exchange
     path: str = "/"
-    changed: bool = False
+    change: Exchange | None = None
     why: str = ""
 
 
@@ -116,7 +118,7 @@ class Comparison:
     def timed(self, page: Page) -> Timed:
         """What a page takes by each program, of which those with WordPress's functions must make the same."""
         asked = get(page.path).lines.encode()
-        change = request_of(CHANGE) if page.changed else None
+        change = request_of(page.change) if page.change else None
         with contextlib.ExitStack() as programs, tempfile.NamedTemporaryFile() as file:
             turns = []
             for words in self.words:
@@ -151,10 +153,10 @@ class Comparison:
         return milliseconds
 
     def asked_again(self, cases: Iterable[Page]) -> None:
-        """Prints a row for each case that isn't changed: what the same line takes that came before."""
+        """Prints a row for each case without a change: what the same line takes that came before."""
         print_head("A page, by the same line again", "Here", "Page cache", "Pipe alone", "than a page cache")
         for page in cases:
-            if page.changed:
+            if page.change:
                 continue
             asked = get(page.path).lines.encode()
             with contextlib.ExitStack() as programs, tempfile.NamedTemporaryFile() as file:
@@ -189,19 +191,21 @@ def single_posts() -> Iterator[Page]:
     for count in (0, 3, 14):
         title = f"one post of {len(ARTICLE):,} bytes, {count or 'no'} shortcodes"
         yield Page(title, activate("bold") + put(1, article(count), "Title"), "/?p=1", why=small)
-    yield Page("the same post, after a change", activate("bold") + put(1, ARTICLE, "Title"), "/?p=1", True, TABLES)
+    yield Page("the same post, after a change", activate("bold") + put(1, ARTICLE, "Title"), "/?p=1", CHANGE, TABLES)
 
 
 def lists_of_posts() -> Iterator[Page]:
     hundred = done("option", name="posts_per_page", value="100") + joined(put(it) for it in range(1, 101))
     yield Page("the front of 100 empty posts", hundred)
-    yield Page("the same 100, after a change", hundred, changed=True, why=TABLES)
+    yield Page("the same 100, after a change", hundred, change=CHANGE, why=TABLES)
+    yield Page("the same 100, after an edit of one", hundred, change=EDIT, why=TABLES)
     yield Page("the same, `marks` active: 2 callbacks a title", activate("marks") + hundred)
     yield Page("the same, `once`: 3, one takes itself away and adds itself", activate("once") + hundred)
     yield Page("the same, `nest`: 7, a pass within the pass", activate("nest") + hundred)
     posts = activate("bold", "marks") + joined(put(it, ARTICLE, "Title") for it in range(1, 11))
     yield Page(f"ten posts of {len(ARTICLE):,} bytes, 14 shortcodes each", posts)
-    yield Page("the same ten, after a change", posts, changed=True, why=TABLES)
+    yield Page("the same ten, after a change", posts, change=CHANGE, why=TABLES)
+    yield Page("the same ten, after an edit of one", posts, change=RENAMED, why=TABLES)
 
 
 def hostile_texts(smoke: bool) -> Iterator[Page]:
@@ -221,7 +225,7 @@ def hostile_texts(smoke: bool) -> Iterator[Page]:
     for title, text, count in texts:
         count = max(1, count // scale)
         yield Page(title.format(count), active + put(1, text(count)), "/?p=1")
-    yield Page("the same text, after a change", active + put(1, text(count)), "/?p=1", True, TABLES)
+    yield Page("the same text, after a change", active + put(1, text(count)), "/?p=1", CHANGE, TABLES)
 
 
 def bars(compared: Comparison, title: str, cases: Iterable[Page]) -> Bars:

@@ -176,6 +176,8 @@ def watched_requests() -> Iterator[Request]:
     traced = ("--trace",)
     yield Request("100 empty posts", site, front)
     yield Request("100 empty posts, after an edit of one of them", site, done("edit", id=50, title="") + front)
+    decided = done("option", name="show_on_front", value="posts")
+    yield Request("100 empty posts, after an option that decides what is found", site, decided + front)
     yield Request("100 empty posts, watched", site, front, traced)
     yield Request("100 empty posts, watched by a log that is full", site, front, traced, errors="/dev/full")
     begun = Exchange('{"cmd":"begin","path":"/"}\n', "ok 1\n")
