@@ -135,7 +135,7 @@ FIGURES = {
     "100 empty posts, `marks`: 2 callbacks a title": "the same, `marks` active: 2 callbacks a title",
     "100 empty posts, `nest`: 7, a pass within the pass": "the same, `nest`: 7, a pass within the pass",
     "99,999 times `[b]`": "`[b]`, 99,999 times",
-    "plain text of 500,000 bytes, after a change": "the same text, after a change",
+    "plain text of 500,000 bytes, after an edit of its title": "the same text, after an edit of its title",
 }
 NUMBERS = "one two three four five six seven eight nine ten".split()
 WORDS = {word: str(number) for number, word in enumerate(NUMBERS, 1)}
