@@ -1,22 +1,22 @@
 -- What is kept of the posts stays what the tables hold.
-use Rattle.std.proofs.Common.{◌≡◌, ◌≢◌, ◌⊎◌, inl, inr, ℕ, List, [], ◌∷◌, Bool, true, false, cond, Option, Some, None, refl, sym, ap, subst, subst₂, ◌∙◌, ◌==◌, arith, true≢false}
+use Rattle.std.proofs.Common.{◌≡◌, ◌≢◌, ◌⊎◌, inl, inr, ℕ, List, [], ◌∷◌, true, false, Some, refl, sym, ap, subst, subst₂, ◌∙◌, ◌==◌, arith, true≢false}
 use Rattle.std.proofs.lemmas.Bool.{cases_Bool}
 use Rattle.std.proofs.lemmas.Bool.Decides.{nat_tests}
 use Rattle.std.proofs.lemmas.List.Elements.{All-from_recursion}
 use Rattle.std.proofs.Common.{Result, Ok, Err}
-use Rattle.std.specs.Prelude.{All, nat_lt, is_some}
+use Rattle.std.specs.Prelude.{All, nat_lt, is_some, option_map}
 use Rattle.sqlite.specs.Held.{Held}
 use Rattle.sqlite_rules.proofs.ListLemmas.{all_from}
 use Rattle.sqlite_trees.specs.declared.memory.MemStore.{MemStore}
 use Rattle.site_records.specs.declared.post.PostKind.{PostKind}
 use Rattle.site_records.specs.declared.post.Post.{Post}
-use Rattle.post_tables.specs.Kept.{AreStored, IsWithin, Keeps}
+use Rattle.post_tables.specs.Kept.{AreEdited, AreStored, IsWithin, Keeps}
 use Rattle.post_tables.specs.Page.{page_of}
 use Rattle.post_tables.specs.Rows.{PostEdit, Rows, edited_post, edited_posts, has_post, post_with, with_new, with_post, without_post}
 use Rattle.post_tables.specs.Stored.{IsSite, Makes, rows_of}
 use Rattle.post_tables.proofs.PartLemmas.{found_in_part, site_rises}
 use Rattle.post_tables.specs.declared.kept.KeptPosts.{KeptPosts}
-use Rattle.post_tables.proofs.PostRows.{any_is_found}
+use Rattle.post_tables.proofs.PostRows.{absent_edited, any_is_found}
 
 -- ---- the posts stay, and what is kept changes
 
@@ -81,6 +81,13 @@ module _ (id : ℕ) where
     ])
   ]
 
+  edit_there : (e : PostEdit) (ps : List Post) (q : Post) → post_with id ps ≡ Some q → post_with id (edited_posts id e ps) ≡ Some (edited_post e q)
+  edit_there e [] q found = absurd (cc)
+  edit_there e (p ∷ ps) q found = elim (cases_Bool (p.id == id)) [
+    | inl here ↦ rw here (rw here (ap (option_map (edited_post e)) (rw here at found)))
+    | inr there ↦ rw there (rw there (edit_there e ps q (rw there at found)))
+  ]
+
   without_stays : (ps : List Post) (n : ℕ) → n ≢ id → post_with n (without_post id ps) ≡ post_with n ps
   without_stays [] n apart = refl
   without_stays (p ∷ ps) n apart = elim (cases_Bool (p.id == id)) [
@@ -94,15 +101,21 @@ module _ (id : ℕ) where
     ])
   ]
 
+  -- the post with the ID is edited, and so it is among those that are kept
+  pub stored_edit : (e : PostEdit) (old new : KeptPosts) (posts : List Post) → AreStored old posts → AreEdited id e old new
+      → AreStored new (edited_posts id e posts)
+  stored_edit e old new posts stored edited n p has = elim (edited n p has) [
+    | inl other ↦ edit_stays e posts n other.0 ∙ stored n p other.1
+    | inr this ↦
+        let q : Post = this.1.0 in
+        subst (λ m. post_with m (edited_posts id e posts) ≡ Some p) (sym this.0) (edit_there e posts q (stored id q this.1.1) ∙ ap Some this.1.2)
+  ]
+
   module _ (kept : KeptPosts) (gone : (p : Post) → ¬ Keeps kept id p) (posts : List Post) (stored : AreStored kept posts) where
     apart_from : (n : ℕ) (p : Post) → Keeps kept n p → n ≢ id
     apart_from n p has same = gone p (subst (λ m. Keeps kept m p) same has)
 
-    -- the post with an ID that isn't kept is edited
-    pub stored_edit : (e : PostEdit) → AreStored kept (edited_posts id e posts)
-    stored_edit e n p has = edit_stays e posts n (apart_from n p has) ∙ stored n p has
-
-    -- and deleted
+    -- the post with an ID that isn't kept is deleted
     pub stored_without : AreStored kept (without_post id posts)
     stored_without n p has = without_stays posts n (apart_from n p has) ∙ stored n p has
 
@@ -113,11 +126,18 @@ module _ {A E : Type 0} (kept : KeptPosts) (old new : Held MemStore) (stored : A
   put_kept p (Ok a) makes free = stored_same kept _ _ (ap (λ (s : Rows). s.posts) makes.ok) (stored_put kept p (rows_of old).posts free stored)
   put_kept p (Err e) makes free = stored_same kept _ _ (ap (λ (s : Rows). s.posts) makes.err) stored
 
-  module _ (id : ℕ) (gone : (p : Post) → ¬ Keeps kept id p) where
-    pub edit_kept : (e : PostEdit) (r : Result A E) → Makes (λ s. record s { posts = edited_posts id e s.posts }) old new r → AreStored kept (rows_of new).posts
-    edit_kept e (Ok a) makes = stored_same kept _ _ (ap (λ (s : Rows). s.posts) makes.ok) (stored_edit id kept gone (rows_of old).posts stored e)
-    edit_kept e (Err f) makes = stored_same kept _ _ (ap (λ (s : Rows). s.posts) makes.err) stored
+  -- an edit that is done, of the post and of what is kept of it
+  pub edit_kept : (id : ℕ) (e : PostEdit) (after : KeptPosts) (a : A) → AreEdited id e kept after
+      → Makes {A = A} {E = E} (λ s. record s { posts = edited_posts id e s.posts }) old new (Ok a) → AreStored after (rows_of new).posts
+  edit_kept id e after a edited makes = stored_same after _ _ (ap (λ (s : Rows). s.posts) makes.ok)
+      (stored_edit id e kept after (rows_of old).posts stored edited)
 
+  -- and one of a post that isn't there
+  pub absent_kept : (id : ℕ) (e : PostEdit) (a : A) → has_post id (rows_of old).posts ≡ false
+      → Makes {A = A} {E = E} (λ s. record s { posts = edited_posts id e s.posts }) old new (Ok a) → AreStored kept (rows_of new).posts
+  absent_kept id e a absent makes = stored_same kept _ _ (ap (λ (s : Rows). s.posts) makes.ok ∙ absent_edited id e (rows_of old).posts absent) stored
+
+  module _ (id : ℕ) (gone : (p : Post) → ¬ Keeps kept id p) where
     pub delete_kept : (r : Result A E) → Makes (λ s. record s { posts = without_post id s.posts }) old new r → AreStored kept (rows_of new).posts
     delete_kept (Ok a) makes = stored_same kept _ _ (ap (λ (s : Rows). s.posts) makes.ok) (stored_without id kept gone (rows_of old).posts stored)
     delete_kept (Err f) makes = stored_same kept _ _ (ap (λ (s : Rows). s.posts) makes.err) stored

@@ -1,12 +1,12 @@
 -- Posts that are kept once they were read, and the IDs of parts once they were listed.
-use Rattle.std.specs.Prelude.{◌≡◌, ℕ, List, Some, All, map}
+use Rattle.std.specs.Prelude.{◌≡◌, ◌≢◌, ◌⊎◌, ℕ, List, Some, All, map}
 use Rattle.std.specs.BTreeMap.{get}
 use Rattle.std.specs.Ordering.{nat_cmp}
 use Rattle.site_records.specs.declared.post.Post.{Post}
 use Rattle.site_records.specs.declared.post.PostKind.{PostKind}
 use Rattle.plain_data.specs.Texts.{Text}
 use Rattle.post_tables.specs.Page.{page_of}
-use Rattle.post_tables.specs.Rows.{post_with}
+use Rattle.post_tables.specs.Rows.{PostEdit, edited_post, post_with}
 use Rattle.post_tables.specs.declared.kept.KeptPosts.{KeptPosts}
 use Rattle.post_tables.specs.declared.kept_parts.KeptPart.{KeptPart}
 use Rattle.post_tables.specs.declared.kept_parts.KeptParts.{KeptParts}
@@ -22,6 +22,11 @@ AreStored kept posts = (id : ℕ) (p : Post) → Keeps kept id p → post_with i
 -- what is kept was kept before
 abbrev pub IsWithin : KeptPosts → KeptPosts → Type 0
 IsWithin new old = (id : ℕ) (p : Post) → Keeps new id p → Keeps old id p
+
+-- what is kept was kept before, under the ID as an edit leaves it
+abbrev pub AreEdited : ℕ → PostEdit → KeptPosts → KeptPosts → Type 0
+AreEdited id e old new = (n : ℕ) (p : Post) → Keeps new n p
+    → ((n ≢ id) × Keeps old n p) ⊎ ((n ≡ id) × ((q : Post) × Keeps old id q × (edited_post e q ≡ p)))
 
 -- what is kept is the part of this kind, this span and this place
 pub record IsPart (part : KeptPart) (of_kind : PostKind) (first last : Text) (most left_out : ℕ) : Type 0 where

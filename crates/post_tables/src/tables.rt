@@ -66,9 +66,9 @@ use std::marker::Model;
 /// in a database in memory. Contracts see its rows as a record of lists and maps. A call that is
 /// refused leaves each of them as it was.
 ///
-/// Posts that were read are kept until they change, and the IDs of a part until a post is added or
-/// deleted, or the status or the date of one is set: a page whose posts are found anew reads those
-/// again that have changed. Contracts don't see what is kept.
+/// As far as there is room, posts that were read are kept as edits leave them, and the IDs of a part
+/// until a post is added or deleted, or the status or the date of one is set. A page whose posts are
+/// found anew reads the rows of the others alone. Contracts don't see what is kept.
 #[derive(Drop)]
 pub struct Tables {
     conn: Connection<MemStore>,
@@ -230,11 +230,13 @@ impl Tables {
             → IsRefusedAs self.old.step_limit TablesFault.NoSuchPost result }
         ensures fault { IfErr result (λ e. (e ≡ TablesFault.NoSuchPost) ⊎ IsOfStore e) }
     {
-        self.kept.forget(id);
         self.parts.before_edit(status, date);
         match edit_post(&mut self.conn, id, status, title, content, date) {
             Ok(0) => Err(TablesFault::NoSuchPost),
-            Ok(_) => Ok(()),
+            Ok(_) => {
+                self.kept.edit(self.alloc, id, status, title, content, date);
+                Ok(())
+            }
             Err(error) => Err(refusal(&mut self.conn, id, error)),
         }
     }

@@ -1,4 +1,4 @@
-use Rattle.std.proofs.Common.{◌≡◌, ◌∙◌, ap, map, rules}
+use Rattle.std.proofs.Common.{◌≡◌, ◌∙◌, ap, map}
 use Rattle.post_tables.specs.Reading.{post_from}
 use Rattle.post_tables.specs.Page.{page_of}
 use Rattle.post_tables.specs.Stored.{rows_of}
