@@ -1,10 +1,12 @@
 -- What is kept of the rows is still theirs after a command.
-use Rattle.std.proofs.Common.{◌≡◌, ◌∙◌, ℕ, List, [], ◌∷◌, ◌++◌, Option, None, Result, Ok, Err, true, false, cond, inl, inr, sym, ap, subst}
+use Rattle.std.proofs.Common.{◌≡◌, ◌∙◌, ℕ, List, [], get_or, take, Option, None, Result, Ok, Err, true, false, cond, inl, inr, sym, ap, subst}
 use Rattle.std.specs.Cmp.Lexicographic.{nat_list_cmp_total}
 use Rattle.std.specs.FinMap.{entries, entries-insert, insert}
 use Rattle.std.specs.FinMap.Entries.{put as put_in}
-use Rattle.std.specs.Prelude.{Bool, IfOk, IfSome, OnErr, Some, ◌⊎◌}
-use Rattle.std.proofs.lemmas.List.Elements.{All-nil, All-push, All-weaker}
+use Rattle.std.specs.Prelude.{All, Contains, bytes_eq, Bool, IfOk, IfSome, OnErr, Some, ◌⊎◌}
+use Rattle.std.proofs.lemmas.List.Elements.{All-nil, All-cons, All-take, All-weaker, All-contains, All-contains_itself}
+use Rattle.lru.specs.LruCache.{promoted}
+use Rattle.lru.proofs.CallerLemmas.{Contains-promoted, Contains-remove_entry}
 use Rattle.callback_store.specs.Shape.{Shape}
 use Rattle.plain_data.specs.Texts.{Text}
 use Rattle.serde_json.specs.Data.{Data}
@@ -29,29 +31,34 @@ pub left : {E : Type 0} (P : Rows → Type 0) (result : Result SiteReply E) (old
 left P (Ok reply) old new meant ok err before after = subst P (sym (ap (λ p. p.0) ok)) after
 left P (Err fault) old new meant ok err before after = subst P (sym err) before
 
+-- what holds of all of a list holds of all that is among it
+among : {X : Type 0} (P : X → Type 0) (all some : List X) → All P all → ((x : X) → Contains some x → Contains all x) → All P some
+among P all some holds sub k d within = All-contains P all (get_or some k d) holds (sub (get_or some k d) (All-contains_itself some k d within))
+
 module _ (rows : Rows) (options templates : Option Texts) (active : Option (List Text)) (kept : List (Text × Found))
     (up : KeepsUp rows options templates active kept) where
   -- of no path anything is kept
   none : (r : Rows) → AreFound r []
   none r = All-nil (λ t. t.1 ≡ found_by r t.0)
 
+  with_finds : (new : List (Text × Found)) → AreFound rows new → KeepsUp rows options templates active new
+  with_finds new are = record { options = up.options; templates = up.templates; active = up.active; found = are }
+
+  -- a look-up changes their order
+  pub looked-up : (path : Text) → KeepsUp rows options templates active (promoted (bytes_eq path) kept)
+  looked-up path = with_finds _ (among (λ t. t.1 ≡ found_by rows t.0) kept _ up.found (Contains-promoted (bytes_eq path) kept))
+
   -- what was kept is what is found, and so is one more find
   pub found-up : (new : List (Text × Found)) (path : Text) (found : Found) → found ≡ found_by rows path
       → IsKeptFrom kept (path, found) new → KeepsUp rows options templates active new
-  found-up new path found is from = record {
-    options = up.options;
-    templates = up.templates;
-    active = up.active;
-    found = more from.0 (room from.0 from.1) from.2;
-  }
+  found-up new path found is from = with_finds new (elim from.1 [
+    | inl same ↦ subst (AreFound rows) (sym same) room
+    | inr one ↦ subst (AreFound rows) (sym one) (All-cons (λ t. t.1 ≡ found_by rows t.0) (path, found) _ is
+        (among (λ t. t.1 ≡ found_by rows t.0) (take from.0 kept) _ room (Contains-remove_entry (bytes_eq path) (take from.0 kept))))
+  ])
     where
-      room : (r : List (Text × Found)) → (r ≡ kept) ⊎ (r ≡ []) → AreFound rows r
-      room r (inl same) = subst (AreFound rows) (sym same) up.found
-      room r (inr empty) = subst (AreFound rows) (sym empty) (none rows)
-
-      more : (r : List (Text × Found)) → AreFound rows r → (new ≡ r) ⊎ (new ≡ r ++ (path, found) ∷ []) → AreFound rows new
-      more r all (inl same) = subst (AreFound rows) (sym same) all
-      more r all (inr one) = subst (AreFound rows) (sym one) (All-push (λ t. t.1 ≡ found_by rows t.0) r (path, found) all is)
+      room : AreFound rows (take from.0 kept)
+      room = All-take (λ t. t.1 ≡ found_by rows t.0) from.0 kept up.found
 
   -- ---- if posts change, what paths found is forgotten
 

@@ -9,6 +9,7 @@
 mod changes;
 mod kept_finds;
 mod kept_options;
+mod small_find;
 mod stored;
 mod templates;
 

@@ -1,5 +1,5 @@
 //! What a site has stored, with what its pages read of it kept from one request to the next.
-ghost use Rattle.std.specs.Prelude.{◌≡◌, All, IfOk, IfErr, map, string_bytes};
+ghost use Rattle.std.specs.Prelude.{◌≡◌, All, IfOk, IfErr, IfSome, map, string_bytes};
 ghost use Rattle.permalink_query.specs.Paths.{query_of};
 ghost use Rattle.permalink_query.specs.Found.{query_result};
 ghost use Rattle.post_tables.specs.Faults.{IsStoreReadFault};
@@ -14,7 +14,7 @@ use plain_data::{Shared, SharedList, Text};
 use post_tables::Tables;
 use site_edits::StoreFault;
 use site_export::history_of;
-use std::alloc::Global;
+use std::alloc::{AllocError, Global};
 use std::marker::Model;
 
 /// The tables of a site, and what was read from them since it last changed: the options, the
@@ -154,15 +154,24 @@ impl SiteStore {
         ensures same { self.new ≡ self.old }
         ensures stopped { IfErr result (IsStoreReadFault self.old.step_limit) }
     {
-        if let Some(found) = self.found.at(path) {
-            return Ok(found.share()?);
+        if let Some(found) = self.known(path)? {
+            return Ok(found);
         }
         let found = found_by(alloc, &mut self.tables, path, options)?;
         let found = Shared::new(alloc, found)?;
         // If memory runs out here, the page is printed all the same, and the path is read again
         // next time.
-        let _ = self.found.keep(alloc, path, &found);
+        let _ = self.found.keep(path, &found);
         Ok(found)
+    }
+
+    /// Returns what the path finds, if it is kept.
+    fn known(&mut self, path: &str) -> Result<Option<Shared<Found>>, AllocError>
+        ensures found { IfOk result
+            (λ known. IfSome known (λ found. found ≡ found_by self.old path.now)) }
+        ensures same { self.new ≡ self.old }
+    {
+        self.found.at(path)
     }
 }
 

@@ -1,18 +1,9 @@
-use Rattle.std.proofs.Common.{◌≡◌, ◌∙◌, sym, ap, rules}
+use Rattle.std.proofs.Common.{◌≡◌, rules}
 use Rattle.std.specs.FinMap.{entries_sorted}
-use Rattle.std.specs.Prelude.{option_map}
 use Rattle.sorted_texts.specs.Sorted.{AreSorted}
 use Rattle.site_store.specs.Stored.{found_by}
 use Rattle.site_store.proofs.Keeping.{found-up}
-use Rattle.site_store.proofs.UnderNames.{kept_is}
 use Rattle.site_store.proofs.stored.SiteStore.found.Goals as goal
-
--- what is kept of a path is what it finds
-pub returns-in-Some-clause-found : goal.returns-in-Some-clause-found
-returns-in-Some-clause-found c =
-    let kept = sym (ap (option_map (λ found. found.now)) c.in-Some.is) ∙ c.at.ensures in
-    let is = kept_is (found_by c.self.inside.tables) c.self.inside.found c.args.path.now c.in-Some.found.now c.self.invariant.found kept in
-    c.in_ok-share.ensures ∙ rw (← c.self.view_is) is
 
 -- the rows hold the options in ascending order of their names
 pub found_by-requires : goal.found_by-requires
@@ -23,5 +14,5 @@ found_by-requires c =
 -- of the path what it finds is kept, or nothing more
 pub invariant_of-self-2 : goal.invariant_of-self-2
 invariant_of-self-2 c =
-    let is : c.in_ok-found-2.found ≡ found_by c.self.inside.tables c.args.path.now = search rules in
-    rw c.found_by.ensures.same (found-up _ _ _ _ _ c.self.invariant c.keep.new.self c.args.path.now c.in_ok-found-2.found is c.keep.ensures)
+    let is : c.in_ok-found-3.found ≡ found_by c.self.inside.tables c.args.path.now = search rules in
+    rw c.found_by.ensures.same (found-up _ _ _ _ _ c.self.invariant c.keep.new.self c.args.path.now c.in_ok-found-3.found is c.keep.ensures)

@@ -1,4 +1,4 @@
-use Rattle.std.proofs.Common.{◌≡◌, ◌∙◌, Some, true, false, inl, inr, refl, rules, ap, sym, subst}
+use Rattle.std.proofs.Common.{◌≡◌, ◌∙◌, Some, inl, inr, refl, rules, sym, subst}
 use Rattle.std.specs.Prelude.{IfSome, Option}
 use Rattle.std.specs.FinMap.Entries.{put}
 use Rattle.post_tables.specs.Rows.{Rows, by_bytes}
