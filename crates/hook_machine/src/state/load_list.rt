@@ -1,5 +1,18 @@
 //! The changes with which a request begins.
-ghost use Rattle.std.specs.Prelude.{◌≡◌, ◌++◌, pos, codes, map, bytes_eq, IfOk, OnOk};
+ghost use Rattle.std.specs.Prelude.{
+  ◌≡◌,
+  ◌≤◌,
+  ◌++◌,
+  pos,
+  codes,
+  map,
+  length,
+  bytes_eq,
+  is_some,
+  IfOk,
+  IfSome,
+  OnOk,
+};
 ghost use Rattle.std.specs.List.{list_any};
 ghost use Rattle.callback_store.specs.Shape.{shapes_of};
 ghost use Rattle.hook_changes.specs.declared.reply.Change.TheVariants.{Add};
@@ -38,27 +51,46 @@ pub fn load_list<'p, S: Stated>(
 {
     let mut list = Vec::new(alloc);
     for plugin in plugins.by_name() {
-        if is_one_of(active, plugin.name.as_str()) {
-            push_own(&mut list, plugins, active, plugin)?;
+        if let Some(place) = place_of(active, plugin.name.as_str()) {
+            push_own(&mut list, plugins, active, place, plugin)?;
         }
     }
     Ok(list)
 }
 
-/// Appends the load list of a plugin.
+/// Returns where to look for a name first, if it is one of the names. If they are in order, as those
+/// of a site's tables are, it is found by halves, and is the first from there on.
+fn place_of(names: &[Text], name: &str) -> Option<usize>
+    ensures found { is_some result ≡ list_any (bytes_eq name.now) names.now }
+    ensures within { IfSome result (λ place. place ≤ length names.now) }
+{
+    let place = names.partition_point(|other| other.as_str() < name);
+    if let Some(other) = names.get(place) {
+        if name == other.as_str() {
+            return Some(place);
+        }
+    }
+    if is_one_of(names, name) {
+        return Some(0);
+    }
+    None
+}
+
+/// Appends the load list of a plugin, whose name is looked for from a place on.
 fn push_own<'p, S: Stated>(
     list: &mut Vec<LoadChange<'p>>,
     plugins: &Plugins<S>,
     active: &[Text],
+    place: usize,
     plugin: &'p Plugin<S>,
 ) -> Result<(), AllocError>
+    requires { place ≤ length active.now }
     ensures { OnOk result (map load_change list.new.items ≡ map load_change list.old.items
         ++ with_active (shapes_of S.number plugins.now) active.now plugin.entry.now.load) }
 {
-    // Most changes register a callback of their own plugin. If the names are in order, as those of
-    // a site's tables are, its own is the first here, and the others aren't looked at.
-    let at = active.partition_point(|name| name.as_str() < plugin.name.as_str());
-    let from = &active[at..];
+    // Most changes register a callback of their own plugin, whose name is most often the first here,
+    // so that the others aren't looked at.
+    let from = &active[place..];
     for change in plugin.load.as_slice() {
         let is_active = has_active(plugins, from, change) || has_active(plugins, active, change);
         list.push((change, is_active))?;
