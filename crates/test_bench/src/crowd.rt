@@ -1,17 +1,11 @@
-//! The plugins whose callbacks are passed over.
+//! The plugins whose callbacks are passed over and loaded.
 use crate::kept::Kept;
-use callback_store::Plugin;
+use callback_store::{Plugin, Plugins};
 use hook_changes::{CallbackId, Change, Listed, Text};
 use std::alloc::{AllocError, Global};
 
 /// The hook that they are registered on.
 pub const HOOK: &str = "the_title";
-
-/// The names of the plugins, by bytes.
-const NAMES: [&str; 4] = ["p1", "p2", "p3", "p4"];
-
-/// How many callbacks each plugin has at most.
-const EACH: u16 = 250;
 
 /// Where callbacks are registered.
 #[derive(Clone, Copy)]
@@ -31,18 +25,20 @@ impl Spread {
     }
 }
 
-/// Makes plugins with `count` callbacks in all, numbered from 1.
+/// Makes plugins with `count` callbacks in all, numbered from 1: as many each as evenly go.
 pub fn crowd(
     alloc: Global,
     spread: Spread,
     count: u16,
+    plugins: u16,
 ) -> Result<Listed<Plugin<Kept>>, AllocError> {
     let last = count.saturating_add(1);
     let mut list = Listed::empty(alloc);
     let mut first = 1u16;
-    for name in &NAMES {
-        let end = first.saturating_add(EACH).min(last);
-        list.push(plugin(alloc, spread, name, first, end)?)?;
+    for at in 0..plugins {
+        let share = last.saturating_sub(first) / (plugins - at);
+        let end = first.saturating_add(share);
+        list.push(plugin(alloc, spread, at, first, end)?)?;
         first = end;
     }
     Ok(list)
@@ -53,12 +49,12 @@ pub fn crowd(
 fn plugin(
     alloc: Global,
     spread: Spread,
-    name: &str,
+    at: u16,
     first: u16,
     end: u16,
 ) -> Result<Plugin<Kept>, AllocError> {
     Ok(Plugin {
-        name: Text::copied(alloc, name)?,
+        name: Text::new(format!(in alloc; "p{at:02}")?),
         load: load(alloc, spread, first, end)?,
         callbacks: callbacks(alloc, first, end)?,
     })
@@ -85,11 +81,11 @@ fn callbacks(alloc: Global, first: u16, end: u16) -> Result<Listed<Kept>, AllocE
     Ok(callbacks)
 }
 
-/// Returns the names of the plugins, which are all active.
-pub fn active(alloc: Global) -> Result<Listed<Text>, AllocError> {
-    let mut names = Listed::empty(alloc);
-    for name in &NAMES {
-        names.push(Text::copied(alloc, name)?)?;
+/// Returns the names of the plugins, which are all active, in the order of their bytes.
+pub fn active(alloc: Global, plugins: &Plugins<Kept>) -> Result<Vec<Text>, AllocError> {
+    let mut names = Vec::new(alloc);
+    for plugin in plugins.by_name() {
+        names.push(Text::copied(alloc, plugin.name.as_str())?)?;
     }
     Ok(names)
 }

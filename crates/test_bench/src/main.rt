@@ -1,23 +1,42 @@
-//! Makes passes of a filter over many callbacks, so that a script can time them.
+//! Makes passes of a filter over many callbacks, and loads of many plugins, so that scripts can
+//! measure them.
 //!
-//! `test_bench COUNT TIMES [many]` registers COUNT callbacks (0 to 1,000), all at one priority or
-//! each at its own, makes TIMES passes over them and prints the value after the last one. A number
-//! that is left out is 3.
+//! `test_bench COUNT TIMES [many]` registers COUNT callbacks (0 to 1,000) of four plugins, all at
+//! one priority or each at its own, makes TIMES passes over them and prints the value after the
+//! last one.
+//!
+//! `test_bench COUNT TIMES loads PLUGINS` spreads COUNT callbacks, all at one priority, evenly over
+//! PLUGINS plugins (1 to 64, which may have 256 each), makes TIMES runs of what they register and
+//! then one more, and prints how many callbacks a pass in that one calls.
+//!
+//! A number that is left out is 3.
 #![tactic(auto)]
 
 ghost use Rattle.hook_machine.specs.Runs.{IsReady};
 
 mod crowd;
 mod kept;
+mod loads;
 
-use callback_store::{Plugins, Stated};
+use callback_store::Plugins;
 use content_cache::PieceCache;
 use crowd::{HOOK, Spread, active, crowd};
 use hook_changes::{Listed, Text};
 use hook_machine::{Run, RunFault};
+use kept::Kept;
+use loads::called_after;
 use std::alloc::Global;
 use std::env;
 use std::process::ExitCode;
+
+/// What is made.
+#[derive(Clone, Copy)]
+enum Work {
+    /// Passes over callbacks of four plugins.
+    Passes(Spread),
+    /// Loads of that many plugins.
+    Loads(u16),
+}
 
 fn main(rt: HostRuntime) -> ExitCode {
     let Ok(words) = env::args(&rt) else {
@@ -26,14 +45,17 @@ fn main(rt: HostRuntime) -> ExitCode {
     let mut words = words.skip(1);
     let count = number(words.next()).min(1_000) as u16;
     let times = number(words.next());
-    let spread = match words.next() {
-        Some(_) => Spread::Many,
-        None => Spread::One,
+    let work = match words.next() {
+        None => Work::Passes(Spread::One),
+        Some(word) if word.as_str() == "loads" => {
+            Work::Loads(number(words.next()).clamp(1, 64) as u16)
+        }
+        Some(_) => Work::Passes(Spread::Many),
     };
-    match value_after(rt.alloc(), spread, count, times) {
-        Some(value) => {
-            let value = value.as_str();
-            let _ = println!(rt; "{value}");
+    match done(rt.alloc(), work, count, times) {
+        Some(text) => {
+            let text = text.as_str();
+            let _ = println!(rt; "{text}");
             ExitCode::SUCCESS
         }
         None => ExitCode::FAILURE,
@@ -48,19 +70,25 @@ fn number(word: Option<String>) -> u32 {
     }
 }
 
-/// Runs `times` passes over `count` callbacks, and returns the value of the last.
-fn value_after(alloc: Global, spread: Spread, count: u16, times: u32) -> Option<Text> {
-    let plugins = Plugins::new(alloc, crowd(alloc, spread, count).ok()?).ok()?;
-    passes_over(alloc, &plugins, times).ok()
+/// Does the work `times` times, and returns what is printed of it.
+fn done(alloc: Global, work: Work, count: u16, times: u32) -> Option<Text> {
+    match work {
+        Work::Passes(spread) => {
+            let plugins = Plugins::new(alloc, crowd(alloc, spread, count, 4).ok()?).ok()?;
+            passes_over(alloc, &plugins, times).ok()
+        }
+        Work::Loads(plugins) => {
+            let list = crowd(alloc, Spread::One, count, plugins).ok()?;
+            let plugins = Plugins::new(alloc, list).ok()?;
+            let called = called_after(alloc, &plugins, times).ok()?;
+            Some(Text::new(format!(in alloc; "{called}").ok()?))
+        }
+    }
 }
 
 /// Runs the passes in a request of their own.
-fn passes_over<S: Stated>(
-    alloc: Global,
-    plugins: &Plugins<S>,
-    times: u32,
-) -> Result<Text, RunFault> {
-    let active = active(alloc)?;
+fn passes_over(alloc: Global, plugins: &Plugins<Kept>, times: u32) -> Result<Text, RunFault> {
+    let active = active(alloc, plugins)?;
     let mut cache = PieceCache::new(alloc, 1)?;
     let mut run = Run::new(alloc, plugins, active.as_slice(), &[], u32::MAX)?;
     let value = passes(alloc, &mut run, times, &mut cache);
@@ -69,9 +97,9 @@ fn passes_over<S: Stated>(
 }
 
 /// Runs `times` passes, after the load lists of all plugins, and returns the value of the last.
-fn passes<S: Stated>(
+fn passes(
     alloc: Global,
-    run: &mut Run<'_, S>,
+    run: &mut Run<'_, Kept>,
     times: u32,
     cache: &mut PieceCache,
 ) -> Result<Text, RunFault>

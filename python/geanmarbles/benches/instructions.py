@@ -1,11 +1,11 @@
-"""Counts the instructions that pages and passes take, by valgrind's callgrind.
+"""Counts the instructions that pages, passes and loads take, by valgrind's callgrind.
 
     bench/instructions/run [--smoke] [--svg FILE] [--only WORD] [PROGRAM]
 
-A row for each page and each pass; with --only for those whose names have WORD. What one request takes is the difference
-between a run with many of them and one with a single one, so what is made once isn't counted, nor are the commands
-between the requests. Counts are the same in each run, whatever else the machine does. crates/test_bench makes the
-passes. bench/README.md says what else can follow.
+A row for each page, pass and load; with --only for those whose names have WORD. What one request takes is the
+difference between a run with many of them and one with a single one, so what is made once isn't counted, nor are the
+commands between the requests. Counts are the same in each run, whatever else the machine does. crates/test_bench makes
+the passes, and the loads: each is that of a page which finds its load kept. bench/README.md says what else can follow.
 """
 
 import shutil
@@ -21,8 +21,10 @@ from geanmarbles.output import quiet_output
 from geanmarbles.paths import BUILT_PASSES
 
 POSTS, SHORTCODES, CALLBACKS, LETTERS = 100, 1_000, 1_000, 500_000
-# How many rows are enough to see that the script works: passes, a page, and one after a change.
-FEW_ROWS = 5
+# Of how many active plugins the callbacks are that are loaded.
+PLUGINS = (4, 16, 63)
+# How many rows are enough to see that the script works: passes, loads, a page, and one after a change.
+FEW_ROWS = 8
 # A post that is shown is edited, and stays as it is.
 EDIT = done("edit", id=1, title="")
 
@@ -75,20 +77,36 @@ def of_page(bench: Bench, page: Page, times: int) -> float:
     return (ended - begun - between) / times
 
 
-def of_pass(count: int, spread: bool, times: int) -> float:
-    """The instructions of one pass over callbacks that give the value back."""
-    words = [str(BUILT_PASSES), str(count), *["many"] * spread]
-    begun, ended = (counted([*words[:2], str(it), *words[2:]])[0] for it in (1, 1 + times))
+class Work(NamedTuple):
+    """Work over callbacks that give the value back: its name, the words that ask `test_bench` for it, of how many parts
+    it consists and what they are."""
+
+    name: str
+    words: tuple[str, ...]
+    parts: int
+    part: str
+
+
+def works(callbacks: int) -> Iterator[Work]:
+    yield Work(f"a pass over {callbacks:,} callbacks, at one priority", (), callbacks, "callback")
+    yield Work(f"a pass over {callbacks:,} callbacks, each at its own", ("many",), callbacks, "callback")
+    for plugins in PLUGINS:
+        name = f"a kept load of {callbacks:,} callbacks of {plugins} plugins"
+        yield Work(name, ("loads", str(plugins)), 1, "load")
+
+
+def of_work(work: Work, callbacks: int, times: int) -> float:
+    """The instructions of one pass or load over a number of callbacks."""
+    begun, ended = (counted([str(BUILT_PASSES), str(callbacks), str(it), *work.words])[0] for it in (1, 1 + times))
     return (ended - begun) / times
 
 
 def rows(bench: Bench, word: str) -> Iterator[tuple[str, float, int, str]]:
     """For each row its name, what it counts, of how many parts that consists and what they are."""
     callbacks = 10 if bench.smoke else CALLBACKS
-    for name, spread in (("at one priority", False), ("each at its own", True)):
-        name = f"a pass over {callbacks:,} callbacks, {name}"
-        if word in name:
-            yield name, of_pass(callbacks, spread, 1 if bench.smoke else 20), callbacks, "callback"
+    for work in works(callbacks):
+        if word in work.name:
+            yield work.name, of_work(work, callbacks, 1 if bench.smoke else 20), work.parts, work.part
     for page in pages(bench.smoke):
         if word in page.name:
             yield page.name, of_page(bench, page, 1 if bench.smoke else page.times), page.parts, page.part
@@ -109,4 +127,4 @@ def main() -> None:
     for name, count, parts, part in islice(rows(bench, given.only), FEW_ROWS if bench.smoke else None):
         print(f"{name:<70} {count / parts:>12,.0f}   {part}", flush=True)
         bars[f"{name}, a {part}"] = [count / parts]
-    draw(bench.svg, [Bars("What pages and passes take", "instructions", (), bars)])
+    draw(bench.svg, [Bars("What pages, passes and loads take", "instructions", (), bars)])

@@ -1,20 +1,22 @@
 """Compares what requests cost with what is recorded: instructions, and allocations.
 
-    tests/cost/run [--record] [PROGRAM]
+    tests/cost/run [--record] [--only WORD] [PROGRAM]
 
 PROGRAM is crates/site/out/site of this repository if it is left out. valgrind's callgrind counts, so the figures are
 the same in each run, whatever else the machine does. What one request takes is the difference between a run with many
 of them and a run with one, divided by their number. A request fails that replies wrongly, or takes 5 in 100 more of
 either than counts.txt beside this script says; --record writes that file anew. What takes less than recorded by as much
-is named, so that it can be recorded. Without valgrind nothing is counted, which is said.
+is named, so that it can be recorded. With --only those are counted, and recorded, whose names have WORD. Without
+valgrind nothing is counted, which is said.
 
-Among the requests are fronts that are found anew, of posts that were read before but for one; a site in a file: edits
+Among the requests are fronts that are found anew, of posts that were read before; a site in a file: edits
 of which many come in one read and so in one commit, as many as fill a read, and edits that a start carries out; pages
 that are watched by a log, also by one that can't be written, and a page by single turns; large pages and texts; every
 plugin of `press`; and a site of 10,000 options. Lines that ask for one page differ, so that each is printed, but for
 two requests whose pages are kept.
 
 `test_bench`, if it is built, adds 1,000 callbacks at one priority: that takes what its run takes more than one without.
+It loads them as a page does that finds its load kept, of 4 plugins and of 63.
 
 A snippet of the program `press`, which is crates/press/out/press, is counted beside a bundled plugin that prints the
 same: it may take twice as many instructions.
@@ -100,6 +102,21 @@ class Request(NamedTuple):
         return self.before + (self.counted.again(times) if self.again else self.counted * times)
 
 
+class Work(NamedTuple):
+    """Work of `test_bench`: its name, the words of a run and of one that does it more often, how many times more, and
+    what both print."""
+
+    name: str
+    run: tuple[str, ...]
+    longer: tuple[str, ...]
+    times: int
+    printed: str
+
+    def counted(self, words: tuple[str, ...]) -> "Cost | None":
+        nothing = Exchange()
+        return counted(str(BUILT_PASSES), Request(self.name, nothing, nothing, words), Exchange("", self.printed))
+
+
 class Cost(NamedTuple):
     instructions: float
     allocations: float
@@ -141,6 +158,7 @@ def requests() -> Iterator[Request]:
     # The option says what the front shows, so that is found anew.
     decided = done("option", name="show_on_front", value="posts")
     yield Request("50,000 letters, after an option that decides what is found", site, decided + front)
+    yield Request("50,000 letters, after an edit of their title", site, done("edit", id=1, title="") + front)
     yield Request("a path that finds nothing", nothing, get("/?p=7", NOTHING, 404))
     yield Request("a line that is no command", nothing, Exchange("{}\n", "refused 1 BadCommand\n"))
     yield Request("an option", nothing, done("option", name="blogname", value="Site"))
@@ -198,8 +216,10 @@ def large_requests() -> Iterator[Request]:
     spaced = ("[b]x[/b]" + "word " * 8) * 2_000
     bold = spaced.replace("[b]", "<b>").replace("[/b]", "</b>")
     yield Request("2,000 shortcodes in 96 KB", activate("bold") + put(1, spaced), get(body=shown(bold)))
-    site = joined(put(it) for it in range(1, 9))
-    yield Request("eight paths in turn", site, joined(get(f"/?p={it}", shown("")) for it in range(1, 9)))
+    for name, paths in (("eight", 8), ("100", 100)):
+        site = joined(put(it) for it in range(1, paths + 1))
+        turn = joined(get(f"/?p={it}", shown("")) for it in range(1, paths + 1))
+        yield Request(f"{name} paths in turn", site, turn)
     options = joined(done("option", name=f"o{it}", value="v") for it in range(10_000))
     yield Request("the front of no post, beside 10,000 options", options, get(body=NOTHING))
     change = done("option", name="o5000", value="v")
@@ -216,12 +236,15 @@ def pressed_requests() -> Iterator[Request]:
     yield Request("100 filters of a text of 50,000 letters", site, get(body=shown(LETTERS)), program="press")
 
 
-def added_callbacks() -> Iterator[Request]:
-    """Callbacks that are added at one priority, if the program that adds them is there."""
-    if BUILT_PASSES.is_file():
-        yield Request("1,000 callbacks added at one priority", Exchange(), Exchange(), program="test_bench")
-    else:
+def works() -> Iterator[Work]:
+    """Callbacks that are added at one priority, and loaded, if the program that does so is there."""
+    if not BUILT_PASSES.is_file():
         print(f"{BUILT_PASSES} isn't built, so no callbacks are added: `rt run` in its crate's folder builds it")
+        return
+    yield Work("1,000 callbacks added at one priority", ("0", "0"), ("1000", "0"), 1, "value\n")
+    for plugins in ("4", "63"):
+        one, many = (("1000", str(it), "loads", plugins) for it in (1, 1 + TIMES))
+        yield Work(f"a kept load of 1,000 callbacks of {plugins} plugins", one, many, TIMES, "1000\n")
 
 
 def made_file(program: str, folder: str, exchange: Exchange) -> str:
@@ -270,24 +293,17 @@ def cost_in(counts: Iterable[str]) -> Cost:
     return Cost(total, sum(calls[it] for it in ALLOCATE))
 
 
-def cost_of(program: str, request: Request) -> Cost | None:
-    """What one request takes, or None if one is replied to wrongly."""
-    if request.program == "test_bench":
-        return cost_of_added(request)
-    program = str(BUILT_PRESS) if request.program == "press" else program
-    one, many = (counted(program, request, request.times(it)) for it in (1, 1 + TIMES))
+def cost_of(program: str, asked: Request | Work) -> Cost | None:
+    """What one request or work takes, or None if one is replied to wrongly."""
+    if isinstance(asked, Work):
+        one, many, times = asked.counted(asked.run), asked.counted(asked.longer), asked.times
+    else:
+        program = str(BUILT_PRESS) if asked.program == "press" else program
+        one, many = (counted(program, asked, asked.times(it)) for it in (1, 1 + TIMES))
+        times = TIMES
     if not one or not many:
         return None
-    return Cost((many.instructions - one.instructions) / TIMES, (many.allocations - one.allocations) / TIMES)
-
-
-def cost_of_added(request: Request) -> Cost | None:
-    """What the callbacks of a run of `test_bench` take, which makes no pass."""
-    value = Exchange("", "value\n")
-    none, all_of = (counted(str(BUILT_PASSES), request._replace(options=(it, "0")), value) for it in ("0", "1000"))
-    if not none or not all_of:
-        return None
-    return Cost(all_of.instructions - none.instructions, all_of.allocations - none.allocations)
+    return Cost((many.instructions - one.instructions) / times, (many.allocations - one.allocations) / times)
 
 
 def recorded() -> dict[str, Cost]:
@@ -321,35 +337,42 @@ def judged(cost: Cost | None, was: Cost | None) -> tuple[bool, str]:
     return True, said
 
 
+def record(whole: Iterable[Request | Work], costs: Mapping[str, Cost | None]) -> None:
+    """Writes counts.txt anew. What wasn't counted stays as it is recorded."""
+    was = recorded()
+    named = ((it.name, costs.get(it.name) or was.get(it.name)) for it in whole)
+    lines = (f"{cost.instructions:.0f} {cost.allocations:.1f} {name}\n" for name, cost in named if cost)
+    COUNTS.write_text(HEAD + "".join(lines), encoding="utf-8")
+
+
 def main() -> int:
     parser = Parser(description="Compares what requests cost with what is recorded.")
     parser.add_argument("--record", action="store_true", help="write counts.txt anew")
+    parser.add_argument("--only", default="", metavar="WORD", help="the requests whose names have WORD")
     parser.add_argument("program", nargs="?", default=str(BUILT_PROGRAM), metavar="PROGRAM")
     options = parser.parse_args()
+    whole: list[Request | Work] = [*requests(), *links(), *stored_requests(), *watched_requests()]
+    whole += [*large_requests(), *pressed_requests(), *works()]
+    asked = [it for it in whole if options.only in it.name]
     fault = missing(options.program) or missing(BUILT_PRESS)
-    if fault:
+    if fault and any(isinstance(it, Request) for it in asked):
         print(f"tests/cost/run: {fault}", file=sys.stderr)
         return 2
     if not shutil.which("valgrind"):
         print("tests/cost/run: valgrind isn't on the PATH, so nothing is counted\n0 passed, 0 failed")
         return 0
-    asked = [*requests(), *links(), *stored_requests(), *watched_requests(), *large_requests(), *pressed_requests()]
-    asked += added_callbacks()
     with ThreadPoolExecutor(2) as pool:
-        costs = list(pool.map(lambda it: cost_of(options.program, it), asked))
-    if options.record and all(costs):
-        lines = [
-            f"{cost.instructions:.0f} {cost.allocations:.1f} {it.name}\n" for it, cost in zip(asked, costs) if cost
-        ]
-        COUNTS.write_text(HEAD + "".join(lines), encoding="utf-8")
+        costs = dict(zip((it.name for it in asked), pool.map(lambda it: cost_of(options.program, it), asked)))
+    if options.record and all(costs.values()):
+        record(whole, costs)
     was, failed = recorded(), 0
-    for request, cost in zip(asked, costs):
-        passes, said = judged(cost, was.get(request.name))
+    for name, cost in costs.items():
+        passes, said = judged(cost, was.get(name))
         failed += not passes
-        print(f"{'' if passes else 'FAILED: '}{request.name}: {said}")
-    by_name = {request.name: cost for request, cost in zip(asked, costs)}
-    for fault in filter(None, (too_many(name, by_name) for name in AT_MOST)):
+        print(f"{'' if passes else 'FAILED: '}{name}: {said}")
+    bounds = [name for name, (_, other) in AT_MOST.items() if {name, other} <= costs.keys()]
+    for fault in filter(None, (too_many(name, costs) for name in bounds)):
         failed += 1
         print(f"FAILED: {fault}")
-    print(f"{len(asked) + len(AT_MOST) - failed} passed, {failed} failed")
+    print(f"{len(asked) + len(bounds) - failed} passed, {failed} failed")
     return 1 if failed else 0

@@ -3,4 +3,4 @@ use Rattle.test_bench.proofs.passes.Given as goal
 
 -- each pass leaves the run ready for the next one
 abbrev pub invariant-loop : goal.invariant-loop
-invariant-loop g l = IsReady l.run
+invariant-loop l = IsReady l.run
