@@ -46,7 +46,6 @@ JIT = ("php", "-d", "opcache.enable_cli=1", "-d", "opcache.jit=tracing", "-d", "
 EDIT, RENAMED = (done("edit", id=1, title=it) for it in ("", "Title"))
 # Why a page after a change may take longer here.
 TABLES = "what the path finds is put together again, of what is kept; there posts are the items of an array"
-READ = "the post is read from its table again; there it is an item of an array"
 
 
 class Page(NamedTuple):
@@ -194,21 +193,21 @@ def single_posts() -> Iterator[Page]:
         yield Page(title, activate("bold") + put(1, article(count), "Title"), "/?p=1", why=small)
     site = activate("bold") + put(1, ARTICLE, "Title")
     yield Page("the same post, after a change", site, "/?p=1", CHANGE, TABLES)
-    yield Page("the same post, after an edit of its title", site, "/?p=1", RENAMED, READ)
+    yield Page("the same post, after an edit of its title", site, "/?p=1", RENAMED, TABLES)
 
 
 def lists_of_posts() -> Iterator[Page]:
     hundred = done("option", name="posts_per_page", value="100") + joined(put(it) for it in range(1, 101))
     yield Page("the front of 100 empty posts", hundred)
     yield Page("the same 100, after a change", hundred, change=CHANGE, why=TABLES)
-    yield Page("the same 100, after an edit of one", hundred, change=EDIT, why=READ)
+    yield Page("the same 100, after an edit of one", hundred, change=EDIT, why=TABLES)
     yield Page("the same, `marks` active: 2 callbacks a title", activate("marks") + hundred)
     yield Page("the same, `once`: 3, one takes itself away and adds itself", activate("once") + hundred)
     yield Page("the same, `nest`: 7, a pass within the pass", activate("nest") + hundred)
     posts = activate("bold", "marks") + joined(put(it, ARTICLE, "Title") for it in range(1, 11))
     yield Page(f"ten posts of {len(ARTICLE):,} bytes, 14 shortcodes each", posts)
     yield Page("the same ten, after a change", posts, change=CHANGE, why=TABLES)
-    yield Page("the same ten, after an edit of one", posts, change=RENAMED, why=READ)
+    yield Page("the same ten, after an edit of one", posts, change=RENAMED, why=TABLES)
 
 
 def hostile_texts(smoke: bool) -> Iterator[Page]:
@@ -229,7 +228,7 @@ def hostile_texts(smoke: bool) -> Iterator[Page]:
         count = max(1, count // scale)
         yield Page(title.format(count), active + put(1, text(count)), "/?p=1")
     yield Page("the same text, after a change", active + put(1, text(count)), "/?p=1", CHANGE, TABLES)
-    yield Page("the same text, after an edit of its title", active + put(1, text(count)), "/?p=1", EDIT, READ)
+    yield Page("the same text, after an edit of its title", active + put(1, text(count)), "/?p=1", EDIT, TABLES)
 
 
 def bars(compared: Comparison, title: str, cases: Iterable[Page]) -> Bars:

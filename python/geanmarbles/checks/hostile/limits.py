@@ -42,7 +42,7 @@ AMPLE = 4 * 1_048_576
 # How many lines ask for a page of some bytes, and how many kilobytes their pages may take: the program keeps 4 MiB.
 ASKED, PAGE_BYTES, KEPT = 2_000, 16_000, 6_144
 # How many posts of some bytes are asked for, and how many kilobytes more that may take than to ask for one of them: the
-# program keeps 16 MiB of posts, what 64 paths found and 4 MiB of pages.
+# program keeps 16 MiB of posts, 4 MiB of what paths found and 4 MiB of pages.
 POSTS, POST_BYTES, KEPT_POSTS = 1_000, 60_000, 24_576
 
 
