@@ -5,9 +5,10 @@ from pathlib import Path
 
 from geanmarbles.checks.units.test_wrong_bodies import ANSWERS, SOURCE, made
 from geanmarbles.checks.wrong_bodies.edits import Edit, read_edits
-from geanmarbles.checks.wrong_bodies.exports import outline_of, sum_of_exports, sum_of_sources
-from geanmarbles.checks.wrong_bodies.reading import code_of, read_of
+from geanmarbles.checks.wrong_bodies.exports import outline_of, sum_of_exports
 from geanmarbles.checks.wrong_bodies.record import Record
+from geanmarbles.repository.reading import code_of, read_of
+from geanmarbles.repository.sources import sum_of_sources
 
 CLAUSES = """\
 ghost said: { ℕ -- a number }

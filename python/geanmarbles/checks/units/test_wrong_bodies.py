@@ -6,9 +6,10 @@ from pathlib import Path
 from geanmarbles.checks.units.test_etcd import raised
 from geanmarbles.checks.wrong_bodies.checks import Rejected, Said
 from geanmarbles.checks.wrong_bodies.edits import BadEdit, Edit, declared_at, function_around, read_edits, without
-from geanmarbles.checks.wrong_bodies.exports import outline_of, sum_of_exports, sum_of_sources
-from geanmarbles.checks.wrong_bodies.record import HERE, JUDGES, Record, logic_of
+from geanmarbles.checks.wrong_bodies.exports import outline_of, sum_of_exports
+from geanmarbles.checks.wrong_bodies.record import JUDGE, Record, logic_of
 from geanmarbles.checks.wrong_bodies.rounds import Verdict, judged
+from geanmarbles.repository.sources import sum_of_sources
 
 SOURCE = """\
 /// The number after another.
@@ -133,4 +134,4 @@ def test_a_sum_has_the_logic_and_what_judges() -> None:
     assert logic_of(b"rattle-kit-1 logic abc\n") == logic_of(b"rattle-kit-2 logic abc") == b"abc"
     with tempfile.TemporaryDirectory() as folder:
         one, other = (Record(Path(folder, "refused.txt"), it) for it in (b"kit logic abc", b"kit logic abd"))
-    assert one.tools[1] == [(HERE / it).read_bytes() for it in JUDGES] and one.tools != other.tools
+    assert one.tools == (b"abc", JUDGE) and one.tools != other.tools

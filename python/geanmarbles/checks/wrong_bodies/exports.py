@@ -8,13 +8,10 @@ proof above may cite a library's definitions and its lemmas, but neither the ans
 functions."""
 
 import functools
-import hashlib
 import re
-from collections.abc import Iterable, Iterator
-from pathlib import Path
 
-from geanmarbles.checks.wrong_bodies.reading import CLOSED_BY, closed, code_of, text_at, tokens_of
-from geanmarbles.repository.crates import SOURCES
+from geanmarbles.repository.reading import CLOSED_BY, closed, text_at, tokens_of
+from geanmarbles.repository.sources import files_of, sum_of_texts
 
 # The files that a function's own proof is written in.
 OF_FUNCTIONS = ("Answers.antt", "Invariants.antt", "Proof.antt")
@@ -76,25 +73,6 @@ class Outline:
 def outline_of(text: str) -> str:
     """A source's outline. Each crate above asks for it, so it's kept."""
     return str(Outline(text))
-
-
-def files_of(folder: str) -> Iterator[tuple[Path, str]]:
-    """A crate's sources, specs and proofs, with their texts."""
-    for path in sorted(it for part in SOURCES for it in Path(folder, part).rglob("*") if it.is_file()):
-        yield path, path.read_text(encoding="utf-8")
-
-
-def sum_of_texts(folder: str, texts: Iterable[tuple[Path, str]]) -> str:
-    """A sum of texts of files below a folder, their layout and comments aside."""
-    found = hashlib.sha256()
-    for path, text in texts:
-        found.update(f"{path.relative_to(folder)}\0{code_of(text, path.suffix)}\0".encode())
-    return found.hexdigest()
-
-
-def sum_of_sources(folder: str) -> str:
-    """A sum of a crate's sources, specs and proofs, their layout and comments aside."""
-    return sum_of_texts(folder, files_of(folder))
 
 
 def sum_of_exports(folder: str) -> str:

@@ -10,16 +10,17 @@ from pathlib import Path
 
 from geanmarbles.checks.wrong_bodies.checks import Toolchain
 from geanmarbles.checks.wrong_bodies.edits import Edit
-from geanmarbles.checks.wrong_bodies.exports import sum_of_exports, sum_of_sources
+from geanmarbles.checks.wrong_bodies.exports import sum_of_exports
 from geanmarbles.checks.wrong_bodies.rounds import Verdict, try_edits
 from geanmarbles.paths import TESTS
 from geanmarbles.repository.crates import locked
+from geanmarbles.repository.sources import sum_of_sources
 from geanmarbles.repository.toolchain import Crate
 
-HERE = Path(__file__).resolve().parent
 FILE = TESTS / "wrong_bodies" / "refused.txt"
-# The files of this runner that decide what counts as a refusal.
-JUDGES = ("checks.py", "edits.py", "rounds.py")
+# Which rules say what counts as a refusal. It is raised by one if these change, so that each edit is tried again. They
+# are in checks.py, edits.py and rounds.py: units/test_judge.py has the sum of their syntax trees.
+JUDGE = 1
 HEAD = """\
 # The wrong bodies that the prover has refused. Each line has a sum of all that the wrong body's check reads, its name,
 # and the clause, if it has a name, and the goal that refused it. Written by tests/wrong_bodies/run, and by nobody else.
@@ -45,7 +46,7 @@ class Record:
         """The identity is the toolchain's."""
         self.path = path
         self.lock = threading.Lock()
-        self.tools = logic_of(identity), [Path(HERE, it).read_bytes() for it in JUDGES]
+        self.tools = logic_of(identity), JUDGE
         self.refusals = self.read()
 
     def read(self) -> dict[str, tuple[str, str]]:
@@ -55,7 +56,7 @@ class Record:
         return {label: (found, said) for found, label, said in words}
 
     def basis(self, crate: Crate) -> str:
-        """A sum of the toolchain's logic, the judging part of this runner, the crate's sources and what is read of
+        """A sum of the toolchain's logic, the number of this runner's rules, the crate's sources and what is read of
         those below."""
         below = [(it.name, sorted(it.of_kit), sum_of_exports(it.folder)) for it in crate.below()]
         return hashed(self.tools, below, crate.name, sorted(crate.of_kit), sum_of_sources(crate.folder))

@@ -20,8 +20,8 @@ callee was changed too, goes to a later round, and at last to one of its own.
 
 A refusal is recorded in tests/wrong_bodies/refused.txt, which is committed: the clause and the goal that refused the
 edit, under a sum of all that its check read, which are the sources of the crate, what the libraries below it give to
-it (exports.py: all but bodies and the proofs of functions), the edit, the toolchain's logic and the part of this runner
-that judges (JUDGES of record.py). Comments and layout aren't in it (reading.py). While the sum is the same, the edit
+it (exports.py: all but bodies and the proofs of functions), the edit, the toolchain's logic and the number of the rules
+by which this runner judges (JUDGE of record.py). Comments and layout aren't in it. While the sum is the same, the edit
 isn't tried again; --anew tries every edit. The record is written as each crate ends, also if an edit wasn't refused:
 that edit's line is then gone. Several runs may write to it side by side.
 

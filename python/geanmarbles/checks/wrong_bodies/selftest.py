@@ -10,11 +10,11 @@ from pathlib import Path
 
 from geanmarbles.checks.wrong_bodies.checks import Toolchain
 from geanmarbles.checks.wrong_bodies.edits import Edit, read_edits
-from geanmarbles.checks.wrong_bodies.exports import files_of
-from geanmarbles.checks.wrong_bodies.reading import read_of
 from geanmarbles.checks.wrong_bodies.record import Record, try_and_record
 from geanmarbles.checks.wrong_bodies.rounds import Verdict
 from geanmarbles.paths import ROOT
+from geanmarbles.repository.reading import read_of
+from geanmarbles.repository.sources import files_of
 from geanmarbles.repository.toolchain import Crate
 
 FILES = {
