@@ -2,8 +2,7 @@
  * A disk that fails once: the call whose number FAIL_AT says, counted from 1 over all that change a file or sync it, is
  * refused with EIO, and the later ones do what they are asked to. If FAIL_HALF is set, a write that fails has written
  * half of its bytes before. As the program ends, the number of its calls is written to the file that FAIL_COUNT names.
- * It is compiled by the toolchain's own compiler, which brings no headers, so what it takes from the C library is
- * declared here.
+ * It needs no headers: what it takes from the C library is declared here.
  */
 typedef unsigned long size_t;
 typedef long ssize_t;

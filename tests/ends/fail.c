@@ -4,8 +4,7 @@
  * FAIL_TAKES bytes a write, FAIL_ROOM bytes in all, and then fails. A variable that isn't set limits nothing. If
  * FAIL_TIMES is set, that many calls fail, and later ones do all that they are asked to. If FAIL_SILENTLY is set, a
  * write that fails says that it took no byte. As the program ends, the number of its writes to that descriptor is
- * written to the file that FAIL_COUNT names. It is compiled by the toolchain's own compiler, which brings no headers, so
- * what it takes from the C library is declared here.
+ * written to the file that FAIL_COUNT names. It needs no headers: what it takes from the C library is declared here.
  */
 typedef unsigned long size_t;
 typedef long ssize_t;

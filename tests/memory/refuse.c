@@ -1,7 +1,7 @@
 /*
  * malloc and realloc that refuse once: the call whose number the variable REFUSE_AT says, counted from 1. As the
- * program ends, the number of calls that it made is written to the file that REFUSE_COUNT names. It is compiled by the
- * toolchain's own compiler, which brings no headers, so what it takes from the C library is declared here.
+ * program ends, the number of calls that it made is written to the file that REFUSE_COUNT names. It needs no headers:
+ * what it takes from the C library is declared here.
  */
 typedef unsigned long size_t;
 

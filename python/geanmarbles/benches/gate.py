@@ -1,10 +1,15 @@
-"""Says what the whole test costs: seconds of a processor by crate, the longest chain, and the dearest functions.
+"""Says what the whole proof costs: seconds of a processor by crate, the longest chain, and the dearest functions.
 
     bench/gate/run [--anew] LOG
+    bench/gate/run --build [FOLDER]
 
-If there is no file LOG, it runs ./test (or ./test anew), watches the processes of the prover that it starts, and writes
-what each took to LOG, a JSON object a line; else it reads LOG. A process is seen four times a second, so the last
-moments of each are missing. The seconds of a fixed loop say how fast the machine was.
+If there is no file LOG, it runs ./prove (or ./prove --anew), watches the processes of the prover that it starts, and
+writes what each took to LOG, a JSON object a line; else it reads LOG. A process is seen four times a second, so the
+last moments of each are missing. The seconds of a fixed loop say how fast the machine was.
+
+With --build it builds the program from nothing, by ./build in a new clone of the last commit, in a folder of its own or
+in FOLDER, which it leaves. It puts what that took into the table of builds in bench/gate/README.md, as its last column,
+and the processor seconds of each crate into tools/seconds.txt. The machine must have no work of another checkout.
 
 The ten dearest functions are those of which the prover makes most, in megabytes of what the last checks of each crate
 kept in out/incremental, since LOG has no times within a crate: one megabyte takes about a second.
@@ -15,6 +20,8 @@ import json
 import os
 import re
 import subprocess
+import sys
+import tempfile
 import time
 from collections import Counter, defaultdict
 from collections.abc import Mapping, Sequence
@@ -24,7 +31,9 @@ from typing import Any
 from geanmarbles.arguments import Parser
 from geanmarbles.output import quiet_output
 from geanmarbles.paths import ROOT
+from geanmarbles.repository.build import SECONDS, read_seconds
 from geanmarbles.repository.crates import below, read_crates
+from geanmarbles.repository.runs import PAGE, column_of, with_column
 
 TICKS = os.sysconf("SC_CLK_TCK")
 KINDS = ("proof", "tests", "compiled", "must-fail", "wrong bodies")
@@ -80,10 +89,10 @@ def seen(pid: str, top: int) -> tuple[str, str, float] | None:
 
 
 def watch(log: Path, words: Sequence[str]) -> None:
-    """Runs ./test and writes what each process of the prover took."""
+    """Runs ./prove and writes what each process of the prover took."""
     found: dict[str, dict[str, Any]] = {}
     begin, loop = time.monotonic(), fixed_loop()
-    child = subprocess.Popen([str(ROOT / "test"), *words])
+    child = subprocess.Popen([str(ROOT / "prove"), *words])
     while child.poll() is None:
         for pid in filter(str.isdigit, os.listdir("/proc")):
             what = seen(pid, child.pid)
@@ -147,14 +156,32 @@ def report(log: Path) -> None:
         print(f"{size:8.1f}  {name}")
 
 
+def measure_build(folder: Path) -> None:
+    """Builds the program in a new clone, and puts what it took where it's quoted from."""
+    loop = fixed_loop()
+    subprocess.run(["git", "clone", "-q", ROOT, folder], check=True)
+    subprocess.run([folder / "build"], check=True)
+    if not (folder / "out" / "build.json").is_file():
+        sys.exit("gate: work was used that another checkout of this machine kept, so this was no build from nothing")
+    took = json.loads((folder / "out" / "build.json").read_text(encoding="utf-8"))
+    PAGE.write_text(with_column(PAGE.read_text(encoding="utf-8"), column_of(took, loop)), encoding="utf-8")
+    seconds = read_seconds() | took["crates"]
+    about = [it for it in SECONDS.read_text(encoding="utf-8").splitlines() if it.startswith("#")]
+    lines = [*about, *(f"{name} {seconds[name]:.0f}" for name in sorted(seconds))]
+    SECONDS.write_text("\n".join(lines) + "\n", encoding="utf-8")
+
+
 def read_arguments() -> argparse.Namespace:
-    parser = Parser(description="Says what the whole test costs, by crates.")
-    parser.add_argument("--anew", action="store_true", help="run ./test anew, which proves and tries everything again")
-    parser.add_argument("log", metavar="LOG", type=Path, help="the file to write, or to read if it is there")
+    parser = Parser(description=__doc__, formatter_class=argparse.RawDescriptionHelpFormatter)
+    parser.add_argument("--anew", action="store_true", help="run ./prove --anew, which does everything again")
+    parser.add_argument("--build", action="store_true", help="build the program from nothing, and note what it takes")
+    parser.add_argument("log", metavar="LOG", type=Path, nargs="?", help="the file to write, or to read if it is there")
     options = parser.parse_args()
-    if options.anew and options.log.exists():
+    if not options.build and options.log is None:
+        parser.error("LOG is needed, or --build")
+    if (options.anew or options.build) and options.log and options.log.exists():
         parser.error(f"{options.log} is there already")
-    if not options.log.exists() and not os.access(options.log.absolute().parent, os.W_OK):
+    if options.log and not options.log.exists() and not os.access(options.log.absolute().parent, os.W_OK):
         parser.error(f"{options.log} can't be written")
     return options
 
@@ -162,6 +189,10 @@ def read_arguments() -> argparse.Namespace:
 @quiet_output()
 def main() -> None:
     options = read_arguments()
+    if options.build:
+        with tempfile.TemporaryDirectory() as room:
+            measure_build(options.log.absolute() if options.log else Path(room, "clone"))
+        return
     if not options.log.exists():
-        watch(options.log, ["anew"] if options.anew else [])
+        watch(options.log, ["--anew"] if options.anew else [])
     report(options.log)

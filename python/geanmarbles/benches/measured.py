@@ -17,9 +17,10 @@ from collections.abc import Iterable, Sequence
 from pathlib import Path
 from typing import NamedTuple
 
+from geanmarbles.repository import shipped
 from geanmarbles.arguments import Parser
 from geanmarbles.client.exchanges import CHANGE, Exchange
-from geanmarbles.paths import BUILT_PASSES, BUILT_PROGRAM
+from geanmarbles.paths import BUILT_PASSES
 
 TURNS = 15
 # How many callbacks all passes of one run call, and the smallest number of passes of a run.
@@ -59,7 +60,7 @@ def parser_of(about: str | None) -> Parser:
     parser.add_argument("--smoke", action="store_true", help="run small sizes once, to see that the script works")
     parser.add_argument("--svg", type=Path, metavar="FILE", help="draw the tables into FILE too")
     program = "the program, crates/site/out/site if it is left out"
-    parser.add_argument("program", nargs="?", default=str(BUILT_PROGRAM), metavar="PROGRAM", help=program)
+    parser.add_argument("program", nargs="?", default=str(shipped.program()), metavar="PROGRAM", help=program)
     return parser
 
 

@@ -1,31 +1,37 @@
 """Runs each script of bench/ at its smallest sizes, so that none goes stale.
 
-    tests/bench/run [--wordpress DIR] [PROGRAM]
+    tests/bench/run [--needs NAME] [--wordpress DIR] [PROGRAM]
 
-PROGRAM is crates/site/out/site of this repository if it is left out. Each script has to end well, and to draw its
-tables into a file that is well-formed XML. crates/test_bench must be built. bench/wordpress is skipped if there is no
-PHP with opcache or no WordPress at DIR, /usr/share/wordpress if it is left out, bench/instructions if there is no
-valgrind, and bench/cluster if there is no etcd; bench/gate, which runs the whole test, isn't run.
+PROGRAM is the program that is there if it is left out. Each script has to end well, and to draw its tables into a file
+that is well-formed XML. Skipped are bench/hooks and bench/instructions if crates/test_bench isn't built,
+bench/instructions if there is no valgrind, bench/wordpress if there is no PHP with opcache or no WordPress at DIR,
+/usr/share/wordpress if it is left out, and bench/cluster if there is no etcd; bench/gate, which runs the whole test,
+isn't run. With --needs the scripts are run that need test_bench, valgrind, wordpress or etcd, or the program alone.
 
-The last line is 'N passed, M failed', over the scripts, and the exit status is 0 if none failed.
+The last line is 'N passed, M failed', with ', K skipped' if some are, over the scripts, and the exit status is 0 if
+none failed.
 """
 
 import shutil
 import subprocess
-import sys
 import tempfile
 import xml.etree.ElementTree as ElementTree
 from collections.abc import Sequence
+from functools import partial
 from pathlib import Path
 
-from geanmarbles.checks.programs import parser_of
-from geanmarbles.paths import ROOT
+from geanmarbles.checks.judging import Counts, must
+from geanmarbles.checks.programs import missing, parser_of
+from geanmarbles.paths import BUILT_PASSES, ROOT
 
 WORDPRESS = Path("/usr/share/wordpress")
 # Ends with 0 if PHP has its opcache.
 HAS_OPCACHE = ["php", "-r", "exit((int) !function_exists('opcache_get_status'));"]
 SVG = "{http://www.w3.org/2000/svg}svg"
 SECONDS = 120
+# What the scripts need that need more than the program.
+NEEDS = {"hooks": "test_bench", "instructions": "valgrind", "wordpress": "wordpress", "cluster": "etcd"}
+PROGRAM = "program"
 
 
 def fault_of(script: Path, picture: Path, more: Sequence[str]) -> str:
@@ -42,29 +48,34 @@ def fault_of(script: Path, picture: Path, more: Sequence[str]) -> str:
         return f"its picture: {error}"
 
 
-def is_skipped(name: str, wordpress: Path) -> bool:
-    """Whether what a script needs isn't here."""
+def lacking(name: str, wordpress: Path) -> str | None:
+    """What isn't here of what a script needs, or None."""
+    if name in ("hooks", "instructions") and missing(BUILT_PASSES):
+        return missing(BUILT_PASSES)
     if name == "wordpress":
         is_here = shutil.which("php") and (wordpress / "wp-includes" / "shortcodes.php").exists()
-        return not is_here or subprocess.run(HAS_OPCACHE, check=False).returncode != 0
+        has_all = is_here and subprocess.run(HAS_OPCACHE, check=False).returncode == 0
+        return None if has_all else "there is no PHP with opcache, or no WordPress"
     needed = {"instructions": "valgrind", "cluster": "etcd"}.get(name)
-    return name == "gate" or needed is not None and not shutil.which(needed)
+    return f"there is no {needed}" if needed and not shutil.which(needed) else None
 
 
-def main() -> None:
+def main() -> int:
     parser = parser_of(__doc__)
     parser.add_argument("--wordpress", type=Path, default=WORDPRESS, metavar="DIR", help="the folder of a WordPress")
+    needed = sorted({PROGRAM, *NEEDS.values()})
+    parser.add_argument("--needs", metavar="NAME", choices=needed, help="the scripts that need this, of all")
     given = parser.parse_args()
-    passed = failed = 0
+    counts = Counts()
     for script in sorted((ROOT / "bench").glob("*/run")):
         name = script.parent.name
-        if is_skipped(name, given.wordpress):
+        if name == "gate" or given.needs not in (None, NEEDS.get(name, PROGRAM)):
+            continue
+        if why := lacking(name, given.wordpress):
+            counts.skip(f"bench/{name}/run", why)
             continue
         more = ["--wordpress", str(given.wordpress)] if name == "wordpress" else []
         with tempfile.TemporaryDirectory() as room:
             fault = fault_of(script, Path(room) / "drawn.svg", [*more, given.program])
-        if fault:
-            print(f"bench/{name}/run: {fault}")
-        passed, failed = passed + (not fault), failed + bool(fault)
-    print(f"{passed} passed, {failed} failed")
-    sys.exit(failed > 0)
+        counts.judge(f"bench/{name}/run", partial(must, not fault, fault))
+    return counts.end()

@@ -2,7 +2,7 @@
 
     tests/cost/run [--record] [--only WORD] [PROGRAM]
 
-PROGRAM is crates/site/out/site of this repository if it is left out. valgrind's callgrind counts, so the figures are
+PROGRAM is the one that is here, built or shipped, if it is left out. valgrind's callgrind counts, so the figures are
 the same in each run, whatever else the machine does. What one request takes is the difference between a run with many
 of them and a run with one, divided by their number. A request fails that replies wrongly, or takes 5 in 100 more of
 either than counts.txt beside this script says; --record writes that file anew. What takes less than recorded by as much
@@ -15,11 +15,11 @@ that are watched by a log, also by one that can't be written, and a page by sing
 plugin of `press`; and a site of 10,000 options. Lines that ask for one page differ, so that each is printed, but for
 two requests whose pages are kept.
 
-`test_bench`, if it is built, adds 1,000 callbacks at one priority: that takes what its run takes more than one without.
-It loads them as a page does that finds its load kept, of 4 plugins and of 63.
+`test_bench` adds 1,000 callbacks at one priority: that takes what its run takes more than one without. It loads them as
+a page does that finds its load kept, of 4 plugins and of 63.
 
 A snippet of the program `press`, which is crates/press/out/press, is counted beside a bundled plugin that prints the
-same: it may take twice as many instructions.
+same: it may take twice as many instructions. What takes `press` or `test_bench` is skipped if that isn't built.
 
 The last line is 'N passed, M failed'. The exit status is 0 if nothing failed.
 """
@@ -37,7 +37,9 @@ from enum import Enum
 from pathlib import Path
 from typing import NamedTuple
 
+from geanmarbles.repository import shipped
 from geanmarbles.arguments import Parser
+from geanmarbles.checks.judging import Counted
 from geanmarbles.checks.programs import missing
 from geanmarbles.client.exchanges import (
     ARTICLE,
@@ -51,7 +53,7 @@ from geanmarbles.client.exchanges import (
     put,
     shown,
 )
-from geanmarbles.paths import BUILT_PASSES, BUILT_PRESS, BUILT_PROGRAM, TESTS
+from geanmarbles.paths import BUILT_PASSES, BUILT_PRESS, TESTS
 
 HERE = TESTS / "cost"
 COUNTS = HERE / "counts.txt"
@@ -237,10 +239,7 @@ def pressed_requests() -> Iterator[Request]:
 
 
 def works() -> Iterator[Work]:
-    """Callbacks that are added at one priority, and loaded, if the program that does so is there."""
-    if not BUILT_PASSES.is_file():
-        print(f"{BUILT_PASSES} isn't built, so no callbacks are added: `rt run` in its crate's folder builds it")
-        return
+    """Callbacks that are added at one priority, and loaded."""
     yield Work("1,000 callbacks added at one priority", ("0", "0"), ("1000", "0"), 1, "value\n")
     for plugins in ("4", "63"):
         one, many = (("1000", str(it), "loads", plugins) for it in (1, 1 + TIMES))
@@ -345,19 +344,27 @@ def record(whole: Iterable[Request | Work], costs: Mapping[str, Cost | None]) ->
     COUNTS.write_text(HEAD + "".join(lines), encoding="utf-8")
 
 
+def is_pressed(it: Request | Work) -> bool:
+    return isinstance(it, Request) and it.program == "press"
+
+
 def main() -> int:
     parser = Parser(description="Compares what requests cost with what is recorded.")
     parser.add_argument("--record", action="store_true", help="write counts.txt anew")
     parser.add_argument("--only", default="", metavar="WORD", help="the requests whose names have WORD")
-    parser.add_argument("program", nargs="?", default=str(BUILT_PROGRAM), metavar="PROGRAM")
+    parser.add_argument("program", nargs="?", default=str(shipped.program()), metavar="PROGRAM")
     options = parser.parse_args()
     whole: list[Request | Work] = [*requests(), *links(), *stored_requests(), *watched_requests()]
     whole += [*large_requests(), *pressed_requests(), *works()]
     asked = [it for it in whole if options.only in it.name]
-    fault = missing(options.program) or missing(BUILT_PRESS)
+    fault, named = missing(options.program), len(asked)
     if fault and any(isinstance(it, Request) for it in asked):
         print(f"tests/cost/run: {fault}", file=sys.stderr)
         return 2
+    for program, needed in ((BUILT_PRESS, is_pressed), (BUILT_PASSES, lambda it: isinstance(it, Work))):
+        if missing(program) and any(map(needed, asked)):
+            print(f"skipped: what takes {program.name}: {missing(program)}")
+            asked = [it for it in asked if not needed(it)]
     if not shutil.which("valgrind"):
         print("tests/cost/run: valgrind isn't on the PATH, so nothing is counted\n0 passed, 0 failed")
         return 0
@@ -374,5 +381,5 @@ def main() -> int:
     for fault in filter(None, (too_many(name, costs) for name in bounds)):
         failed += 1
         print(f"FAILED: {fault}")
-    print(f"{len(asked) + len(bounds) - failed} passed, {failed} failed")
+    print(Counted(len(asked) + len(bounds) - failed, failed, named - len(asked)))
     return 1 if failed else 0

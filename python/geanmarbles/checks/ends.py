@@ -2,7 +2,7 @@
 
     tests/ends/run [PROGRAM]
 
-PROGRAM is crates/site/out/site of this repository if it is left out. fail.c, loaded before the C library, cuts
+PROGRAM is the one that is here, built or shipped, if it is left out. fail.c, loaded before the C library, cuts
 reads of standard input and writes to standard output short, and lets a read or a write fail after some bytes. A pipe
 that nobody reads and a device that is full let every write fail without it. Each run must end with the status and the
 line on standard error of its fault, having written the replies to the lines that it had read whole, up to the byte
@@ -16,8 +16,8 @@ The same is done to what else is written:
   and `site: write failed`. The file's history is as it was;
 - the text of `--help`, whose status is 0 all the same; and `--compact`, which writes nothing.
 
-fail.c is compiled by the toolchain's own compiler. The last lines say how many runs there were of each kind, and 'N
-passed, M failed' over all. The exit status is 0 if nothing failed.
+fail.c is compiled by `cc`, without which all is skipped. The last lines say how many runs there were of each kind, and
+'N passed, M failed' over all. The exit status is 0 if nothing failed.
 """
 
 import os
@@ -29,7 +29,7 @@ from pathlib import Path
 from typing import IO, Any, NamedTuple
 
 from geanmarbles.checks.database.files import check_equal, history
-from geanmarbles.checks.judging import Cases, Counts
+from geanmarbles.checks.judging import Cases, Counts, Skipped
 from geanmarbles.checks.programs import compiled, parser_of
 from geanmarbles.client.replies import Wrong
 from geanmarbles.paths import TESTS
@@ -275,6 +275,9 @@ def main() -> int:
         folder = Path(name)
         try:
             library = str(compiled(HERE / "fail.c", folder))
+        except Skipped as why:
+            counts.skip("all runs", why)
+            return counts.end()
         except (OSError, subprocess.SubprocessError) as fault:
             counts.fail("fail.c", fault)
             return counts.end()

@@ -36,6 +36,9 @@ class Counted(NamedTuple):
     failed: int = 0
     skipped: int = 0
 
+    def plus(self, other: Counted) -> Counted:
+        return Counted(self.passed + other.passed, self.failed + other.failed, self.skipped + other.skipped)
+
     def __str__(self) -> str:
         return f"{self.passed} passed, {self.failed} failed" + (f", {self.skipped} skipped" if self.skipped else "")
 
@@ -60,10 +63,13 @@ class Counts:
             self.passed, self.failed = self.passed + passed, self.failed + failed
             self.skipped += skipped
         except Skipped as why:
-            print(f"skipped: {name}: {why}", flush=True)
-            self.skipped += 1
+            self.skip(name, why)
         except Exception as fault:
             self.fail(name, fault)
+
+    def skip(self, name: str | None, why: object) -> None:
+        print(f"skipped: {name}: {why}", flush=True)
+        self.skipped += 1
 
     def fail(self, name: str | None, fault: Exception) -> None:
         print(f"FAILED: {name}: {fault if isinstance(fault, Wrong) else repr(fault)}", flush=True)
@@ -72,11 +78,14 @@ class Counts:
         self.failed += 1
 
     def judge_all(self, cases: Cases) -> int:
-        """Makes some checks, and returns how many were made. If the next one can't be had, that counts as a failure."""
+        """Makes some checks, and returns how many were made. If the next one can't be had, that counts as a failure, or
+        as skipped if that is why."""
         before = self.passed + self.failed
         try:
             for name, check in cases:
                 self.judge(name, check)
+        except Skipped as why:
+            self.skip("the next check", why)
         except Exception as fault:
             self.fail("the next check can't be made", fault)
         return self.passed + self.failed - before

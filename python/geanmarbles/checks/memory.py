@@ -4,7 +4,7 @@
     tests/memory/run --database [PROGRAM]
     tests/memory/run --http [PROGRAM]
 
-PROGRAM is crates/site/out/site of this repository if it is left out. It reads script.jsonl, whose replies are
+PROGRAM is the one that is here, built or shipped, if it is left out. It reads script.jsonl, whose replies are
 script.out, or the lines and replies of other files, and refuse.c, loaded before the C library, refuses one allocation
 of the run: the first in one run, the second in the next, to the last. What must come of it is one of these:
 
@@ -41,12 +41,11 @@ With `--http` the program serves requests so. What may come is
 What was written before an end is the first responses, as they are without the refusal. A start over a folder in place
 of a file ends with status 1, and says that it can't be opened, or that memory ran out.
 
-refuse.c is compiled by the toolchain's own compiler. The last line is 'N passed, M failed', over the lines of the
+refuse.c is compiled by `cc`, without which all is skipped. The last line is 'N passed, M failed', over the lines of the
 script and what else must come. The exit status is 0 if nothing failed.
 """
 
 import json
-import os
 import re
 import subprocess
 import tempfile
@@ -58,9 +57,10 @@ from typing import Any, NamedTuple
 
 from geanmarbles.checks.database.clients import done, get, is_edit, joined, line_of, over, put, replies, run
 from geanmarbles.checks.database.files import check_equal, copied, history, log_of, summary
+from geanmarbles.checks.judging import Counted, Counts, must
 from geanmarbles.checks.memory_over_http import http_checks
 from geanmarbles.checks.over_http import Program
-from geanmarbles.checks.programs import compiled, missing, parser_of
+from geanmarbles.checks.programs import compiled, lanes, missing, parser_of
 from geanmarbles.client.replies import Wrong, shown, whole_replies
 from geanmarbles.paths import TESTS
 
@@ -68,6 +68,8 @@ HERE = TESTS / "memory"
 LINES, REPLIES = HERE / "script.jsonl", HERE / "script.out"
 REFUSED = b"refused 11 OutOfMemory\n"
 SECONDS = 60
+# How many runs over a file are made at once on a processor: they wait for the disk most of their time.
+WAITING = 4
 # More turns than any page of the script has.
 ALL_TURNS = 1_000
 # What may become of what a refused line speaks of.
@@ -144,13 +146,13 @@ class Runs:
         raise Wrong(f"allocation {number}: what follows the refused line {place + 1} isn't as without it")
 
 
-def tried(program: str, lines: Path, replies: Path) -> tuple[int, int]:
+def tried(program: str, lines: Path, replies: Path) -> Counted:
     """Refuses each allocation once, and says which lines passed and which were never refused."""
     with tempfile.TemporaryDirectory() as name:
         folder = Path(name)
         runs = Runs(program, compiled(HERE / "refuse.c", folder), folder / "count", lines, replies)
         count = runs.count()
-        with ThreadPoolExecutor(os.cpu_count()) as pool:
+        with ThreadPoolExecutor(lanes()) as pool:
             came = Counter(pool.map(runs.judge, range(1, count + 1)))
     places = [came[place, KEPT] + came[place, CLOSED] for place in range(len(runs.lines))]
     for place, times in enumerate(places):
@@ -158,7 +160,7 @@ def tried(program: str, lines: Path, replies: Path) -> tuple[int, int]:
     print(f"{count} allocations, each refused in one run of {len(places)} lines: {came['ended']} runs ended,", end=" ")
     closed = sum(came[place, CLOSED] for place in range(len(places)))
     print(f"{sum(places)} refused one line, of which {closed} closed a page, {came['nothing']} were as without it")
-    return sum(map(bool, places)), places.count(0)
+    return Counted(sum(map(bool, places)), places.count(0))
 
 
 def served() -> list[bytes]:
@@ -231,7 +233,7 @@ class FileRuns:
         with tempfile.TemporaryDirectory() as folder:
             file = copied(self.file, folder)
             ran = self.run(file, joined(self.lines), REFUSE_AT=str(number))
-            got, found = whole_replies(ran.stdout), history(file)
+            got, found = whole_replies(ran.stdout), history(file, is_spent=True)
             if ran.returncode == 0:
                 return self.refused(got, found)
             return self.ended(file, ran, got, found)
@@ -272,7 +274,7 @@ class FileRuns:
         with tempfile.TemporaryDirectory() as folder:
             file = copied(self.file, folder)
             ran = self.run(file, b"", "--export", REFUSE_AT=str(number))
-            check_equal(history(file), self.before)
+            check_equal(history(file, is_spent=True), self.before)
             return self.made(file, ran, self.export, f"site: {file}: {summary(self.before)}\n".encode())
 
     def compacted(self, number: int) -> Came:
@@ -281,7 +283,7 @@ class FileRuns:
             file = copied(self.file, folder)
             ran = self.run(file, b"", "--compact", REFUSE_AT=str(number))
             came = self.made(file, ran, b"")
-            check_equal(history(file), self.before if came.kind == "start" else self.short)
+            check_equal(history(file, is_spent=True), self.before if came.kind == "start" else self.short)
             return came
 
     def lone(self, folder: str, **variables: str) -> tuple[Path, subprocess.CompletedProcess[bytes]]:
@@ -351,7 +353,7 @@ def in_turn(count: int, judge: Callable[[int], Came]) -> list[Came]:
         except Wrong as wrong:
             raise Wrong(f"allocation {number}: {wrong}") from None
 
-    with ThreadPoolExecutor(os.cpu_count()) as pool:
+    with ThreadPoolExecutor(WAITING * lanes()) as pool:
         return list(pool.map(judged, range(1, count + 1)))
 
 
@@ -373,26 +375,26 @@ def file_checks(program: str, folder: Path) -> Iterator[tuple[str, bool]]:
     yield f"without its log: {made['start']} out of memory, {made['named']} refused by name", made["start"] > 0
 
 
-def tried_over_a_file(program: str) -> tuple[int, int]:
+def tried_over_a_file(program: str) -> Counted:
     """Refuses each allocation of runs over a file once, and says what came and what never did."""
     with tempfile.TemporaryDirectory() as name:
         return counted(file_checks(program, Path(name)))
 
 
-def tried_over_http(program: str) -> tuple[int, int]:
+def tried_over_http(program: str) -> Counted:
     """Refuses each allocation of a run over HTTP once, and says what came and what never did."""
     with tempfile.TemporaryDirectory() as name:
         folder = Path(name)
         return counted(http_checks(Program(program, folder), compiled(HERE / "refuse.c", folder)))
 
 
-def counted(of: Iterable[tuple[str, bool]]) -> tuple[int, int]:
+def counted(of: Iterable[tuple[str, bool]]) -> Counted:
     """How many of some checks hold, and how many don't; each is said."""
     checks = list(of)
     for what, holds in checks:
         print(f"{what}{'' if holds else ': FAILED, it never came'}")
     passed = sum(holds for _, holds in checks)
-    return passed, len(checks) - passed
+    return Counted(passed, len(checks) - passed)
 
 
 def main() -> int:
@@ -404,19 +406,15 @@ def main() -> int:
     parser.add_argument("--http", action="store_true", help="serve requests of HTTP")
     options = parser.parse_args()
     program = options.program
-    if missing(program):
-        print(f"FAILED: {missing(program)}")
-        passed, failed = 0, 1
-    else:
-        try:
-            if options.http:
-                passed, failed = tried_over_http(program)
-            elif options.database:
-                passed, failed = tried_over_a_file(program)
-            else:
-                passed, failed = tried(program, options.lines, options.replies)
-        except (Wrong, OSError, subprocess.SubprocessError) as error:
-            print(f"FAILED: {error}")
-            passed, failed = 0, 1
-    print(f"{passed} passed, {failed} failed")
-    return 1 if failed else 0
+    counts = Counts()
+
+    def check() -> Counted:
+        must(not missing(program), missing(program) or "")
+        if options.http:
+            return tried_over_http(program)
+        if options.database:
+            return tried_over_a_file(program)
+        return tried(program, options.lines, options.replies)
+
+    counts.judge("each allocation refused in turn", check)
+    return counts.end()

@@ -2,7 +2,6 @@
 
 from __future__ import annotations
 
-import os
 import re
 import subprocess
 from collections import Counter
@@ -12,6 +11,7 @@ from pathlib import Path
 from typing import NamedTuple
 
 from geanmarbles.checks.over_http import NO_TOKEN, PUT, SECONDS, START, UNKNOWN, Program, came, edit, sent
+from geanmarbles.checks.programs import lanes
 from geanmarbles.client.replies import Wrong, shown
 
 NOTHING = edit(b"{}")
@@ -162,7 +162,7 @@ def refused_starts(program: Program, refuser: Path) -> Counter[str]:
 
     said(REFUSE_COUNT=str(count_file))
     numbers = range(1, 1 + int(count_file.read_text(encoding="ascii")))
-    with ThreadPoolExecutor(os.cpu_count()) as pool:
+    with ThreadPoolExecutor(lanes()) as pool:
         return Counter(pool.map(lambda number: said(REFUSE_AT=str(number)), numbers))
 
 
@@ -172,7 +172,7 @@ def http_checks(program: Program, refuser: Path) -> Iterator[tuple[str, bool]]:
     yield f"starts over a folder: {dict(starts)}", {NO_ROOM} <= set(starts) <= {NO_ROOM, CANNOT_OPEN}
     runs = Runs(program, refuser)
     count = runs.count()
-    with ThreadPoolExecutor(os.cpu_count()) as pool:
+    with ThreadPoolExecutor(lanes()) as pool:
         kinds = Counter(pool.map(runs.judge, range(1, count + 1)))
     for kind in ("ended", "lost", "refused", "nothing"):
         yield f"{kind}: {kinds[kind]} allocations of {count}", kinds[kind] > 0

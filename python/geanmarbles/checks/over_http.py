@@ -2,7 +2,7 @@
 
     tests/http/run [PROGRAM]
 
-PROGRAM is crates/site/out/site of this repository if it is left out. What is shown:
+PROGRAM is the one that is here, built or shipped, if it is left out. What is shown:
 
 - each exchange below: the bytes that are sent, and the whole of what comes back; the number that each tag begins with
   is drawn by chance at a start, and stands as START;

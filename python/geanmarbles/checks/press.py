@@ -34,13 +34,14 @@ from pathlib import Path
 from random import Random
 from typing import Any
 
+from geanmarbles.repository import shipped
 from geanmarbles.arguments import Parser
 from geanmarbles.checks.browse.browsing import take_interrupts
 from geanmarbles.checks.cluster.processes import free_port
 from geanmarbles.checks.judging import Counts, Skipped, must
 from geanmarbles.checks.programs import missing
 from geanmarbles.client.snippets import Place, faults, options_in, parts, place_after
-from geanmarbles.paths import BUILT_PRESS, BUILT_PROGRAM, EXAMPLES, TESTS
+from geanmarbles.paths import BUILT_PRESS, EXAMPLES, TESTS
 
 # A line of a command file, or what a check is given: PRESS, SITE, and the arguments.
 Line = dict[str, Any]
@@ -466,7 +467,7 @@ def main() -> int:
     parser.add_argument("--seed", type=int, default=1, metavar="N", help="what they are made from")
     parser.add_argument("--wordpress", default="/usr/share/wordpress", metavar="DIR", help="WordPress's folder")
     parser.add_argument("press", nargs="?", default=str(BUILT_PRESS), metavar="PRESS")
-    parser.add_argument("site", nargs="?", default=str(BUILT_PROGRAM), metavar="SITE")
+    parser.add_argument("site", nargs="?", default=str(shipped.program()), metavar="SITE")
     options = parser.parse_args()
     counts = Counts()
     absent = missing(options.press) or missing(options.site)

@@ -2,15 +2,14 @@
 
     tests/refusals/run [--lists N] [PROGRAM]
 
-PROGRAM is crates/site/out/site of this repository if it is left out. Here are
+PROGRAM is the one that is here, built or shipped, if it is left out. Here are
 
 - reasons.json: for lists of lines, the very words that the script has for the last one, or that it has none; the
-  program
-  must refuse it with the same number, or do it;
+  program must refuse it with the same number, or do it;
 - the examples, and N lists of random lines, 200 if N is left out, made as those of tests/fuzz. With the program's
   replies the script must find each refusal that the rules have and no other: it compares them itself. Without them it
   must name each line that is refused with a number that it knows, with that number, and no line that isn't; `begin` and
-  `turns` may be left open once a page may have ended;
+  `turns` may be left open once a page may have ended. Over random lines it is forked from a Python that is warm;
 - lists of which the first half was carried out before, by two runs of the program over a site in a file. With --after
   the lines of these runs, or what the program exports of the file, the script must find each refusal of the second
   half, as above;
@@ -21,7 +20,6 @@ The last line is 'N passed, M failed'. The exit status is 0 if nothing failed.
 """
 
 import json
-import os
 import re
 import subprocess
 import tempfile
@@ -35,7 +33,8 @@ from typing import Any
 from geanmarbles.checks.fuzz.lines import Lines
 from geanmarbles.checks.fuzz.shorter import Shorter
 from geanmarbles.checks.fuzz.values import command_of
-from geanmarbles.checks.programs import missing, parser_of
+from geanmarbles.checks.programs import lanes, missing, parser_of
+from geanmarbles.checks.warm import Warm
 from geanmarbles.client.replies import REFUSALS, Wrong, refusal_of, shown, whole_replies
 from geanmarbles.paths import EXAMPLES, TESTS
 
@@ -62,12 +61,15 @@ def replies_of(program: str, lines: Sequence[bytes], *options: str) -> tuple[byt
     return ran.stdout, replies
 
 
-def said_of(lines: Sequence[bytes], output: bytes | None = None, *options: object) -> list[str]:
+def said_of(
+    lines: Sequence[bytes], output: bytes | None = None, *options: object, warm: Warm | None = None
+) -> list[str]:
     """What the script says of lines, with the program's output or without it, as lines of text."""
     with tempfile.NamedTemporaryFile(suffix=".jsonl") as file:
         file.write(joined(lines))
         file.flush()
-        ran = run([EXAMPLES / "refusals", *options, file.name, *["-"] * (output is not None)], output or b"")
+        words = [EXAMPLES / "refusals", *options, file.name, *["-"] * (output is not None)]
+        ran = warm.run([*map(str, words)], output or b"", SECONDS) if warm else run(words, output or b"")
     if ran.returncode:
         raise Wrong(f"examples/refusals ended with status {ran.returncode}: {shown(ran.stdout + ran.stderr, 600)}")
     return ran.stdout.decode().splitlines()
@@ -88,23 +90,24 @@ def numbers_in(said: Iterable[str]) -> dict[int, int]:
     return found
 
 
-def check_list(program: str, lines: Sequence[bytes]) -> None:
+def check_list(program: str, lines: Sequence[bytes], warm: Warm | None = None) -> None:
     """The script against the program's replies, with them and without."""
-    check_said(lines, *replies_of(program, lines))
+    check_said(lines, *replies_of(program, lines), warm=warm)
 
 
-def check_random(program: str, number: int) -> None:
+def check_random(program: str, warm: Warm, number: int) -> None:
     """The script over a list of random lines, which is made shorter if it fails."""
-    SHORTER.judge(f"refusals {number}", partial(check_list, program), Lines(Random(f"1/{number}")).list())
+    check = partial(check_list, program, warm=warm)
+    SHORTER.judge(f"refusals {number}", check, Lines(Random(f"1/{number}")).list())
 
 
-def check_random_after(program: str, number: int) -> None:
+def check_random_after(program: str, warm: Warm, number: int) -> None:
     """The same of a list whose first half was carried out before."""
     lines = Lines(Random(f"2/{number}")).list()
-    SHORTER.judge(f"refusals after {number}", partial(check_after, program), lines)
+    SHORTER.judge(f"refusals after {number}", partial(check_after, program, warm), lines)
 
 
-def check_after(program: str, listed: list[bytes]) -> None:
+def check_after(program: str, warm: Warm, listed: list[bytes]) -> None:
     """The script against the program's replies over a site in a file: to the second half of a list, after the first."""
     before, lines = listed[: len(listed) // 2], listed[len(listed) // 2 :]
     with tempfile.TemporaryDirectory() as name:
@@ -115,17 +118,19 @@ def check_after(program: str, listed: list[bytes]) -> None:
             path.write_bytes(joined(part))
         exported.write_bytes(run([program, *kept, "--export"]).stdout)
         output, replies = replies_of(program, lines, *kept)
-        check_said(lines, output, replies, "--after", first, "--after", second)
-        check_said(lines, output, replies, "--after", exported)
+        check_said(lines, output, replies, "--after", first, "--after", second, warm=warm)
+        check_said(lines, output, replies, "--after", exported, warm=warm)
 
 
-def check_said(lines: Sequence[bytes], output: bytes, replies: Sequence[bytes], *options: object) -> None:
+def check_said(
+    lines: Sequence[bytes], output: bytes, replies: Sequence[bytes], *options: object, warm: Warm | None = None
+) -> None:
     """What the script says of lines against the program's replies, with them and without."""
     refused = {number: refusal_of(it) for number, it in enumerate(replies, 1) if refusal_of(it)}
-    found = numbers_in(said_of(lines, output, *options))
+    found = numbers_in(said_of(lines, output, *options, warm=warm))
     if found != refused:
         raise Wrong(f"with the replies it names {sorted(found.items() ^ refused.items())[:4]} otherwise than they do")
-    alone = numbers_in(said_of(lines, None, *options))
+    alone = numbers_in(said_of(lines, None, *options, warm=warm))
     other = [it for it in alone.items() if refused.get(it[0]) != it[1]]
     if other:
         raise Wrong(f"without the replies it says {other[:4]}, as lines and refusals, and the program doesn't")
@@ -209,10 +214,11 @@ def checks_of(program: str, lists: int) -> Iterator[tuple[str, Callable[[], None
         lines = path.read_bytes().split(b"\n")[:-1]
         yield f"example: {path.name}", partial(check_list, program, lines)
         yield f"notes: {path.name}", partial(check_notes, program, lines)
+    warm = Warm("geanmarbles.commands.refusals")
     for number in range(lists):
-        yield f"random lines {number}", partial(check_random, program, number)
+        yield f"random lines {number}", partial(check_random, program, warm, number)
     for number in range(lists // 4):
-        yield f"lines after others {number}", partial(check_random_after, program, number)
+        yield f"lines after others {number}", partial(check_random_after, program, warm, number)
 
 
 def main() -> int:
@@ -232,7 +238,7 @@ def main() -> int:
             return name, str(wrong)
 
     passed = failed = 0
-    with ThreadPoolExecutor(os.cpu_count() or 1) as pool:
+    with ThreadPoolExecutor(lanes()) as pool:
         for name, fault in pool.map(judged, checks_of(arguments.program, arguments.lists)):
             passed, failed = passed + (not fault), failed + bool(fault)
             if fault:

@@ -2,7 +2,7 @@
 
     tests/rows/run [--only TEXT] [--cache N] [PROGRAM | --unproved]
 
-PROGRAM is crates/site/out/site of this repository if it is left out. With --only, the rows whose name contains TEXT
+PROGRAM is the one that is here, built or shipped, if it is left out. With --only, the rows whose name contains TEXT
 are run. With --cache, the rows that give no arguments are run with a cache of N texts: no reply depends on it. With
 --unproved the program is run from its sources, before any proof, by up to three `rt try`, each for its share of the
 rows, which takes some minutes; a row is skipped if its output is longer than `rt try` hands on, or if an argument isn't
@@ -11,7 +11,8 @@ a line of UTF-8. It is the first look after a change, and no verdict.
 Each FILE.json beside this script is a list of rows, and a row is an object:
 
     name           what the row shows; no two rows share one
-    program        the crate of the program that it runs, if that is another than PROGRAM: crates/NAME/out/NAME
+    program        the crate of the program that it runs, if that is another than PROGRAM: crates/NAME/out/NAME; the row
+                   is skipped if that isn't built
     args           the program's arguments, a list of texts without zero bytes
     input          what the program reads from standard input
     status         the exit status that it must end with
@@ -53,9 +54,11 @@ from concurrent.futures import ThreadPoolExecutor
 from pathlib import Path
 from typing import Any
 
+from geanmarbles.repository import shipped
 from geanmarbles.arguments import Parser
-from geanmarbles.checks.programs import missing
-from geanmarbles.paths import BUILT_PROGRAM, CRATES, EXAMPLES, ROOT, TESTS
+from geanmarbles.checks.judging import Counted
+from geanmarbles.checks.programs import lanes, missing
+from geanmarbles.paths import CRATES, EXAMPLES, ROOT, TESTS
 
 # A row, and a row with the name of its file.
 Row = dict[str, Any]
@@ -258,12 +261,12 @@ def program_of(row: Row, program: Path) -> Path:
 
 def faults_of(row: Row, program: Path) -> list[str]:
     """Runs one row, and says in lines what was wrong; no line if nothing was."""
-    program = program_of(row, program)
-    if fault := missing(program):
-        return [fault]
     try:
         run = subprocess.run(
-            [str(program), *arguments_of(row)], input=text_of(row["input"]), capture_output=True, timeout=SECONDS
+            [str(program_of(row, program)), *arguments_of(row)],
+            input=text_of(row["input"]),
+            capture_output=True,
+            timeout=SECONDS,
         )
     except subprocess.TimeoutExpired:
         return [f"the program had not ended after {SECONDS} seconds"]
@@ -344,12 +347,12 @@ def try_rows(rows: Sequence[Named], crate: str) -> list[list[str]]:
 
 def try_side_by_side(rows: Sequence[Named]) -> list[list[str]]:
     """The faults of each row, by as many `rt try` of each program as pay, each with its share of the rows."""
-    most = min(LANES, os.cpu_count() or 1)
+    most = min(LANES, lanes())
     shares: list[tuple[str, list[int]]] = []
     for crate in sorted({row.get("program", "site") for _, row in rows}):
         places = [place for place, (_, row) in enumerate(rows) if row.get("program", "site") == crate]
-        lanes = max(1, min(most, len(places) // ROWS_A_LANE))
-        shares += [(crate, places[lane::lanes]) for lane in range(lanes)]
+        count = max(1, min(most, len(places) // ROWS_A_LANE))
+        shares += [(crate, places[lane::count]) for lane in range(count)]
     found: list[list[str]] = [[]] * len(rows)
     with ThreadPoolExecutor(max_workers=most) as pool:
         tried = pool.map(lambda share: try_rows([rows[place] for place in share[1]], share[0]), shares)
@@ -368,10 +371,14 @@ def run_unproved(rows: Sequence[Named]) -> tuple[list[Named], list[list[str]]]:
     return tried, try_side_by_side(tried)
 
 
-def run_built(rows: Sequence[Named], program: Path) -> list[list[str]]:
-    """The faults of each row, run against a built program."""
-    with ThreadPoolExecutor(max_workers=os.cpu_count() or 1) as pool:
-        return list(pool.map(lambda pair: faults_of(pair[1], program), rows))
+def run_built(rows: Sequence[Named], program: Path) -> tuple[list[Named], list[list[str]]]:
+    """The faults of the rows whose program is there, run against a built program, and those rows."""
+    absent = {row["program"] for _, row in rows if row.get("program") and missing(program_of(row, program))}
+    for name in sorted(absent):
+        print(f"skipped: the rows of {name}: {missing(CRATES / name / 'out' / name)}")
+    ran = [(file, row) for file, row in rows if row.get("program") not in absent]
+    with ThreadPoolExecutor(max_workers=lanes()) as pool:
+        return ran, list(pool.map(lambda pair: faults_of(pair[1], program), ran))
 
 
 def report(rows: Sequence[Named], results: Sequence[list[str]]) -> int:
@@ -389,7 +396,7 @@ def read_arguments() -> argparse.Namespace:
     parser.add_argument("--only", metavar="TEXT", default="", help="run the rows whose name contains TEXT")
     parser.add_argument("--cache", metavar="N", help="run the rows without arguments with a cache of N texts")
     parser.add_argument("--unproved", action="store_true", help="run the program from its sources, before any proof")
-    parser.add_argument("program", metavar="PROGRAM", nargs="?", type=Path, default=BUILT_PROGRAM)
+    parser.add_argument("program", metavar="PROGRAM", nargs="?", type=Path, default=shipped.program())
     return parser.parse_args()
 
 
@@ -403,17 +410,14 @@ def main() -> int:
             rows = [(file, {**row, "args": ["--cache", arguments.cache]}) for file, row in rows if not row["args"]]
         if not rows:
             raise BadRows(f"no row's name contains {arguments.only!r}")
-        tried, results = run_unproved(rows) if arguments.unproved else (rows, None)
+        if not arguments.unproved and missing(program):
+            print(f"FAILED: every row: {missing(program)}")
+            print(Counted(failed=len(rows)))
+            return 1
+        tried, results = run_unproved(rows) if arguments.unproved else run_built(rows, program)
     except BadRows as fault:
         print(f"tests/rows/run: {fault}", file=sys.stderr)
         return 2
-    if results is None:
-        if missing(program):
-            print(f"FAILED: every row: {missing(program)}")
-            print(f"0 passed, {len(rows)} failed")
-            return 1
-        results = run_built(rows, program)
     failed = report(tried, results)
-    skipped = len(rows) - len(tried)
-    print(f"{len(tried) - failed} passed, {failed} failed" + (f", {skipped} skipped" if skipped else ""))
+    print(Counted(len(tried) - failed, failed, len(rows) - len(tried)))
     return 1 if failed else 0

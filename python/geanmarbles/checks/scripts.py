@@ -1,16 +1,15 @@
-"""Tries the scripts that begin something: when ./site builds and what it runs, what ./new-plugin makes, that the
-tutorial shows the examples as they are, that tools/titles finds long titles of commits, what tools/release packs and
-refuses, that scripts end quietly once nobody reads their output, and that each script of the repository knows --help
-and refuses an argument that it doesn't know, before it does anything.
+"""Tries the scripts that begin something: what ./site runs, what ./build builds, what ./new-plugin makes, that the
+tutorial shows the examples as they are, that tools/titles finds long titles of commits, what tools/release-program
+ships and refuses, that scripts end quietly once nobody reads their output, and that each script of the repository knows
+--help and refuses an argument that it doesn't know, before it does anything.
 
     tests/scripts/run [--plain] [NAME ..]
 
-With names, it makes the checks whose names have one of these. Nothing is built or proved, and a program is needed for
-one check alone, which is skipped without it: that a release runs once it is unpacked where there is Python alone.
-./site is tried in a small checkout made for it, where the toolchain's command is a script, and ./new-plugin in a copy
+With names, it makes the checks whose names have one of these. Nothing is built or proved. ./site and ./build are tried
+in a small checkout made for it, where the program and the toolchain's command are scripts, and ./new-plugin in a copy
 of the crates that it reads. The checks are run by pytest if it is installed, and by a loop if it isn't, or with
 --plain. The last line is 'N passed, M failed', with ', K skipped' after it if a check was skipped, over the checks,
-each of which is a function below or in release.py. The exit status is 0 if nothing failed.
+each of which is a function below or in site_script.py. The exit status is 0 if nothing failed.
 """
 
 from __future__ import annotations
@@ -30,153 +29,17 @@ from typing import Any, Self
 from geanmarbles.checks.cluster.processes import wait_for
 from geanmarbles.checks.judging import Skipped, must
 from geanmarbles.checks.runner import main_of
-from geanmarbles.checks.programs import with_toolchain, without_toolchain
+from geanmarbles.checks.site_script import Checkout, copy_package
 from geanmarbles.paths import ROOT
 from geanmarbles.repository.unproved import run_telling
 
 SECONDS = 60
-# A checkout of three crates, of which the program has one below it.
-CRATES = "low:\nsite: low\naside: low\n"
-NEEDED = ["site", "new-plugin"]
-# The program: it says how it was called, and what it read.
-PROGRAM = '#!/bin/sh\necho "$0 $*"\ncat\n'
-# The command that proves and builds: it notes that it was called, and writes the program.
-BUILD = """#!/bin/sh
-echo "$*" >>'{root}/built'
-mkdir -p '{root}/crates/site/out'
-cp '{root}/program' '{root}/crates/site/out/site'
-"""
-# What runs in place of the sources: it ends with status 1 if it reads `bad`.
-TRIED = '#!/bin/sh\necho "got $*"; read x; echo "$x"; exec test "$x" != bad\n'
-OLD, NEW = 1_000_000_000, 2_000_000_000
 # The crates that docs/PLUGINS.md goes through.
 TUTORIAL = ["example_exclaim", "example_notices", "example_site", "example_gallery"]
 # What is used of Debian's packages for Python, where it is there.
 PACKAGES = {"h11", "hypothesis", "prometheus_client", "pytest"}
 # What these scripts do takes no argument, or isn't theirs to say.
 WITHOUT_HELP = {".ci/run"}
-
-
-def copy_package(folder: Path) -> None:
-    """Copies what the scripts are made of."""
-    shutil.copytree(ROOT / "python", folder / "python", ignore=shutil.ignore_patterns("__pycache__"))
-
-
-class Checkout:
-    """A small checkout in which ./site can be tried: a folder that is gone after the `with` block."""
-
-    def __enter__(self) -> Self:
-        self.room = tempfile.TemporaryDirectory()
-        self.root = Path(self.room.name, "here")
-        for name in NEEDED:
-            self.write(name, (ROOT / name).read_text(encoding="utf-8"), 0o755)
-        copy_package(self.root)
-        self.write("crates.txt", CRATES)
-        for crate in ("low", "site", "aside"):
-            self.write(f"crates/{crate}/src/{'main' if crate == 'site' else 'lib'}.rt", "// what it does\n")
-        self.write("program", PROGRAM, 0o755)
-        self.write("tools/build", BUILD.format(root=self.root), 0o755)
-        self.write("bin/rt", BUILD.format(root=self.root), 0o755)
-        self.age(OLD)
-        (self.root / "commands").mkdir()
-        self.env = without_toolchain(self.root / "commands")
-        return self
-
-    def __exit__(self, *_: object) -> None:
-        self.room.cleanup()
-
-    def write(self, name: str, text: str, mode: int = 0o644) -> Path:
-        path = self.root / name
-        path.parent.mkdir(parents=True, exist_ok=True)
-        path.write_text(text, encoding="utf-8")
-        path.chmod(mode)
-        return path
-
-    def age(self, seconds: int) -> None:
-        """Gives each source this time."""
-        for path in self.root.glob("crates/*/src/*"):
-            os.utime(path, (seconds, seconds))
-
-    def site(
-        self, *words: str, toolchain: bool = True, script: Path | None = None, given: bytes = b"line\n"
-    ) -> subprocess.CompletedProcess[bytes]:
-        run = [str(script or self.root / "site"), *words]
-        env = {**self.env, "PATH": f"{self.root / 'bin'}:{self.env['PATH']}"} if toolchain else self.env
-        return subprocess.run(run, input=given, capture_output=True, timeout=SECONDS, env=env, cwd=self.room.name)
-
-    def built(self) -> list[str]:
-        """What was asked of the build since the last call."""
-        log = self.root / "built"
-        lines = log.read_text(encoding="utf-8").splitlines() if log.exists() else []
-        log.unlink(missing_ok=True)
-        return lines
-
-    def runs(self, builds: bool, says: str, *words: str, **how: Any) -> None:
-        """Runs ./site, which must run the program, after a build or without one, and say this."""
-        ran = self.site(*words, **how)
-        program = self.root / "crates/site/out/site"
-        wanted = f"{' '.join(map(str, [program, *words]))}\nline\n" if words else f"{program} \nline\n"
-        must((ran.returncode, ran.stdout.decode()) == (0, wanted), f"it ended with {ran.returncode}: {ran}")
-        must(len(self.built()) == 2 * builds, f"it built {'not ' if builds else ''}at all: {ran.stderr.decode()}")
-        said = ran.stderr.decode()
-        must(says in said if says else not said, f"it said {said!r}, wanted {says!r}")
-
-
-def builds_what_changed() -> None:
-    """./site builds the program once, and again only if a crate below it has changed"""
-    with Checkout() as checkout:
-        checkout.runs(True, "isn't built yet")
-        checkout.runs(False, "")
-        checkout.runs(False, "", "--calls", "7")
-        os.utime(checkout.root / "crates/aside/src/lib.rt", (NEW, NEW))
-        checkout.write("crates.txt", CRATES + "mine: low\n")
-        checkout.runs(False, "")
-        checkout.write("crates/low/src/lib.rt", "// what it does since\n")
-        os.utime(checkout.root / "crates/low/src/lib.rt", (NEW, NEW))
-        checkout.runs(True, "has changed")
-        # The time of the build is before that of the source, and yet the program is that of these sources.
-        checkout.runs(False, "")
-
-
-def knows_contents() -> None:
-    """./site doesn't build if only the times of the sources have changed, as after a change of branches"""
-    with Checkout() as checkout:
-        checkout.runs(True, "isn't built yet")
-        checkout.age(NEW)
-        checkout.runs(False, "")
-        checkout.write("crates/site/src/more.rt", "// more\n")
-        os.utime(checkout.root / "crates/site/src/more.rt", (NEW, NEW))
-        checkout.runs(True, "has changed")
-
-
-def runs_without_toolchain() -> None:
-    """./site runs a built program without the toolchain, and says so if it is older than a source"""
-    with Checkout() as checkout:
-        ran = checkout.site(toolchain=False)
-        said = ran.stderr.decode()
-        must(ran.returncode == 1 and not ran.stdout, f"it ran something: {ran}")
-        for word in ("README.md", "The toolchain", "rt doc", "GB of disk", "GB of memory", "processors"):
-            must(word in said, f"it doesn't speak of {word!r}: {said}")
-        checkout.runs(True, "isn't built yet")
-        checkout.runs(False, "", toolchain=False)
-        checkout.write("crates/low/src/lib.rt", "// another\n")
-        os.utime(checkout.root / "crates/low/src/lib.rt", (NEW, NEW))
-        checkout.runs(False, "is run as it is", toolchain=False)
-        ran = checkout.site("--built")
-        must((ran.returncode, ran.stderr, checkout.built()) == (0, b"", []), f"--built builds or fails: {ran}")
-
-
-def works_through_links() -> None:
-    """./site works through a symbolic link, also one of a folder or to a link, from any folder"""
-    with Checkout() as checkout:
-        room = Path(checkout.room.name)
-        link, folder, further = room / "link", room / "a folder", room / "further"
-        link.symlink_to(checkout.root / "site")
-        folder.symlink_to(checkout.root, target_is_directory=True)
-        further.symlink_to("link")
-        checkout.runs(True, "isn't built yet", script=link)
-        for script in (link, folder / "site", further):
-            checkout.runs(False, "", script=script)
 
 
 def usage_is_as_typed() -> None:
@@ -211,87 +74,6 @@ def scripts_become_python() -> None:
     ran = subprocess.run(words, cwd=ROOT, stdin=subprocess.DEVNULL, capture_output=True, timeout=SECONDS)
     must(ran.returncode == 1 and ran.stderr.startswith(b"explain: "), f"without a log: {ran}")
     must(not list((ROOT / "python").rglob("__pycache__")), "it leaves files in python/")
-
-
-def tells_failed_builds() -> None:
-    """./site says that a build failed, and runs nothing"""
-    with Checkout() as checkout:
-        checkout.write("bin/rt", "#!/bin/sh\necho refused >&2\nexit 1\n", 0o755)
-        ran = checkout.site()
-        must((ran.returncode, ran.stdout) == (1, b"") and b"refused\nsite: the build failed" in ran.stderr, str(ran))
-
-
-def answers_at_once() -> None:
-    """./site --help, --version and mistyped options answer before any build, with a program and without"""
-    mistakes = [
-        "--call 5",
-        "--calls",
-        "--calls 0",
-        "--calls x",
-        "--cache 4097",
-        "--calls=9 --calls 9",
-        "FILE",
-        "-x",
-        "--unproved --calls 0",
-        "--unproved --built",
-        "--unproved nowhere.jsonl",
-        "--version=1",
-        "--",
-        "--trace --trace",
-        "--trace=1",
-        "--unproved --trace",
-        "--export",
-        "--compact",
-        "--database",
-        "--database x --export --compact",
-        "--database x --export --export",
-        "--database x --database=y",
-        "--unproved --database x",
-        "--database x y",
-    ]
-    with Checkout() as checkout:
-        for is_built in (False, True):
-            answers = {"--help": b"--unproved", "--unproved --help": b"--calls N", "--version": b"Geanmarbles"}
-            for words, says in answers.items():
-                ran = checkout.site(*words.split())
-                must((ran.returncode, ran.stderr) == (0, b"") and says in ran.stdout, f"{words}: {ran}")
-            for words in mistakes:
-                ran = checkout.site(*words.split())
-                must((ran.returncode, ran.stdout) == (2, b"") and b"./site --help" in ran.stderr, f"{words}: {ran}")
-            must(checkout.built() == [], "it built something")
-            if not is_built:
-                checkout.runs(True, "isn't built yet", "--cache", "3", "--trace")
-        for given in (["--database", "a file"], ["--database", "x", "--export"], ["--compact", "--database", "b"]):
-            checkout.runs(False, "", *given)
-
-
-def runs_unproved() -> None:
-    """./site --unproved hands standard input to one run, and several files to one compile"""
-    with Checkout() as checkout, tempfile.TemporaryDirectory() as folder:
-        env = with_toolchain(folder, checkout.write("tried", TRIED, 0o755))
-        for name, text in (("one.jsonl", "first\n"), ("two.jsonl", "second\n"), ("bad.jsonl", "bad\n")):
-            Path(folder, name).write_text(text, encoding="utf-8")
-
-        def ran(*words: str, given: bytes = b"") -> subprocess.CompletedProcess[bytes]:
-            how: dict[str, Any] = {
-                "input": given,
-                "capture_output": True,
-                "env": env,
-                "cwd": folder,
-                "timeout": SECONDS,
-            }
-            return subprocess.run([checkout.root / "site", "--unproved", *words], **how)
-
-        one = ran("--calls", "5", given=b"mine\n")
-        must((one.returncode, one.stdout) == (0, b"got --calls 5\nmine\n"), f"standard input: {one}")
-        several = ran("one.jsonl", "two.jsonl", "--cache=3")
-        wanted = b"== one.jsonl\ngot --cache 3\nfirst\n== two.jsonl\ngot --cache 3\nsecond\n"
-        must((several.returncode, several.stdout) == (0, wanted), f"two files: {several}")
-        bad = ran("one.jsonl", "bad.jsonl")
-        must(bad.returncode == 1 and b"bad.jsonl: the program ended with status 1" in bad.stderr, f"a bad run: {bad}")
-        must(b"site: bad.jsonl, line 1: this is no JSON object" in bad.stderr, f"a line that is none: {bad}")
-        runs = Path(folder, "rt.log").read_text(encoding="utf-8").splitlines()
-        must(len(runs) == 3, f"it compiled {len(runs)} times")
 
 
 def says_that_it_works() -> None:
@@ -535,15 +317,8 @@ def needs_python_alone() -> None:
 
 
 CHECKS = [
-    builds_what_changed,
-    knows_contents,
-    runs_without_toolchain,
-    works_through_links,
     usage_is_as_typed,
     scripts_become_python,
-    tells_failed_builds,
-    answers_at_once,
-    runs_unproved,
     says_that_it_works,
     plugins_are_made,
     bad_names_are_refused,
@@ -558,4 +333,4 @@ CHECKS = [
 
 
 def main() -> int:
-    return main_of(__doc__, ["geanmarbles.checks.scripts", "geanmarbles.checks.release"])
+    return main_of(__doc__, ["geanmarbles.checks.scripts", "geanmarbles.checks.site_script"])

@@ -2,7 +2,7 @@
 
     tests/trace/run [--lists N] [PROGRAM]
 
-PROGRAM is crates/site/out/site of this repository if it is left out. What each line of a log is, tests/rows/trace.json
+PROGRAM is the one that is here, built or shipped, if it is left out. What each line of a log is, tests/rows/trace.json
 says. Here are
 
 - the examples, and N lists of random lines, 200 if N is left out, made as those of tests/fuzz: what is written on
@@ -36,15 +36,17 @@ from pathlib import Path
 from random import Random
 from typing import Any
 
+from geanmarbles.repository import shipped
 from geanmarbles.arguments import Parser
 from geanmarbles.checks import memory
 from geanmarbles.checks.fuzz.lines import BY_TURNS, Lines
 from geanmarbles.checks.fuzz.shorter import Shorter
 from geanmarbles.checks.fuzz.values import command_of
-from geanmarbles.checks.programs import compiled, missing
+from geanmarbles.checks.judging import Counts, Skipped
+from geanmarbles.checks.programs import compiled, lanes, missing
 from geanmarbles.client.log import Told
 from geanmarbles.client.replies import REFUSALS, Wrong, refusal_of, shown, whole_replies
-from geanmarbles.paths import BUILT_PROGRAM, EXAMPLES, TESTS
+from geanmarbles.paths import EXAMPLES, TESTS
 
 Cases = Iterator[tuple[str, Callable[[], object]]]
 
@@ -276,7 +278,7 @@ def check_memory(program: Program) -> None:
         runs = Runs(program.path, compiled(HERE.parent / "memory" / "refuse.c", Path(name)), Path(name) / "count")
         alone = runs.run(runs.lines)
         whole, count = runs.log_of[id(alone)], runs.count()
-        with ThreadPoolExecutor(os.cpu_count()) as pool:
+        with ThreadPoolExecutor(lanes()) as pool:
             list(pool.map(runs.judge, range(1, count + 1)))
     if not any(log < whole for log in runs.logs):
         raise Wrong("in no run the log alone has lost a line")
@@ -415,19 +417,19 @@ def cases(program: Program, lists: int) -> Cases:
     yield from note_cases(program)
 
 
-def fault_of(check: Callable[[], object]) -> str | None:
-    """What a check says against the program, or None."""
+def ended(check: Callable[[], object]) -> Exception | None:
+    """What a check says against the program, or why it isn't made, or None."""
     try:
         check()
-    except (Wrong, OSError, subprocess.SubprocessError) as fault:
-        return str(fault)
+    except (Skipped, Wrong, OSError, subprocess.SubprocessError) as fault:
+        return fault
     return None
 
 
 def read_arguments() -> argparse.Namespace:
     parser = Parser(description="Runs the program with --trace, and the scripts that read its log.")
     parser.add_argument("--lists", metavar="N", type=int, default=LISTS, help="how many random lists, 200 by default")
-    parser.add_argument("program", metavar="PROGRAM", nargs="?", type=Path, default=BUILT_PROGRAM)
+    parser.add_argument("program", metavar="PROGRAM", nargs="?", type=Path, default=shipped.program())
     return parser.parse_args()
 
 
@@ -437,11 +439,14 @@ def main() -> int:
         print(f"FAILED: {missing(arguments.program)}\n0 passed, 1 failed")
         return 1
     named = list(cases(Program(arguments.program.resolve()), arguments.lists))
-    with ThreadPoolExecutor(os.cpu_count()) as pool:
-        faults = list(pool.map(fault_of, [check for _, check in named]))
+    with ThreadPoolExecutor(lanes()) as pool:
+        faults = list(pool.map(ended, [check for _, check in named]))
+    counts = Counts()
     for (name, _), fault in zip(named, faults):
-        if fault is not None:
-            print(f"FAILED: {name}: {fault}")
-    failed = sum(fault is not None for fault in faults)
-    print(f"{len(named) - failed} passed, {failed} failed")
-    return 1 if failed else 0
+        if isinstance(fault, Skipped):
+            counts.skip(name, fault)
+        elif fault is not None:
+            counts.fail(name, fault)
+        else:
+            counts.passed += 1
+    return counts.end()

@@ -2,7 +2,7 @@
 
     tests/wordpress/run [--wordpress DIR] [--seconds N] [--seed N] [PROGRAM]
 
-PROGRAM is crates/site/out/site of this repository if it is left out, and DIR, with WordPress's wp-includes, is
+PROGRAM is the one that is here, built or shipped, if it is left out, and DIR, with WordPress's wp-includes, is
 /usr/share/wordpress. bench/wordpress/site.php replies to the same lines of JSON over WordPress's plugin.php,
 class-wp-hook.php, shortcodes.php, formatting.php and kses.php, with the bundled plugins written as ordinary callbacks.
 
@@ -30,10 +30,11 @@ from collections.abc import Iterator, Sequence
 from pathlib import Path
 from typing import Any
 
+from geanmarbles.repository import shipped
 from geanmarbles.arguments import Parser
 from geanmarbles.checks.programs import missing
 from geanmarbles.client.exchanges import line, put as stored
-from geanmarbles.paths import BUILT_PROGRAM, ROOT, TESTS
+from geanmarbles.paths import ROOT, TESTS
 
 HERE = TESTS / "wordpress"
 THERE = ROOT / "bench" / "wordpress" / "site.php"
@@ -195,7 +196,7 @@ def main() -> int:
     parser.add_argument("--wordpress", default="/usr/share/wordpress", metavar="DIR")
     parser.add_argument("--seconds", type=float, default=20, metavar="N")
     parser.add_argument("--seed", type=int, default=1, metavar="N")
-    parser.add_argument("program", nargs="?", default=str(BUILT_PROGRAM), metavar="PROGRAM")
+    parser.add_argument("program", nargs="?", default=str(shipped.program()), metavar="PROGRAM")
     given = parser.parse_args()
     fault = missing(given.program)
     if fault:

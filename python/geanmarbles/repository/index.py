@@ -42,11 +42,11 @@ RULES_HEAD = "| Rule | Definition | Carried by | Wrong bodies refused |"
 CRATES_HEAD = "| Crate | Definition | Carried by | Wrong bodies refused |"
 INTRODUCTION = """# Index
 
-From each rule to its definition, the functions whose contracts carry it, with the clauses, and the wrong bodies that
-the prover must refuse. `tools/index` makes this page from [BEHAVIOUR](BEHAVIOUR.md) and from the tables of definitions
-in the crates; `tests/links/run` fails if it isn't up to date. What the tables say of each definition in words is in the
-`DESIGN.md` or `README.md` of its crate. A ° is at functions, and at wrong bodies of functions, for programs of \
-one's own.
+From each rule to its definition, the functions whose contracts carry it, with the clauses, and wrong bodies: edits of
+such functions after which a goal isn't proved any more ([what that shows](PROOFS.md#wrong-bodies)). `tools/index` makes
+this page from [BEHAVIOUR](BEHAVIOUR.md) and from the tables of definitions in the crates; `tests/links/run` fails if it
+isn't up to date. What the tables say of each definition in words is in the `DESIGN.md` or `README.md` of its crate. A °
+is at functions, and at wrong bodies of functions, for programs of one's own.
 """
 
 

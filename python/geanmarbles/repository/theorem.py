@@ -130,16 +130,16 @@ The clause by which the program is proved, and each definition that it rests on,
 `tools/index` makes this page of them, and `tests/links/run` fails if it isn't up to date. [PROOFS](PROOFS.md) has the
 premises, the other promises, and what is trusted.
 
-From [`serve_site`]({source}), which serves an input:
+From [`serve_site`]({source}), which serves lines in memory:
 
 ```rust
 {clause}
 ```
 
-In words: if `serve` returns `Ok`, and the reader and the writer show their bytes to contracts, then the writer took
-some bytes `out` and nothing else, and `out` is the replies to all lines of the input, one after another, from the site
-before to the site after. `S` is the type of the plugins' callbacks, `S.says` the reply that each is stated to give, and
-`.old` and `.new` are the values before and after the call.
+In words: if `serve_site` returns `Ok`, and the reader and the writer show their bytes to contracts, then the writer
+took some bytes `out` and nothing else, and `out` is the replies to all lines of the input, one after another, from the
+site before to the site after. `S` is the type of the plugins' callbacks, `S.says` the reply that each is stated to
+give, and `.old` and `.new` are the values before and after the call.
 
 The definitions are written in the language of the prover. `abbrev` and `unfoldable` give a name to a value or a type,
 `record` and `data` declare types; `×` means both, `⊎` one of two, `≡` equal; a text is the list of its bytes, and `ℕ`

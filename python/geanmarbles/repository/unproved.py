@@ -1,9 +1,12 @@
 """The program run from its sources, without a proof, on several inputs by one compile: what `rt try --cases` does."""
 
+import json
 import re
 import secrets
 import shutil
+import signal
 import subprocess
+import sys
 import tempfile
 import time
 from collections.abc import Callable, Sequence
@@ -108,3 +111,59 @@ def run_cases(
         went, status = (end[2], int(end[3] or 0)) if end else ("none", 0)
         found.append(Outcome(went, status, outputs.get(number, b"")))
     return found
+
+
+def say(text: str) -> None:
+    print(f"build: {text}", file=sys.stderr, flush=True)
+
+
+def is_object(line: bytes) -> bool:
+    try:
+        return isinstance(json.loads(line), dict)
+    except (ValueError, RecursionError):
+        return False
+
+
+def tell_bad_lines(file: str, given: bytes) -> None:
+    """Tells now, and not after minutes, of lines that are no JSON objects: they will be refused."""
+    lines = given.removesuffix(b"\n").split(b"\n") if given else []
+    bad = [number for number, line in enumerate(lines, 1) if not is_object(line)]
+    if bad:
+        more = f", as will {len(bad) - 1} more lines" if len(bad) > 1 else ""
+        say(f"{file}, line {bad[0]}: this is no JSON object, so it will be refused{more}")
+
+
+def run_files(words: Sequence[str], files: Sequence[str]) -> int:
+    """Runs the program from its sources over each file."""
+    inputs = [Case(Path(it).read_bytes(), words) for it in files]
+    for file, case in zip(files, inputs):
+        tell_bad_lines(file, case.given)
+    well = True
+    for file, outcome in zip(files, run_cases(inputs, tell=say)):
+        sys.stdout.buffer.write(f"== {file}\n".encode() + outcome.output)
+        sys.stdout.buffer.flush()
+        if not outcome.ended_well():
+            say(f"{file}: {outcome.fault()}")
+            well = False
+    return 0 if well else 1
+
+
+def run_quick(words: Sequence[str], files: Sequence[str]) -> int:
+    """Runs the program from its sources: over standard input, or over each file. The result is an exit status."""
+    say(f"not proved: this run compiles the sources, which takes {MINUTES} each time and some 2 GB of memory.")
+    try:
+        if files:
+            return run_files(words, files)
+        if not shutil.which("rt"):
+            raise NotRun("the command 'rt' of the Rattle toolchain isn't on the PATH (README.md)")
+        signal.signal(signal.SIGTERM, lambda *_: sys.exit(128 + signal.SIGTERM))
+        status = run_telling(["rt", "try", "--", *words], say, cwd=ROOT / "crates" / "site").returncode
+        return 128 - status if status < 0 else status
+    except OSError as fault:
+        say(f"{fault.filename}: {fault.strerror}")
+        return 2
+    except NotRun as fault:
+        say(str(fault))
+        return 1
+    except KeyboardInterrupt:
+        return 130

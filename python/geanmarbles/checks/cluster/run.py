@@ -4,7 +4,7 @@
     tests/cluster/run --self-test
     tests/cluster/run --planted [PROGRAM]
 
-PROGRAM is crates/site/out/site of this repository if it is left out, and NODE cluster/node. Three members of etcd and
+PROGRAM is the one that is here, built or shipped, if it is left out, and NODE cluster/node. Three members of etcd and
 three nodes are started for each check, or for a few rounds. The parts, three at a time, or one of them with --part:
 
 - steady: what a node takes and refuses, keys that are given again, what reads promise, and starts;

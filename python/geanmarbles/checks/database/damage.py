@@ -131,7 +131,8 @@ class Damaged:
             whole = path.read_bytes()
             how = change(path, Random(f"{change.__name__}/{number}"))
             before = copy.read_bytes(), log_of(copy).read_bytes()
-            found_before = found_by_sqlite(copy)
+            is_crash = not self.ends_well and is_like_a_crash(whole, before[1])
+            found_before = found_by_sqlite(copy) if is_crash else []
             ran = run(self.program, b"", *over(copy))
             said = ran.stderr.decode(errors="replace")
             if ran.returncode == 1:
@@ -143,7 +144,7 @@ class Damaged:
                 return
             check_end((ran.returncode, ran.stderr), 0, b"")
             found = history(copy)
-            if self.ends_well or not is_like_a_crash(whole, before[1]):
+            if not is_crash:
                 self.whole += 1
                 try:
                     check_equal(found, self.lines)
@@ -167,9 +168,13 @@ class Damaged:
         self.refused = self.whole = self.missed = 0
 
 
-def cases(program: str) -> Cases:
-    """Each check by its name, with what judges it."""
+def log_cases(program: str) -> Cases:
+    """Each check of a damaged log by its name, with what judges it."""
     log = Damaged(program, ends_well=False)
     for change, count in ((turned, TURNED), (cut, CUT), (torn, TORN)):
         yield from log.cases(change, count)
+
+
+def file_cases(program: str) -> Cases:
+    """Each check of a damaged file whose edits are all in it."""
     yield from Damaged(program, ends_well=True).cases(turned, TURNED)

@@ -32,7 +32,7 @@ from geanmarbles.checks.database.files import (
     log_of,
     summary,
 )
-from geanmarbles.checks.programs import executable
+from geanmarbles.checks.programs import REPLACED, executable
 from geanmarbles.client.replies import Wrong
 from geanmarbles.paths import command
 
@@ -42,8 +42,8 @@ PATHS = ("/", "/?p=1", "/?p=7", "/?p=30")
 ALL, SOME, NOTHING = 0, 3, 1
 LINE = "UPDATE command SET line = ? WHERE number = ?"
 # Carries out another edit than it is given, and acknowledges it.
-CHANGES = """#!/bin/sh
-sed -u 's/"post 7"/"post 8"/' | {program} "$@"
+CHANGES = f"""#!/bin/sh
+{REPLACED} '"post 7"' '"post 8"' | {{program}} "$@"
 """
 REFUSED = '{"cmd":"activate","plugin":"another program\'s"}'
 

@@ -30,11 +30,12 @@ from geanmarbles.client.replies import Wrong, refusal_of, shown
 
 # A file goes on over so many rounds, and then a new one begins.
 ROUNDS_OF_A_FILE = 25
-# For how long rounds are made, in seconds, and after which time of serving a program is killed at the latest.
-SECONDS, SERVING = 120, 0.06
+# After how many seconds of serving a program is killed at the latest.
+SERVING = 0.06
 # The most lines that a client sends in a round without waiting for replies.
 PIPED = 600
-# How often each kind of round is made.
+# How many rounds are made, and how often each kind of them.
+ROUNDS = 500
 KINDS = {"waits": 4, "pipes": 4, "starts": 3, "stops": 2, "compacts": 1}
 TAGS = ("the_title", "the_content", "the_ID")
 
@@ -171,7 +172,7 @@ class Rounds:
 
     def __init__(self, program: str, count: int) -> None:
         self.program, self.count = program, count
-        self.random, self.until = Random(), time.monotonic() + SECONDS
+        self.random = Random()
         self.life: Life | None = None
         self.folder: tempfile.TemporaryDirectory[str] | None = None
         self.made: Counter[str] = Counter()
@@ -205,8 +206,6 @@ class Rounds:
 
     def cases(self) -> Cases:
         for number in range(self.count):
-            if time.monotonic() > self.until:
-                break
             yield f"round {number + 1} of kills", partial(self.make, number)
         self.end_life()
         kinds = ", ".join(f"{count} {kind}" for kind, count in sorted(self.made.items()))
@@ -214,3 +213,8 @@ class Rounds:
             f"kills: {sum(self.made.values())} of {self.count} rounds ({kinds}); {self.edits} edits were sent,"
             f" and {self.stored} were stored whose replies never came"
         )
+
+
+def cases(program: str, rounds: int = ROUNDS) -> Cases:
+    """Each round by its number, with what judges it."""
+    return Rounds(program, rounds).cases()

@@ -1,6 +1,7 @@
 """The README's own example of a site that lasts, as somebody new would try it, `kill -9` included."""
 
 import re
+import shutil
 import subprocess
 import tempfile
 import time
@@ -45,7 +46,7 @@ def tried(program: str) -> None:
         output, shown = Path(folder, "output"), ""
         with output.open("wb") as file:
             how: dict[str, Any] = {"stdin": subprocess.PIPE, "stdout": file, "stderr": subprocess.DEVNULL}
-            shell = subprocess.Popen(["bash"], cwd=folder, **how)
+            shell = subprocess.Popen([shutil.which("bash") or "sh"], cwd=folder, **how)
             typed = pipe(shell.stdin)
         try:
             for command, shows in shown_commands():

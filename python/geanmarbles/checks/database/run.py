@@ -1,10 +1,10 @@
 """Runs the program with --database, ends it in every way, and reads what is left by SQLite itself.
 
-    tests/database/run [--rounds N] [--part NAME] [PROGRAM]
+    tests/database/run [--rounds N] [--part NAME ..] [PROGRAM]
     tests/database/run --self-test [PROGRAM]
 
-PROGRAM is crates/site/out/site of this repository if it is left out. SQLite is that of Python's own module; it always
-reads a copy of FILE and FILE-wal. The parts, in this order, or one of them with --part:
+PROGRAM is the one that is here, built or shipped, if it is left out. SQLite is that of Python's own module; it always
+reads a copy of FILE and FILE-wal. The parts, in this order, or some of them, each after a --part:
 
 - keeping: edits are there after the end and a new start, the pages are those of a program in memory that is given the
   same lines, and the rows are exactly the program's first line and the edits that were done, byte for byte; random
@@ -18,11 +18,12 @@ reads a copy of FILE and FILE-wal. The parts, in this order, or one of them with
 - readers: 200 edits in one write, and standard output closed, full, without a reader or never read: what the file then
   holds is what docs/FAILURES.md says;
 - commits: each write and each sync of the files refused once, in a run of its own: the next start finds the edits that
-  were acknowledged, and of the commit that failed all edits or none;
+  were acknowledged, and of the commit that failed all edits or none; skipped without `cc`;
 - disks: a disk that fills up, in a mount namespace of its own, which needs root or user namespaces and is otherwise
   skipped;
-- damage: one byte of FILE-wal turned, 500 times, and of FILE; FILE-wal cut, 100 times, or overwritten: a start is
-  refused by name and writes nothing, or has all of the history;
+- log: one byte of FILE-wal turned, 500 times; FILE-wal cut, 100 times, or overwritten: a start is refused by name and
+  writes nothing, or has all of the history;
+- file: one byte of FILE turned, 500 times: the same;
 - mixed: FILE of one moment and FILE-wal of another, of one site and of two: a start is refused, or has a site as it was
   at a moment. That isn't the newer one of the two only if both are of one moment, if FILE-wal has no commit, or if its
   last one leaves the database no shorter than FILE and it is of a moment before FILE's, or of another site; how often
@@ -34,10 +35,10 @@ reads a copy of FILE and FILE-wal. The parts, in this order, or one of them with
 - replaced: FILE or FILE-wal is removed or replaced while the program has it: the program ends by name at the next line,
   which isn't carried out;
 - readme: the README's own example, with its `kill -9`;
-- kills: N rounds, 500 if N is left out, made within two minutes: SIGKILL at a random moment of serving a client that
-  waits for its replies, or one that sends chunks, of a start, or of a --compact. Each time all edits that were
-  acknowledged are there, in order, and nothing that wasn't sent; and the next start gives the pages of those lines. In
-  some rounds both files are copied while the program is stopped, and the copy is judged so.
+- kills: N rounds, 500 if N is left out: SIGKILL at a random moment of serving a client that waits for its replies, or
+  one that sends chunks, of a start, or of a --compact. Each time all edits that were acknowledged are there, in order,
+  and nothing that wasn't sent; and the next start gives the pages of those lines. In some rounds both files are copied
+  while the program is stopped, and the copy is judged so.
 
 A kill doesn't test the disk: the kernel keeps what was written. With --self-test the checks are run over files that
 were doctored, with edits lost, doubled, in another order or changed, and must notice it.
@@ -46,7 +47,7 @@ The last line is 'N passed, M failed', over the checks and rounds, and the exit 
 """
 
 import argparse
-from types import ModuleType
+from collections.abc import Callable
 
 from geanmarbles.checks.database import (
     commits,
@@ -67,29 +68,29 @@ from geanmarbles.checks.database import (
 from geanmarbles.checks.judging import Cases, Counts
 from geanmarbles.checks.programs import missing, parser_of
 
-# (a module has its checks by `cases`)
-PARTS: dict[str, ModuleType] = {
-    "keeping": keeping,
-    "refused": refused,
-    "exports": exports,
-    "readers": readers,
-    "commits": commits,
-    "disks": disks,
-    "damage": damage,
-    "mixed": damage_mixed,
-    "salvage": damage_salvaged,
-    "check": damage_checked,
-    "replaced": replaced,
-    "readme": readme,
-    "kills": kills,
+# The checks of each part over a program.
+PARTS: dict[str, Callable[[str], Cases]] = {
+    "keeping": keeping.cases,
+    "refused": refused.cases,
+    "exports": exports.cases,
+    "readers": readers.cases,
+    "commits": commits.cases,
+    "disks": disks.cases,
+    "log": damage.log_cases,
+    "file": damage.file_cases,
+    "mixed": damage_mixed.cases,
+    "salvage": damage_salvaged.cases,
+    "check": damage_checked.cases,
+    "replaced": replaced.cases,
+    "readme": readme.cases,
+    "kills": kills.cases,
 }
 
 
 def cases_of(name: str, arguments: argparse.Namespace) -> Cases:
     if name == "kills":
-        return kills.Rounds(arguments.program, arguments.rounds).cases()
-    found: Cases = PARTS[name].cases(arguments.program)
-    return found
+        return kills.cases(arguments.program, arguments.rounds)
+    return PARTS[name](arguments.program)
 
 
 def judge_part(counts: Counts, name: str, cases: Cases) -> None:
@@ -98,8 +99,9 @@ def judge_part(counts: Counts, name: str, cases: Cases) -> None:
 
 def read_arguments() -> argparse.Namespace:
     parser = parser_of(__doc__)
-    parser.add_argument("--rounds", metavar="N", type=int, default=500, help="how often the program is killed")
-    parser.add_argument("--part", metavar="NAME", choices=PARTS, help=f"one part alone: {', '.join(PARTS)}")
+    parser.add_argument("--rounds", metavar="N", type=int, default=kills.ROUNDS, help="how often the program is killed")
+    some = f"some parts alone: {', '.join(PARTS)}"
+    parser.add_argument("--part", metavar="NAME", action="append", choices=PARTS, help=some)
     parser.add_argument("--self-test", action="store_true", help="see that the checks notice files that were doctored")
     return parser.parse_args()
 
@@ -112,6 +114,6 @@ def main() -> int:
     if arguments.self_test:
         judge_part(counts, "self-test", self_test.cases(arguments.program))
     else:
-        for name in [arguments.part] if arguments.part else PARTS:
+        for name in arguments.part or PARTS:
             judge_part(counts, name, cases_of(name, arguments))
     return counts.end()

@@ -13,7 +13,7 @@ from geanmarbles.checks.database.damage_mixed import Mixed, Site
 from geanmarbles.checks.database.files import Statement, check_after_a_crash, check_equal, doctored, history
 from geanmarbles.checks.database.lists import random_lines
 from geanmarbles.checks.fuzz.shorter import Shorter
-from geanmarbles.checks.programs import executable
+from geanmarbles.checks.programs import REPLACED, executable
 from geanmarbles.client.replies import Wrong
 from geanmarbles.paths import TESTS
 
@@ -22,6 +22,8 @@ EDITS = [put(title=f"post {number}", n=number) for number in range(1, 13)]
 # How many of them were there before, and how many of the others were acknowledged.
 BEFORE, ACKNOWLEDGED = 4, 6
 PATHS = tuple(f"/?p={number}" for number in range(1, 14))
+# How long is waited for edits that never come.
+SOON = 5
 RENUMBER = "UPDATE command SET number = number - 1 WHERE number > ?"
 MOVE = "UPDATE command SET number = ? WHERE number = ?"
 LINE = "UPDATE command SET line = ? WHERE number = ?"
@@ -45,7 +47,7 @@ DOCTORED: dict[str, list[Statement]] = {
     "there is an index": [("CREATE INDEX i ON command (line)", ())],
 }
 # Leaves out the last line of what it is given, and has the program serve the rest.
-FORGETS = '#!/bin/sh\nsed "\\$d" | {program} "$@"; echo ok 12\n'
+FORGETS = '#!/bin/sh\nhead -n -1 | {program} "$@"; echo ok 12\n'
 # Of what a site in a file is given, reads some lines, and has the program serve these alone.
 READS_LESS = """#!/bin/sh
 [ "$1" = --database ] || exec {program} "$@"
@@ -56,9 +58,11 @@ UNLIMITED = '#!/bin/sh\n[ "$3" != --calls ] || set -- "$1" "$2"\nexec {program} 
 # Looks at FILE without its log.
 LOSES = '#!/bin/sh\n[ "$1" != --database ] || : >"$2-wal"\nexec {program} "$@"\n'
 # Tells another digest than a file has.
-MISTELLS = '#!/bin/sh\n{program} "$@" | sed "s/digest ../digest xx/"\n'
+MISTELLS = f'#!/bin/sh\n{{program}} "$@" | {REPLACED} "digest " "digest x"\n'
 # Tells of another ID than the first post's in a file.
-MISCOUNTS = '#!/bin/sh\n[ "$1" = --database ] || exec {program} "$@"\n{program} "$@" | sed "s/^ok 1$/ok 9/"\n'
+MISCOUNTS = (
+    f'#!/bin/sh\n[ "$1" = --database ] || exec {{program}} "$@"\n{{program}} "$@" | {REPLACED} "ok 1\n" "ok 9\n"\n'
+)
 # Histories after a commit of the last six edits has failed.
 AFTER_A_COMMIT: dict[str, list[Statement]] = {
     "half of a commit is there": [("DELETE FROM command WHERE number > ?", (10,))],
@@ -161,9 +165,13 @@ def cases(program: str) -> Cases:
             copy = doctored(file, statements, folder)
             yield name, partial(noticed, lambda: check_commit(copy, identity))
             copy.unlink()
-        for check_of in (readers.without_a_reader, readers.never_read, readers.reads_ahead):
-            name = f"fewer edits than were read: {check_of.__name__}"
-            yield name, partial(otherwise, program, READS_LESS, check_of)
+        fewer: dict[str, Callable[[str, Path], None]] = {
+            "without a reader": readers.without_a_reader,
+            "never read": partial(readers.never_read, soon=SOON),
+            "read ahead": readers.reads_ahead,
+        }
+        for name, check_of in fewer.items():
+            yield f"fewer edits than were read: {name}", partial(otherwise, program, READS_LESS, check_of)
         yield "pages without a limit", lambda: otherwise(program, UNLIMITED, keeping.takes_another_limit)
         yield "other pages", lambda: changed_pages(program, file)
         yield "a program that forgets an edit", lambda: forgetful(program, folder)

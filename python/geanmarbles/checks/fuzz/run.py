@@ -4,7 +4,7 @@
     tests/fuzz/run --list FILE [PROGRAM]
     tests/fuzz/run --self-test [PROGRAM]
 
-PROGRAM is crates/site/out/site of this repository if it is left out. lines.py makes the lists: edits, activations,
+PROGRAM is the one that is here, built or shipped, if it is left out. lines.py makes the lists: edits, activations,
 imports, requests, and up to eight pages by turns, some of them with broken bytes or odd values. Of each list, checks.py
 says that
 
@@ -25,20 +25,19 @@ and turns.py that
 and kept.py that
 
 - in a file too the replies are the same; SQLite itself, which carries out the file's history in tables of its own,
-  finds
-  the same rows before and after `--compact`, each row of each table, and pages and the next ID are the same.
+  finds the same rows before and after `--compact`, each row of each table, and pages and the next ID are the same.
 
-The lists of a seed, 1 if none is given, are the same each time. Without --seconds a fixed number of lists is tried, for
-at most 50 seconds; with it, as many as N seconds are enough for. --begin is the number of the first list. A list that
-fails is made shorter while it fails in the same way, and is saved in out/fuzz; with --list the lines of a file are
-checked instead. With --self-test, each check is run against replies that are broken on purpose, and must notice it.
+The lists of a seed, 1 if none is given, are the same each time. Without --seconds a fixed number of lists is tried;
+with it, as many as N seconds are enough for. --begin is the number of the first list. A list that fails is made
+shorter while it fails in the same way, and is saved in out/fuzz; with --list the lines of a file are checked instead.
+With --self-test, each check is run against replies that are broken on purpose, and must notice it.
 
 The last line is 'N passed, M failed', over the checks of all lists, and the exit status is 0 if none failed.
 """
 
 import argparse
 import itertools
-import os
+import math
 import time
 from collections.abc import Callable, Iterable, Iterator, Sequence
 from concurrent.futures import ThreadPoolExecutor
@@ -46,21 +45,21 @@ from pathlib import Path
 from random import Random
 from typing import Any
 
+from geanmarbles.repository import shipped
 from geanmarbles.arguments import Parser
 from geanmarbles.checks.fuzz import checks, kept, turns
 from geanmarbles.checks.fuzz.checks import Check, Program
 from geanmarbles.checks.fuzz.lines import Lines
 from geanmarbles.checks.fuzz.selftest import is_noticed
 from geanmarbles.checks.fuzz.shorter import SHRINKS, saved, smallest
-from geanmarbles.checks.programs import missing
+from geanmarbles.checks.programs import lanes, missing
 from geanmarbles.client.replies import Wrong
-from geanmarbles.paths import BUILT_PROGRAM, ROOT
+from geanmarbles.paths import ROOT
 
 CHECKS = (*checks.CHECKS, *turns.CHECKS, *kept.CHECKS)
 # Each check with what it says, or None.
 Faults = list[tuple[Check, str | None]]
 LISTS = 200
-SECONDS = 50
 # Lists over which each check is tried against broken replies.
 SELF_TESTS = 5
 # The longest list, in bytes, that is printed too.
@@ -119,9 +118,8 @@ def tried(program: Program, numbers: Iterator[int], seed: str, seconds: float) -
     def judged(number: int) -> tuple[int, Faults] | None:
         return (number, faults_of(program, listed(seed, number))) if time.monotonic() < until else None
 
-    lanes = os.cpu_count() or 1
-    with ThreadPoolExecutor(lanes) as pool:
-        while batch := list(itertools.islice(numbers, 8 * lanes)):
+    with ThreadPoolExecutor(lanes()) as pool:
+        while batch := list(itertools.islice(numbers, 8 * lanes())):
             found = list(pool.map(judged, batch))
             yield from filter(None, found)
             if None in found:
@@ -163,7 +161,7 @@ def read_arguments() -> argparse.Namespace:
     parser.add_argument("--begin", metavar="K", type=int, default=1, help="the number of the first list")
     parser.add_argument("--list", metavar="FILE", type=Path, help="check the lines of a file instead")
     parser.add_argument("--self-test", action="store_true", help="see that each check notices what it is for")
-    parser.add_argument("program", metavar="PROGRAM", nargs="?", type=Path, default=BUILT_PROGRAM)
+    parser.add_argument("program", metavar="PROGRAM", nargs="?", type=Path, default=shipped.program())
     return parser.parse_args()
 
 
@@ -183,7 +181,7 @@ def main() -> int:
     else:
         first = arguments.begin
         numbers = itertools.count(first) if arguments.seconds else iter(range(first, first + LISTS))
-        results = list(tried(program, numbers, arguments.seed, arguments.seconds or SECONDS))
+        results = list(tried(program, numbers, arguments.seed, arguments.seconds or math.inf))
         print(f"seed {arguments.seed}: {len(results)} lists in {time.monotonic() - begin:.0f} s")
         again = f"tests/fuzz/run --seed {arguments.seed} --begin"
         passed, failed = failures(program, results, lambda it: listed(arguments.seed, it), lambda it: f"{again} {it}")

@@ -2,7 +2,7 @@
 
     tests/hostile/run [PROGRAM]
 
-PROGRAM is crates/site/out/site of this repository if it is left out. The parts, in this order:
+PROGRAM is the one that is here, built or shipped, if it is left out. The parts, in this order:
 
 - ends: standard input, output and error that are closed, of the wrong kind, endless, full or that don't wait, and
   readers that go away in mid-page;

@@ -251,6 +251,7 @@ def one_too_many(program: str) -> None:
         slow = [held.enter_context(serve.raw()) for _ in range(30)]
         for raw in slow:
             raw.send(GET[:9])
+        time.sleep(0.3)
         serve.is_served()
 
 

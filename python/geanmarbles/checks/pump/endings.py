@@ -176,13 +176,14 @@ def noticed(_program: str) -> None:
 
 
 def no_commit(program: str) -> None:
-    """a commit that fails is told to no client, and the next program can't begin with the file that is gone"""
+    """a commit that fails is told to no client, and no new site takes the place of a file that is gone"""
     with Serve(program) as serve:
         serve.database.unlink()
         same(serve.asked(edit(PUT % b"lost")), b"", "what was said of an edit")
         wait_for(lambda: "removed or replaced" in serve.process.said(), SECONDS, "the program says why it ends")
-        must(serve.asked(edit(PUT % b"later")).startswith(b"HTTP/1.1 200"), "an edit of the next program")
-        same(history(serve.database)[1:], [PUT % b"later"], "the history of the next file")
+        same(serve.process.child.wait(SECONDS), 1, "the status")
+        must("there is no such file" in serve.process.said(), f"it said {serve.process.said()!r}")
+        must(not serve.database.exists(), "there is a new site")
 
 
 def ends_well(program: str) -> None:
@@ -300,7 +301,7 @@ def of_a_command_file(program: str) -> None:
         commands, file = Path(folder, "site.jsonl"), Path(folder, "site.db")
         commands.write_bytes(PUT % b"Rye" + b"\n")
         words = [*command("examples/serve"), "--program", program, "--port", "0", str(commands)]
-        for more in ((), ("--database", str(file))):
+        for more in ((), ("--database", str(file), "--new")):
             same(served_by([*words, *more]), RYE, f"the page with {more}")
         same(history(file)[1:], [PUT % b"Rye"], "the history")
         commands.write_bytes(PUT % b"Rye" + b"\n{}\n")

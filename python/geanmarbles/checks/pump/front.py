@@ -4,8 +4,10 @@ others have written. What isn't installed is skipped."""
 from __future__ import annotations
 
 import json
+import os
 import re
 import shutil
+import signal
 import subprocess
 import sys
 import tempfile
@@ -83,7 +85,7 @@ def attacked(serve: Serve, attack: Attack) -> None:
     same(responses[0].fields.get("connection"), "close", "what it says of the connection")
 
 
-def hostile(program: str) -> Iterator[tuple[str, Callable[[], None]]]:
+def cases(program: str) -> Iterator[tuple[str, Callable[[], None]]]:
     """Each attack, and that all of them leave the program as it was."""
     with Serve(program) as serve:
         pid, before = serve.pid(), 0
@@ -171,7 +173,7 @@ def by_proxy(program: str, name: str) -> None:
         with ThreadPoolExecutor(24) as pool:
             for done in [pool.submit(ask, number) for number in range(24)]:
                 done.result()
-        subprocess.run(["kill", "-9", str(serve.pid())], check=True)
+        os.kill(serve.pid(), signal.SIGKILL)
         wait_for(lambda: status_of(address, GET) == 200, SECONDS, "pages come again")
 
 
@@ -233,9 +235,14 @@ def by_chromium(program: str) -> None:
         must("<h2>Rye</h2>" in shown, f"it shows {shown!r}")
 
 
-def cases(program: str) -> Iterator[tuple[str, Callable[[], None]]]:
-    yield from hostile(program)
-    for name in ("nginx", "haproxy", "varnish"):
+PROXIES = ("nginx", "haproxy", "varnish")
+CLIENTS = {"curl": by_curl, "wrk": by_wrk, "h11": by_h11, "chromium": by_chromium}
+OTHERS = (*PROXIES, *CLIENTS)
+
+
+def others(program: str, name: str) -> Iterator[tuple[str, Callable[[], None]]]:
+    """The check of a proxy or of a client that others have written."""
+    if name in PROXIES:
         yield f"pump: pages and edits through {name}", partial(by_proxy, program, name)
-    for check in (by_curl, by_wrk, by_h11, by_chromium):
-        yield f"pump: {check.__doc__}", partial(check, program)
+    else:
+        yield f"pump: {CLIENTS[name].__doc__}", partial(CLIENTS[name], program)

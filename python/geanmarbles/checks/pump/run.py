@@ -1,16 +1,17 @@
 """Serves many clients: the program over frames, and examples/serve, which moves them.
 
-    tests/pump/run [--part NAME] [PROGRAM]
+    tests/pump/run [--part NAME ..] [PROGRAM]
 
-PROGRAM is crates/site/out/site of this repository if it is left out. The parts are
+PROGRAM is the one that is here, built or shipped, if it is left out. The parts are
 
     frames     each exchange of tests/http between others on one stream, cut into frames and writes in many ways; what
                each of several clients gets; numbers, limits, kills, and commits that fail
     clients    the same exchanges through examples/serve; clients that are slow, stall, are reset, send nothing more, or
                are many: hundreds and, where there may be so many files, 10,000 that are idle
     endings    programs that are killed, stop, or can't be started; the end by a signal; where it listens
-    front      what two servers may read in two ways; nginx, HAProxy, Varnish, curl, wrk, h11 and Chromium, where they
-               are installed
+    front      requests that two servers may read in two ways
+    nginx, haproxy, varnish, curl, wrk, h11, chromium
+               what these get, or have their clients get, each where it is installed
 
 The last line is 'N passed, M failed', with ', K skipped' if something isn't installed. The exit status is 0 if nothing
 failed.
@@ -24,12 +25,13 @@ from geanmarbles.checks.over_http import Program
 from geanmarbles.checks.programs import parser_of
 from geanmarbles.checks.pump import clients, endings, front, over_frames
 
-PARTS = ("frames", "clients", "endings", "front")
+PARTS = ("frames", "clients", "endings", "front", *front.OTHERS)
 
 
 def main() -> int:
     parser = parser_of(__doc__)
-    parser.add_argument("--part", choices=PARTS, help="one part alone")
+    some = f"some parts alone: {', '.join(PARTS)}"
+    parser.add_argument("--part", metavar="NAME", action="append", choices=PARTS, help=some)
     args = parser.parse_args()
     counts = Counts()
     with tempfile.TemporaryDirectory() as folder:
@@ -38,8 +40,8 @@ def main() -> int:
             "clients": clients.cases(args.program),
             "endings": endings.cases(args.program),
             "front": front.cases(args.program),
+            **{name: front.others(args.program, name) for name in front.OTHERS},
         }
-        for part, cases in of.items():
-            if args.part in (None, part):
-                counts.judge_all(cases)
+        for part in args.part or PARTS:
+            counts.judge_all(of[part])
     return counts.end()

@@ -34,7 +34,7 @@ class Serve:
         self.database = database or self.folder / "site.db"
         token = self.folder / "token"
         token.write_text(TOKEN, encoding="utf-8")
-        kept = ["--database", str(self.database), "--token-file", str(token)]
+        kept = ["--database", str(self.database), "--new", "--token-file", str(token)]
         where = [] if {"--port", "--unix"} & set(words) else ["--port", "0"]
         self.words = [*command("examples/serve"), "--program", program, *kept, *where, *words]
 

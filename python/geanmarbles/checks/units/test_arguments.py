@@ -5,58 +5,10 @@ import contextlib
 import io
 import sys
 from collections.abc import Callable
-from random import Random
 
 from geanmarbles.arguments import Parser, count_in
-from geanmarbles.checks.units.drawn import each
 from geanmarbles.checks.units.test_etcd import raised
 from geanmarbles.cluster.node import address, endpoints, read_arguments as node_arguments, site_name
-from geanmarbles.repository.site import LARGEST, Asked, BadArguments, read_arguments
-
-
-def test_the_arguments_of_site_are_those_of_the_program() -> None:
-    assert read_arguments([]) == Asked("run", [], [])
-    assert read_arguments(["--calls=7", "--cache", "+3", "--trace"]) == Asked(
-        "run", ["--calls", "7", "--cache", "+3", "--trace"], []
-    )
-    assert read_arguments(["--built", "--database", "-x", "--compact"]) == Asked(
-        "built", ["--database", "-x", "--compact"], []
-    )
-    assert read_arguments(["--unproved", "a", "--calls", "1", "b"]) == Asked("unproved", ["--calls", "1"], ["a", "b"])
-    for words in (["--help"], ["-h"], ["--calls", "3", "--help", "--nope"]):
-        assert read_arguments(words) == Asked("help", [], [])
-    assert read_arguments(["--version"]).mode == "version"
-
-
-def test_arguments_of_site_that_cannot_be_meant_are_refused() -> None:
-    for words, says in (
-        (["--calls"], "--calls takes a number"),
-        (["--database"], "--database takes a file"),
-        (["--calls", "0"], "from 1 to 100000, not '0'"),
-        (["--cache=4097"], "from 1 to 4096"),
-        (["--calls", "1", "--calls=1"], "--calls is given twice"),
-        (["--export"], "--export needs --database FILE"),
-        (["--database", "x", "--export", "--compact"], "one of them"),
-        (["--built", "--unproved"], "one of them, once"),
-        (["--unproved", "--database", "x"], "opens no files"),
-        (["--unproved", "--trace"], "--trace needs the built program"),
-        (["x"], "./site < x"),
-        (["-"], "there is no option '-'"),
-    ):
-        assert says in str(raised(BadArguments, lambda: read_arguments(words))), words
-
-
-def test_numbers_of_site_are_those_in_range() -> None:
-    def check(random: Random) -> None:
-        option = random.choice(sorted(LARGEST))
-        number = random.choice([0, 1, LARGEST[option], LARGEST[option] + 1, random.randint(0, 10**9)])
-        text = random.choice(["", "+", "-", "0", " "]) + str(number)
-        if text.lstrip("+").isdigit() and 1 <= number <= LARGEST[option]:
-            assert read_arguments([option, text]).words == [option, text]
-        else:
-            raised(BadArguments, lambda: read_arguments([option, text]))
-
-    each(check)
 
 
 def is_refused(read: Callable[[str], object], text: str) -> bool:

@@ -1,1 +1,0 @@
-"""The parts of `./test`, as checks that pytest runs."""
