@@ -8,8 +8,8 @@ from typing import NamedTuple
 from urllib.parse import parse_qsl, unquote, urljoin, urlsplit
 
 from geanmarbles.archive.files import files_below
-from geanmarbles.archive.html import attributes_of_tag, tag_name
 from geanmarbles.disk_tables import Disk, DiskDict, DiskSet
+from geanmarbles.wordpress.harmless import attributes_of_tag, tag_name
 from geanmarbles.wordpress.texts import TAGS
 
 SOURCES = {

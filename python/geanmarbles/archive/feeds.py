@@ -57,7 +57,7 @@ class Feeds:
             '<?xml version="1.0" encoding="UTF-8"?>\n<rss version="2.0" xmlns:atom="http://www.w3.org/2005/Atom"'
             ' xmlns:dc="http://purl.org/dc/elements/1.1/">\n<channel>\n'
             f"<title>{xml(title)}</title>\n<link>{xml(self.plan.base + as_link(path))}</link>\n"
-            f"<description>{xml(unescape(tagline))}</description>\n"
+            f"<description>{as_html(unescape(tagline))}</description>\n"
             f"<language>{xml(self.plan.site.language)}</language>\n"
             f'<atom:link href="{xml(self.plan.base + as_link(feed))}" rel="self" type="application/rss+xml"/>\n'
             f"{''.join(items)}</channel>\n</rss>\n"
@@ -77,7 +77,7 @@ class Feeds:
             made.append(f"<dc:creator>{xml(author[1])}</dc:creator>")
         made += [f"<category>{xml(name)}</category>" for _, _, name in plan.terms(number)]
         text = item.excerpt if item and item.excerpt.strip() else plan.store.content(number)
-        made.append(f"<description>{xml(text_of(text, 2 * DESCRIPTION))}</description>")
+        made.append(f"<description>{as_html(text_of(text, 2 * DESCRIPTION))}</description>")
         return "<item>" + "".join(made) + "</item>\n"
 
     def write_comments(self, home: str) -> None:
@@ -90,7 +90,7 @@ class Feeds:
             items.append(
                 f"<item><title>{xml(title)}</title><link>{xml(address)}</link><guid>{xml(address)}</guid>"
                 f"<pubDate>{moment(comment.date)}</pubDate>"
-                f"<description>{xml(text_of(comment.text, 2 * DESCRIPTION))}</description></item>\n"
+                f"<description>{as_html(text_of(comment.text, 2 * DESCRIPTION))}</description></item>\n"
             )
         path = f"{home}comments" + ("/" if plan.places.has_slash else "")
         self.write_feed(path, f"{plan.words['comments_of']} {unescape(plan.name)}", items)
@@ -99,6 +99,11 @@ class Feeds:
 def xml(text: str) -> str:
     """A text in XML, without the characters that XML forbids."""
     return escape(re.sub(r"[\x00-\x08\x0b\x0c\x0e-\x1f\ufffe\uffff]", " ", text))
+
+
+def as_html(text: str) -> str:
+    """A plain text as a description, which is HTML to those who read a feed."""
+    return xml(escape(text, quote=False))
 
 
 def write_sitemap(plan: Plan, files: Files, listed: DiskDict[str, str]) -> None:

@@ -1,17 +1,16 @@
-"""Pieces of HTML for an archive: places in a printed page, shortened contents, and comments made harmless.
+"""Pieces of HTML for an archive: places in a printed page, and shortened contents.
 
 A page is what the program printed; what is added to it is put where the
 templates have marks for it, or else at the usual elements.
 """
 
 import re
-from collections.abc import Callable, Iterator
+from collections.abc import Callable
 from html import escape, unescape
 
+from geanmarbles.wordpress.harmless import VOID, tag_name
 from geanmarbles.wordpress.texts import TAGS
 
-ATTRIBUTE = re.compile(r"(?<![\w-])([\w-]+)\s*=\s*(?:\"([^\"]*)\"|'([^']*)'|([^\s'\"<>]+))")
-VOID = set("area base br col embed hr img input link meta source track wbr".split())
 TIME = re.compile(r"<time>(\d{4}-\d\d-\d\d \d\d:\d\d:\d\d)</time>")
 MORE = re.compile(r"<span id=\"more-\d+\"(?: data-more=\"([^\"]*)\")?></span>")
 # The links to the parts of the front, as `from_wordpress` writes them into templates.
@@ -158,71 +157,3 @@ def text_of(content: str, most: int) -> str:
     plain = unescape(re.sub(r"<!--.*?-->|<[^<>]*>?", " ", plain, flags=re.S))
     plain = re.sub(r"\s+", " ", plain).replace(" .", ".").replace(" ,", ",").strip()
     return plain if len(plain) <= most else plain[:most].rsplit(" ", 1)[0] + "…"
-
-
-# What the text of a comment may have.
-ALLOWED = {
-    "a": ("href", "title"),
-    "blockquote": (),
-    "q": (),
-    "cite": (),
-    "code": (),
-    "pre": (),
-    "em": (),
-    "i": (),
-    "strong": (),
-    "b": (),
-    "s": (),
-    "strike": (),
-    "del": (),
-    "abbr": ("title",),
-    "acronym": ("title",),
-    "br": (),
-    "p": (),
-    "ul": (),
-    "ol": (),
-    "li": (),
-}
-
-
-def harmless(text: str) -> str:
-    """The HTML of a text that anyone may have written, of which a few elements are kept and the rest is text."""
-    made: list[str] = []
-    opened: list[str] = []
-    for number, part in enumerate(TAGS.split(text)):
-        name = tag_name(part) if number % 2 else ""
-        if not name or name not in ALLOWED:
-            made.append(escape(unescape(part), quote=False))
-        elif not part.startswith("</"):
-            made.append(harmless_tag(name, part))
-            if name not in VOID:
-                opened.append(name)
-        elif name in opened:
-            while (it := opened.pop()) != name:
-                made.append(f"</{it}>")
-            made.append(f"</{name}>")
-    return "".join(made) + "".join(f"</{it}>" for it in reversed(opened))
-
-
-def harmless_tag(name: str, tag: str) -> str:
-    """An allowed tag with the attributes that it may have."""
-    kept = []
-    for attribute, value in attributes_of_tag(tag):
-        is_bad_link = attribute == "href" and not re.match(r"(?:https?://|mailto:)", value.strip(), re.I)
-        if attribute in ALLOWED[name] and value and not is_bad_link:
-            kept.append(f' {attribute}="{escape(value)}"')
-    rel = ' rel="nofollow ugc"' if name == "a" else ""
-    return f"<{name}{''.join(kept)}{rel}>"
-
-
-def tag_name(tag: str) -> str:
-    """The name of a tag in small letters, or an empty text of a comment."""
-    found = re.match(r"</?([A-Za-z][A-Za-z0-9-]*)", tag)
-    return found[1].lower() if found else ""
-
-
-def attributes_of_tag(tag: str) -> Iterator[tuple[str, str]]:
-    """The attributes of a tag, their entities read."""
-    for found in ATTRIBUTE.finditer(tag):
-        value = next((it for it in found.groups()[1:] if it is not None), "")
-        yield found[1].lower(), unescape(value)

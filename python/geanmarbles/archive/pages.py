@@ -13,7 +13,6 @@ from geanmarbles.archive.files import Files, Noted
 from geanmarbles.archive.html import (
     after_post,
     before_last,
-    harmless,
     shortened,
     text_of,
     with_head,
@@ -31,6 +30,7 @@ from geanmarbles.archive.search import LIST, Search
 from geanmarbles.archive.store import MOST_PER_PAGE, Lister, Printer, line_of
 from geanmarbles.disk_tables import DiskDict, DiskSet
 from geanmarbles.wordpress.addresses import UPLOADS, as_link
+from geanmarbles.wordpress.harmless import harmless
 from geanmarbles.wordpress.items import Comment
 from geanmarbles.wordpress.texts import paragraphs, texturize, with_characters
 
@@ -229,7 +229,8 @@ class Pages:
             author = f'<a href="{escape(comment.address)}" rel="external nofollow ugc">{author}</a>'
         date = escape(comment.date[:10])
         shown = plan.day(comment.date)
-        text = with_characters(paragraphs(texturize(harmless(comment.text.strip()), plan.quotes)))
+        shown_text = harmless(comment.text.strip(), "nofollow ugc")
+        text = with_characters(paragraphs(texturize(shown_text, plan.quotes)))
         return f'<p class="by"><b>{author}</b>, <time datetime="{date}">{shown}</time></p>\n{text}'
 
     def write_search(self) -> None:

@@ -56,7 +56,7 @@ class Plan:
     def base_of(address: str) -> str:
         """The scheme and host of the site, which links that leave the page need."""
         parts = urlsplit(address)
-        return f"{parts.scheme or 'https'}://{parts.netloc}"
+        return f"{'http' if parts.scheme == 'http' else 'https'}://{parts.netloc}"
 
     def posts_page_of(self) -> int:
         """The page at whose path the posts are listed, or 0."""

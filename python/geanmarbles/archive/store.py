@@ -159,7 +159,7 @@ def line_of(command: dict[str, Any]) -> bytes:
 
 def read_store(program: str, database: str, disk: Disk | None = None) -> Store:
     """Reads the site in a file, which no program may serve meanwhile."""
-    words = [program, "--database", database, "--export"]
+    words = [program, "--database", database, "--must-exist", "--export"]
     with subprocess.Popen(words, stdin=subprocess.DEVNULL, stdout=subprocess.PIPE, stderr=subprocess.PIPE) as ran:
         store = Store((it.rstrip(b"\n") for it in pipe(ran.stdout)), disk)
         said = pipe(ran.stderr).read().decode(errors="replace").strip()
@@ -172,13 +172,13 @@ class Printer:
     """The program over the site in the file: it prints a post's or a page's page as whoever serves the file does."""
 
     def __init__(self, program: str, database: str) -> None:
-        self.program = Program(program, "--database", database)
+        self.program = Program(program, "--database", database, "--must-exist")
 
     def __enter__(self) -> "Printer":
         return self
 
     def __exit__(self, *_: object) -> None:
-        self.program.__exit__()
+        self.program.end()
 
     def page(self, path: str) -> tuple[int, str]:
         """The status and the text of the page at a path."""
@@ -206,7 +206,7 @@ class Lister:
 
     def __exit__(self, *_: object) -> None:
         if self.program is not None:
-            self.program.__exit__()
+            self.program.kill()
 
     def begin(self) -> None:
         self.__exit__()

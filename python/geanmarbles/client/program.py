@@ -3,9 +3,9 @@
 A script uses it so, with the folder `python` of the checkout on its path:
 
     from geanmarbles.client.program import Program
-    from geanmarbles.paths import BUILT_PROGRAM
+    from geanmarbles.repository import shipped
 
-    with Program(str(BUILT_PROGRAM)) as site:
+    with Program(str(shipped.program())) as site:
         site.ask(b'{"cmd":"put","title":"Rye","date":"2024-04-02 06:00:00"}')
         reply = site.ask(b'{"cmd":"get","path":"/?p=1"}')
         if reply.is_page():
@@ -18,16 +18,20 @@ import json
 import os
 import re
 import select
+import signal
 import subprocess
 import sys
+import time
 from collections.abc import Sequence
 from pathlib import Path
 from typing import IO, NamedTuple, Self
 
-from geanmarbles.paths import BUILT_PROGRAM
+from geanmarbles.repository import shipped
 
 # How many lines the program reads, and the longest that it reads.
 LINES, LINE_BYTES = 1_000_000, 1_048_576
+# How long a program may take to end by itself. Over a site in a file it then copies FILE-wal into FILE.
+END_SECONDS = 60
 # What the first line of a reply can be (docs/BEHAVIOUR.md).
 HEAD = re.compile(r"ok( \d+)?|refused \d+ \w+|page \d{3} \d+")
 
@@ -93,7 +97,8 @@ def get_line(path: str) -> bytes:
 
 
 class Program:
-    """A running program, with some options. It ends with the `with` block that it is made for.
+    """A running program, with some options. It ends by itself with the `with` block that it is made for, so a site in a
+    file is then whole in FILE alone.
 
     `lines` is how many lines it was sent; after 1,000,000 it ends.
     """
@@ -111,26 +116,34 @@ class Program:
             bufsize=0,
             start_new_session=True,
         )
-        self.input, output = pipe(self.child.stdin), pipe(self.child.stdout)
-        self.replies = open(output.fileno(), "rb", closefd=False)
+        self.input, self.output = pipe(self.child.stdin), pipe(self.child.stdout)
+        self.replies = open(self.output.fileno(), "rb", closefd=False)
         self.lines = 0
 
     def __enter__(self) -> Self:
         return self
 
     def __exit__(self, *_: object) -> None:
-        # The site is in memory, or in a file in which each edit is that was replied to: nothing is left to do.
+        self.end()
+
+    def kill(self) -> None:
+        """Ends the program at once. A site in a file is then in FILE and FILE-wal together."""
         self.child.kill()
         self.child.wait()
 
-    def end(self, seconds: float) -> None:
+    def end(self, seconds: float = END_SECONDS) -> None:
         """Has the program end by itself, as it does once there are no more lines, or kills it after some seconds."""
         self.input.close()
+        until = time.monotonic() + seconds
+        poll = select.poll()
+        poll.register(self.output, select.POLLIN)
+        # It can't end before what it still writes is read.
+        while poll.poll(max(0.0, 1000 * (until - time.monotonic()))) and os.read(self.output.fileno(), 1 << 16):
+            pass
         try:
-            self.child.wait(seconds)
+            self.child.wait(max(0.1, until - time.monotonic()))
         except subprocess.TimeoutExpired:
-            self.child.kill()
-            self.child.wait()
+            self.kill()
 
     def ask(self, line: bytes) -> Reply:
         """The reply to a line, which has no newline."""
@@ -166,6 +179,11 @@ class Program:
         read_reply(self.replies)
 
 
+def end_by_signals() -> None:
+    """Has SIGTERM end this script as Ctrl-C does, so that its programs end by themselves before it."""
+    signal.signal(signal.SIGTERM, signal.default_int_handler)
+
+
 def lines_of(commands: bytes) -> list[bytes]:
     """The lines of a command file's bytes, as the program counts them."""
     lines = commands.split(b"\n")
@@ -177,11 +195,11 @@ def absolute(path: str) -> str:
 
 
 def add_program_option(parser: argparse._ActionsContainer) -> None:
-    default, what = str(BUILT_PROGRAM), "the built program, `site`"
+    default, what = str(shipped.program()), "the program, `site`: the built one, else the shipped one"
     parser.add_argument("--program", metavar="PATH", type=absolute, default=default, help=what)
 
 
 def check_program(path: str, instead: str = "") -> None:
     """Ends the script if there is no program at a path, and says what can be done instead."""
     if not os.access(path, os.X_OK) or os.path.isdir(path):
-        sys.exit(f"{Path(sys.argv[0]).name}: there is no program at {path}; ./site builds it{instead}")
+        sys.exit(f"{Path(sys.argv[0]).name}: there is no program at {path}; ./build builds it{instead}")

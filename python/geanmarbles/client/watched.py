@@ -12,7 +12,7 @@ from geanmarbles.client.program import Program, Reply, pipe
 
 # How long to wait for a line of the log. It is written before the reply, so it is there, unless memory ran out for it.
 SECONDS = 2
-# A path that finds nothing and that no browser asks for, and how the line of its page's end begins.
+# A path that finds nothing and that no browser asks for, and how the lines of its page begin.
 MARK = "/the log is read up to here"
 MARKED = f'{{"page":"{MARK}",'.encode()
 
@@ -48,7 +48,7 @@ class Watched(Program):
         """Passes over what the log has told so far, without a look at it: that may be very long."""
         self.command(cmd="get", path=MARK)
         try:
-            while not self.log.get(timeout=SECONDS).startswith(MARKED):
+            while not is_end_of_mark(self.log.get(timeout=SECONDS)):
                 pass
         except queue.Empty:
             pass
@@ -70,3 +70,8 @@ class Watched(Program):
             else:
                 page.lines.append(told)
         return reply, page
+
+
+def is_end_of_mark(line: bytes) -> bool:
+    """Whether a line of the log is the end of the mark's page: callbacks may have run for it before."""
+    return line.startswith(MARKED) and "invocations" in (told_by(line) or {})

@@ -122,7 +122,7 @@ class Replica:
         if self.following:
             self.following.close()
         if self.program:
-            self.program.__exit__()
+            self.program.kill()
         self.moved()
 
     def stop_following(self) -> None:
@@ -331,6 +331,6 @@ def begin_program(path: str, options: Sequence[str]) -> Program:
     try:
         program.check(FIRST_SECONDS)
     except BaseException:
-        program.__exit__()
+        program.kill()
         raise
     return program

@@ -141,7 +141,7 @@ class Rebuilt:
         return self
 
     def __exit__(self, *_: object) -> None:
-        self.program.__exit__()
+        self.program.kill()
         self.folder.cleanup()
 
     def told(self, lines: Sequence[bytes]) -> list[Reply]:

@@ -5,7 +5,7 @@
 
 FILE is a command file, examples/bakery.jsonl of this repository if it and --database are left out. A program reads it
 first; none of its lines may be refused. Then the site is at the address that standard output names, on 127.0.0.1 alone,
-until Ctrl-C. Port 0 means any free one.
+until Ctrl-C or SIGTERM. Port 0 means any free one.
 
 This script looks at requests and at pages, for what follows here; examples/serve moves bytes alone, and the program
 itself speaks HTTP then.
@@ -27,7 +27,8 @@ edit that was done. They take turns, and all give the same pages. At the end, an
 says how many pages were served a second.
 
 A program ends after 1,000,000 lines. The next takes its place before that, or before the number of lines that --lines
-names, and also if one ends for another reason; a page that it owed is then printed by the next.
+names, and also if one ends for another reason; a page that it owed is then printed by the next. At the end of this
+script the program of a site in a file ends by itself, so FILE alone then has every edit.
 
 With --explain each page has below it which callbacks ran for that request, what each received and what it did, as
 examples/explain shows them. The page is otherwise as it is without. It needs the built program.
@@ -51,8 +52,8 @@ What is no page is plain text:
     505    HTTP/2 or later
 
 A connection is closed without an answer if its request hasn't come, or its response hasn't been read, in ten seconds.
-The exit status is 0 after Ctrl-C, 1 if the site can't be served, or no more since a program ends as soon as it is
-started, and 2 if the arguments are bad.
+The exit status is 0 after Ctrl-C or SIGTERM, 1 if the site can't be served, or no more since a program ends as soon as
+it is started, and 2 if the arguments are bad.
 """
 
 import argparse
@@ -69,7 +70,16 @@ from pathlib import Path
 from typing import Any, NamedTuple, Protocol
 
 from geanmarbles.arguments import Parser, count_in
-from geanmarbles.client.program import LINES, Ended, NoReply, Reply, add_program_option, check_program, lines_of
+from geanmarbles.client.program import (
+    LINES,
+    Ended,
+    NoReply,
+    Reply,
+    add_program_option,
+    check_program,
+    end_by_signals,
+    lines_of,
+)
 from geanmarbles.paths import EXAMPLES
 from geanmarbles.repository.unproved import MINUTES, NotRun
 from geanmarbles.supervisor.programs import FIRST_SECONDS, MARGIN, Explained, NotServed, Plain, Site, Unknown
@@ -86,7 +96,7 @@ END_SECONDS = 2.0
 HERE = re.compile(r"(127\.0\.0\.1|localhost|\[::1\])(:[0-9]*)?", re.I)
 NOT_MADE = (
     "this page wasn't made beforehand: without a proof there are the pages of the command file's posts, months, parts"
-    " and links alone. ./site builds the program, which makes any page"
+    " and links alone. The program makes any page"
 )
 
 
@@ -360,6 +370,7 @@ def read_arguments() -> argparse.Namespace:
 
 def main() -> None:
     arguments = read_arguments()
+    end_by_signals()
     try:
         if arguments.unproved:
             serve_unproved(arguments.port, arguments.file)

@@ -7,9 +7,9 @@
 
 `list` prints the ID, kind, status, date and title of each post and page, the newest first, or of those whose title or
 content has every WORD. `get` prints one: a head of lines `title: ..`, `date: ..` and `status: ..`, a blank line, and
-the content as it is. `set` makes a post what such a file says, and leaves what its head doesn't name; `new` makes a
-new one, whose head needs a date and may have a line `kind: page`, and prints its ID. A title that isn't one line is a
-text of JSON.
+the content as it is. `set` makes a post what such a file says, and leaves what the file doesn't have: what its head
+doesn't name, and of a file that ends with its head or the blank line after it the content. `new` makes a new one, whose
+head needs a date and may have a line `kind: page`, and prints its ID. A title that isn't one line is a text of JSON.
 
 SITE is the site in a file, such as SITE.db, which nothing may serve meanwhile. A site that is served is read and edited
 through what serves it. SITE can also be:
@@ -32,7 +32,7 @@ from typing import Any
 
 from geanmarbles.archive.store import NotRead, Post, Store, line_of, read_store
 from geanmarbles.arguments import Parser
-from geanmarbles.client.program import add_program_option, check_program
+from geanmarbles.client.program import add_program_option, check_program, end_by_signals
 from geanmarbles.output import quiet_output
 from geanmarbles.supervisor.kept import NotKept, carried_out, check_site
 from geanmarbles.supervisor.served import edited, history_at, is_address, token_in
@@ -65,11 +65,10 @@ def as_file(post: Post, content: str) -> str:
 
 def read_file(path: Path) -> dict[str, Any]:
     """What a file says of a post."""
-    head, blank, content = path.read_text(encoding="utf-8").partition("\n\n")
-    if not blank:
-        raise NotKept(f"{path}: a head, a blank line and a content are needed")
-    given = {"content": content.removesuffix("\n")}
-    for number, line in enumerate(head.split("\n"), 1):
+    head, _, content = path.read_text(encoding="utf-8").partition("\n\n")
+    # (a file that ends with its head says nothing of the content; an empty content is one more empty line)
+    given = {"content": content.removesuffix("\n")} if content else {}
+    for number, line in enumerate(head.removesuffix("\n").split("\n"), 1):
         name, colon, value = line.partition(":")
         if not colon or name not in HEAD or name in given:
             raise NotKept(f"{path}, line {number}: the head has {', '.join(HEAD)}, each once, as in `title: Rye`")
@@ -152,9 +151,12 @@ def read_arguments() -> argparse.Namespace:
 @quiet_output()
 def main() -> int:
     arguments = read_arguments()
+    end_by_signals()
     try:
         said = done(arguments)
     except (NotKept, NotRead, OSError, ValueError) as fault:
         sys.exit(f"post: {fault}")
+    except KeyboardInterrupt:
+        sys.exit("post: stopped; if an edit was asked for, it isn't known whether it was made")
     sys.stdout.write(said)
     return 0

@@ -44,7 +44,7 @@ from geanmarbles.archive.pages import Pages
 from geanmarbles.archive.plan import Plan, Settings
 from geanmarbles.archive.store import Lister, NotRead, Printer, read_store
 from geanmarbles.arguments import Parser
-from geanmarbles.client.program import Ended, NoReply, add_program_option, check_program
+from geanmarbles.client.program import Ended, NoReply, add_program_option, check_program, end_by_signals
 from geanmarbles.disk_tables import Disk, DiskSet
 from geanmarbles.wordpress.addresses import Bases
 from geanmarbles.wordpress.export import Refused
@@ -195,6 +195,7 @@ def main() -> int:
     check_program(arguments.program)
     if not Path(arguments.database).is_file():
         sys.exit(f"publish: there is no file {arguments.database}")
+    end_by_signals()
     try:
         return 0 if published(arguments) else 1
     except (NotRead, Refused, OSError, sqlite3.Error) as fault:

@@ -33,8 +33,10 @@ from typing import Any, NamedTuple
 
 from geanmarbles.arguments import Parser
 from geanmarbles.client.program import LINES, Ended, NoReply, Program, add_program_option, check_program
+from geanmarbles.client.program import end_by_signals
 from geanmarbles.cluster.identity import NotTold, identity_of
 from geanmarbles.output import quiet_output
+from geanmarbles.supervisor.kept import log_of, remove
 
 # The bytes of a file that SQLite locks to read it: how many, and from where on.
 READ_LOCK = (510, 0x4000_0002)
@@ -77,10 +79,6 @@ class Chain:
 def digest_after(digest: bytes, line: bytes) -> bytes:
     """The digest of a history and one more line."""
     return hashlib.sha256(digest + line).digest()
-
-
-def log_of(file: Path) -> Path:
-    return Path(f"{file}-wal")
 
 
 @contextlib.contextmanager
@@ -174,7 +172,8 @@ def carried_out(program: str, out: Path, edits: Iterator[bytes]) -> Refused | No
     except (Ended, NoReply):
         raise NotSaved(f"the program ended over {out} after {count} edits or more") from None
     finally:
-        site.__exit__()
+        # (it has ended by itself, or what it has made is removed)
+        site.kill()
     return None
 
 
@@ -237,11 +236,6 @@ def saved(program: str, file: Path, out: Path) -> tuple[str, list[str]]:
     return str(chain), left
 
 
-def remove(out: Path) -> None:
-    for path in (out, log_of(out)):
-        path.unlink(missing_ok=True)
-
-
 def say(what: object) -> None:
     print(f"salvage: {what}", file=sys.stderr)
 
@@ -258,6 +252,7 @@ def read_arguments() -> argparse.Namespace:
 def main() -> int:
     arguments = read_arguments()
     check_program(arguments.program)
+    end_by_signals()
     try:
         for path in (arguments.out, log_of(arguments.out)):
             if os.path.lexists(path):
@@ -269,6 +264,9 @@ def main() -> int:
             raise
     except (NotSaved, NotTold, OSError) as fault:
         say(fault)
+        return 1
+    except KeyboardInterrupt:
+        say("stopped")
         return 1
     for what in left:
         say(what)

@@ -1,15 +1,15 @@
 """Serves a site to browsers.
 
-    examples/serve [--program PATH] [--database FILE] [--token-file FILE] [--address ADDRESS] [--port N | --unix PATH]
-                   [--connections N] [--seconds N] [--idle N] [FILE]
+    examples/serve [--program PATH] [--database FILE [--new]] [--token-file FILE] [--address ADDRESS]
+                   [--port N | --unix PATH] [--connections N] [--seconds N] [--idle N] [FILE]
 
 The program speaks HTTP itself (docs/BEHAVIOUR.md, Over HTTP). This script takes the connections of clients and moves
 their bytes to it and back, without a look at one; it starts the program, and the next one if it ends.
 
 FILE is a command file, examples/bakery.jsonl of this repository if it and --database are left out; none of its lines
 may be refused. With --database the site is the one in that file, which lasts, and the lines of a command file are edits
-of it that stay. Without it the site is in a file that is removed at the end. With --token-file whoever has the token in
-that file may edit the site.
+of it that stay. If the file isn't there or is empty, a site is made in it with --new alone. Without --database the site
+is in a file that is removed at the end. With --token-file whoever has the token in that file may edit the site.
 
 Clients find it at the address that standard output names: 127.0.0.1 and port 8080 if no other is given; port 0 means
 any free one. With --unix it is a socket at PATH, and if systemd hands sockets over (LISTEN_FDS) it is those. Which name
@@ -23,7 +23,7 @@ clients leave unread.
 
 If the program ends, its clients' connections end, and the next one is started, if it ends at once some seconds later. A
 program that doesn't answer for 60 seconds is killed. After SIGTERM or Ctrl-C no connection is taken, each is closed
-once it is idle, ten seconds later at most, and then the program ends.
+once it is idle, ten seconds later at most, and then the program ends: every edit is then in FILE alone.
 
 The exit status is 0 after a signal, 1 if the site can't be served: the first program ends at once, or five others do in
 a row. It is 2 if the arguments are bad.
@@ -41,7 +41,16 @@ from collections.abc import Iterator
 from pathlib import Path
 
 from geanmarbles.arguments import Parser, count_in
-from geanmarbles.client.program import Ended, NoReply, Program, absolute, add_program_option, check_program, lines_of
+from geanmarbles.client.program import (
+    Ended,
+    NoReply,
+    Program,
+    absolute,
+    add_program_option,
+    check_program,
+    end_by_signals,
+    lines_of,
+)
 from geanmarbles.paths import EXAMPLES
 from geanmarbles.pump.listening import at_path, at_port, handed_over, name_of
 from geanmarbles.pump.moving import Limits
@@ -50,23 +59,24 @@ from geanmarbles.pump.running import NotRun, Running
 BAKERY = EXAMPLES / "bakery.jsonl"
 # How long the program may take for its first reply to a command file, and how many clients it takes at once.
 FIRST_SECONDS, MOST = 60, 1_000
+# What keeps a program from making a site where there is none.
+MUST_EXIST = "--must-exist"
 
 
 def say(what: str) -> None:
     print(f"serve: {what}", file=sys.stderr, flush=True)
 
 
-def feed(program: str, database: str, file: Path) -> None:
+def feed(words: list[str], file: Path) -> None:
     """Has a program carry out a command file, and ends the script at the first line that it refuses."""
-    lines = lines_of(file.read_bytes())
+    lines, program = lines_of(file.read_bytes()), words[0]
     try:
-        with Program(program, "--database", database) as site:
+        with Program(*words) as site:
             site.check(FIRST_SECONDS)
             for number, line in enumerate(lines, 1):
                 reply = site.ask(line)
                 if reply.is_refused():
                     sys.exit(f"serve: {file}, line {number}: {reply.text()}")
-            site.end(FIRST_SECONDS)
     except Ended:
         sys.exit(f"serve: the program ended before it had replied to {file}")
     except NoReply:
@@ -79,7 +89,8 @@ def database_of(arguments: argparse.Namespace) -> Iterator[str]:
     with tempfile.TemporaryDirectory() as folder:
         database = arguments.database or str(Path(folder, "site.db"))
         if arguments.file:
-            feed(arguments.program, database, arguments.file)
+            is_new = arguments.new or not arguments.database
+            feed([arguments.program, "--database", database, *([] if is_new else [MUST_EXIST])], arguments.file)
         yield database
 
 
@@ -105,21 +116,23 @@ def sockets_of(arguments: argparse.Namespace) -> Iterator[list[socket.socket]]:
 
 def serve(arguments: argparse.Namespace) -> None:
     with sockets_of(arguments) as sockets, database_of(arguments) as database:
-        words = [arguments.program, "--http", "--framed", "--database", database]
+        first = [arguments.program, "--http", "--framed", "--database", database]
         if arguments.token_file:
-            words += ["--token-file", arguments.token_file]
+            first += ["--token-file", arguments.token_file]
+        later = [*first, MUST_EXIST]
 
         def announce() -> None:
             print(*[name_of(it) for it in sockets], sep="\n", flush=True)
 
         limits = Limits(arguments.connections, arguments.seconds, arguments.idle)
-        asyncio.run(Running(words, limits, say).serve(sockets, announce))
+        asyncio.run(Running(first if arguments.new else later, later, limits, say).serve(sockets, announce))
 
 
 def read_arguments() -> argparse.Namespace:
     parser = Parser(description="Serves a site to browsers.")
     add_program_option(parser)
     parser.add_argument("--database", metavar="FILE", type=absolute, help="serve the site in this file, which lasts")
+    parser.add_argument("--new", action="store_true", help="make a site in that file if there is none")
     token = "take edits from those who have the token in this file"
     parser.add_argument("--token-file", metavar="FILE", type=absolute, help=token)
     parser.add_argument("--address", default="127.0.0.1", help="127.0.0.1 if it is left out")
@@ -134,6 +147,8 @@ def read_arguments() -> argparse.Namespace:
     parser.add_argument("--idle", metavar="N", type=count_in(1, 86_400), default=60, help=idle)
     parser.add_argument("file", metavar="FILE", nargs="?", type=Path, help="a command file")
     arguments = parser.parse_args()
+    if arguments.new and arguments.database is None:
+        parser.error("--new needs --database")
     if arguments.file is None and arguments.database is None:
         arguments.file = BAKERY
     return arguments
@@ -144,6 +159,7 @@ def main() -> None:
     check_program(arguments.program)
     soft, hard = resource.getrlimit(resource.RLIMIT_NOFILE)
     resource.setrlimit(resource.RLIMIT_NOFILE, (hard, hard))
+    end_by_signals()
     try:
         serve(arguments)
     except KeyboardInterrupt:

@@ -5,13 +5,13 @@
 The nodes listen on 127.0.0.1, at port N and the next two, 8081 if it is left out; etcd takes the ports from N + 100 and
 N + 200 on. A new site gets the edits of FILE, examples/bakery.jsonl of this repository if it is left out. Standard
 output then says where the pages are, how to make an edit, and how to kill a process of each kind; a process that ends
-is started again after five seconds, as the units beside this script have it. Ctrl-C ends them all.
+is started again after five seconds, as the units beside this script have it. Ctrl-C and SIGTERM end them all.
 
 What etcd has is in FOLDER, with the token of those who may edit and what each process writes; another start with it
 goes on with the site. If it is left out, a folder is made, and is gone at the end.
 
-etcd is Debian's package etcd-server, and the program is built by ./site. The exit status is 0 after Ctrl-C, 1 if
-something can't be started, and 2 if the arguments are bad.
+etcd is Debian's package etcd-server. The exit status is 0 after Ctrl-C or SIGTERM, 1 if something can't be started, and
+2 if the arguments are bad.
 """
 
 import argparse
@@ -29,12 +29,12 @@ from pathlib import Path
 from typing import Any, NoReturn, Self
 
 from geanmarbles.arguments import Parser
-from geanmarbles.client.program import add_program_option, check_program, lines_of
+from geanmarbles.client.program import add_program_option, check_program, end_by_signals, lines_of
 from geanmarbles.paths import ROOT
 
 ADDRESS = "127.0.0.1"
 COUNT = 3
-READY_SECONDS, AGAIN_SECONDS, END_SECONDS = 60, 5, 10
+READY_SECONDS, AGAIN_SECONDS, END_SECONDS = 60, 5, 60
 # An edit to try, as a line.
 TRIAL = '{"cmd":"put","title":"News","content":"<p>Here at once.</p>","date":"2026-11-26 12:00:00"}'
 
@@ -197,6 +197,7 @@ def main() -> None:
     check_program(arguments.program)
     if not shutil.which("etcd"):
         stop("etcd isn't there; on Debian, apt-get install etcd-server installs it")
+    end_by_signals()
     try:
         if arguments.folder is None:
             with tempfile.TemporaryDirectory(prefix="site-cluster-") as name:

@@ -4,23 +4,25 @@
     examples/undo [--program PATH] [--token-file FILE] ADDRESS NEW.db [N]
 
 The program carries out all edits of the site but the last N, the last one if N is left out, over NEW.db, which may not
-be there yet. Standard output has the edits that were left out, the newest first.
+be there yet, and isn't there if this fails. Standard output has the edits that were left out, the newest first.
 
 SITE.db is the site in a file, which nothing may serve meanwhile. ADDRESS is the address at which `examples/browse
---token-file FILE` serves a site, with the same file for --token-file. Either stays as it is: to go back, serve NEW.db
-instead. After `site --compact` there are only the edits since then.
+--token-file FILE` serves a site, with the same file for --token-file. Either site stays as it is. To go back, serve
+NEW.db instead, or move it: `mv NEW.db SITE.db`, and SITE.db-wal stays. After `site --compact` there are only the edits
+since then.
 
 The exit status is 0, 1 if a file can't be read or written, and 2 if the arguments are bad.
 """
 
 import argparse
+import contextlib
 import sys
 from pathlib import Path
 
 from geanmarbles.arguments import Parser
-from geanmarbles.client.program import add_program_option, check_program
+from geanmarbles.client.program import add_program_option, check_program, end_by_signals
 from geanmarbles.output import quiet_output
-from geanmarbles.supervisor.kept import NotKept, carried_out
+from geanmarbles.supervisor.kept import NotKept, carried_out, remove
 from geanmarbles.supervisor.served import history_of
 
 SHOWN = 120
@@ -34,9 +36,14 @@ def undone(arguments: argparse.Namespace) -> list[bytes]:
     if arguments.new.exists():
         raise NotKept(f"{arguments.new} is there already")
     kept, left = lines[: -arguments.count], lines[-arguments.count :]
-    for number, reply in enumerate(carried_out(arguments.program, arguments.new, kept or [b"{}"]), 1):
-        if kept and not reply.startswith("ok"):
-            raise NotKept(f"edit {number} is {reply!r} in {arguments.new}")
+    try:
+        with contextlib.closing(carried_out(arguments.program, arguments.new, kept or [b"{}"])) as replies:
+            for number, reply in enumerate(replies, 1):
+                if kept and not reply.startswith("ok"):
+                    raise NotKept(f"edit {number} is {reply!r} in {arguments.new}")
+    except BaseException:
+        remove(arguments.new)
+        raise
     return left[::-1]
 
 
@@ -56,10 +63,13 @@ def main() -> int:
     parser.add_argument("count", metavar="N", nargs="?", type=positive, default=1, help="how many edits, 1 if left out")
     arguments = parser.parse_args()
     check_program(arguments.program)
+    end_by_signals()
     try:
         left = undone(arguments)
     except (NotKept, OSError, ValueError) as fault:
         sys.exit(f"undo: {fault}")
+    except KeyboardInterrupt:
+        sys.exit("undo: stopped")
     for line in left:
         shown = line.decode()
         print(shown if len(shown) <= SHOWN else f"{shown[:SHOWN]} .. ({len(line):,} bytes)")

@@ -12,12 +12,14 @@ import time
 from collections.abc import Callable, Sequence
 from typing import Any
 
+from geanmarbles.client.program import END_SECONDS
 from geanmarbles.pump.moving import Client, Limits, Program, Pump, end_of
 
 # How many programs in a row may end before they are there, and how long is waited before the next one, in seconds, if
 # the ones before ran for less than LONG.
 TRIES, PAUSES, LONG = 5, (0.0, 0.1, 0.2, 0.5, 1.0, 2.0), 10
-# How long clients have to end at the end, and then the program, and how often that is looked at.
+# How long clients have to end at the end, and how often that is looked at; and how long a program that replies no more
+# has to end.
 LAST_SECONDS, MOMENT = 10, 0.02
 BACKLOG = 512
 # How much the system keeps for a client to read: it would take megabytes.
@@ -31,22 +33,24 @@ class NotRun(Exception):
 class Running:
     """A pump over a program, and the next one when that ends."""
 
-    def __init__(self, words: Sequence[str], limits: Limits, tell: Callable[[str], None]) -> None:
-        self.words, self.pump, self.tell = words, Pump(limits), tell
+    def __init__(self, first: Sequence[str], later: Sequence[str], limits: Limits, tell: Callable[[str], None]) -> None:
+        """`first` begins the first program, and `later` each one after it."""
+        self.first_words, self.later_words, self.pump, self.tell = first, later, Pump(limits), tell
         self.is_ending = asyncio.Event()
 
     async def started(self) -> tuple[asyncio.subprocess.Process, Program]:
         """The next program, over one end of a pair of sockets."""
+        words = self.later_words if self.pump.begun.is_set() else self.first_words
         ours, its = socket.socketpair()
         with its:
             try:
                 # In a session of its own, so that Ctrl-C reaches this process alone, which ends the program.
                 process = await asyncio.create_subprocess_exec(
-                    *self.words, stdin=its.fileno(), stdout=its.fileno(), start_new_session=True
+                    *words, stdin=its.fileno(), stdout=its.fileno(), start_new_session=True
                 )
             except OSError as fault:
                 ours.close()
-                raise NotRun(f"{self.words[0]}: {fault.strerror}") from None
+                raise NotRun(f"{words[0]}: {fault.strerror}") from None
         _, program = await asyncio.get_running_loop().create_connection(lambda: Program(self.pump), sock=ours)
         return process, program
 
@@ -58,7 +62,7 @@ class Running:
             await program.ended.wait()
             self.pump.lose(program)
             with contextlib.suppress(TimeoutError):
-                await asyncio.wait_for(process.wait(), LAST_SECONDS)
+                await asyncio.wait_for(process.wait(), END_SECONDS if self.is_ending.is_set() else LAST_SECONDS)
         finally:
             with contextlib.suppress(ProcessLookupError):
                 process.kill()
@@ -134,6 +138,7 @@ class Running:
             for server in servers:
                 server.close()
         await self.end()
+        # (the program copies its log into FILE before its end)
         with contextlib.suppress(TimeoutError):
-            await asyncio.wait_for(running, LAST_SECONDS)
+            await asyncio.wait_for(running, END_SECONDS)
         seconds.cancel()

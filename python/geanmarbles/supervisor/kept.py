@@ -7,7 +7,7 @@ import shutil
 import sqlite3
 import subprocess
 import tempfile
-from collections.abc import Iterator
+from collections.abc import Generator, Iterator
 from pathlib import Path
 from typing import Any
 
@@ -19,29 +19,25 @@ class NotKept(Exception):
 
 
 def check_site(program: str, database: Path) -> None:
-    """Makes sure that a file is a site of the program, and that nothing serves it."""
+    """Makes sure that a file is a site of the program, and that nothing serves it. The site is then whole in FILE: a
+    start without any line copies what an earlier program has left in FILE-wal."""
     if not database.is_file():
         raise NotKept(f"there is no file {database}")
-    words = [program, "--database", str(database), "--check"]
-    ran = subprocess.run(
-        words, stdin=subprocess.DEVNULL, stdout=subprocess.DEVNULL, stderr=subprocess.PIPE, check=False
-    )
+    words = [program, "--database", str(database), "--must-exist"]
+    how: dict[str, Any] = {"stdin": subprocess.DEVNULL, "stdout": subprocess.DEVNULL, "stderr": subprocess.PIPE}
+    ran = subprocess.run(words, check=False, **how)
     if ran.returncode:
         raise NotKept(ran.stderr.decode(errors="replace").strip() or f"the program ended with status {ran.returncode}")
 
 
 def history(program: str, database: Path) -> list[bytes]:
-    """The edits of a site, the oldest first: every line that was done, byte for byte.
-
-    A copy of the file is read, so the file stays as it is.
-    """
+    """The edits of a site, the oldest first: every line that was done, byte for byte."""
     check_site(program, database)
     with tempfile.TemporaryDirectory() as folder:
         copy = Path(folder, "site.db")
         shutil.copyfile(database, copy)
-        log = database.with_name(database.name + "-wal")
-        if log.is_file():
-            shutil.copyfile(log, copy.with_name("site.db-wal"))
+        if log_of(database).is_file():
+            shutil.copyfile(log_of(database), log_of(copy))
         try:
             with contextlib.closing(sqlite3.connect(copy)) as opened:
                 rows = opened.execute("SELECT line FROM command ORDER BY number").fetchall()
@@ -51,8 +47,19 @@ def history(program: str, database: Path) -> list[bytes]:
     return [line.encode() for (line,) in rows[1:]]
 
 
-def carried_out(program: str, database: Path, lines: list[bytes]) -> Iterator[str]:
-    """The replies of the program over a file to some edits, which it carries out one by one."""
+def log_of(database: Path) -> Path:
+    return Path(f"{database}-wal")
+
+
+def remove(database: Path) -> None:
+    """Removes a site in a file."""
+    for path in (database, log_of(database)):
+        path.unlink(missing_ok=True)
+
+
+def carried_out(program: str, database: Path, lines: list[bytes]) -> Generator[str, None, None]:
+    """The replies of the program over a file to some edits, which it carries out one by one. After the last one the
+    program has ended, and the site is whole in FILE."""
     try:
         with Program(program, "--database", str(database)) as site:
             for line in lines:

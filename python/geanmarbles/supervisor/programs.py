@@ -20,7 +20,7 @@ from pathlib import Path
 from typing import Self
 
 from geanmarbles.client.log import STYLE, Page, as_html, tree_of
-from geanmarbles.client.program import LINES, LINE_BYTES, Ended, NoReply, Program, Reply, get_line
+from geanmarbles.client.program import END_SECONDS, LINES, LINE_BYTES, Ended, NoReply, Program, Reply, get_line
 from geanmarbles.client.watched import Watched
 from geanmarbles.supervisor.kept import NotKept, history
 
@@ -28,8 +28,8 @@ from geanmarbles.supervisor.kept import NotKept, history
 MARGIN = 10
 # How often a program is started, and how many are asked for a page, before either is given up.
 TRIES = 3
-# How long a program may take for its first reply, and for its end once it has no more lines.
-FIRST_SECONDS, LAST_SECONDS = 20, 10
+# How long a program may take for its first reply.
+FIRST_SECONDS = 20
 # Commands that reply `ok` and change nothing that is stored.
 BY_TURNS = ("begin", "turns")
 
@@ -112,7 +112,7 @@ class Place:
         self.end()
         program = self.begun()
         if program.lines > self.most - MARGIN:
-            program.end(LAST_SECONDS)
+            program.end()
             raise NotServed(f"the site takes {program.lines} lines, and a program takes {self.most}")
         self.kind.ready(program)
         self.program = program
@@ -129,12 +129,12 @@ class Place:
 
     def end(self) -> None:
         if self.program is not None:
-            self.program.end(LAST_SECONDS)
+            self.program.end()
         self.program = None
 
     def kill(self) -> None:
         if self.program is not None:
-            self.program.__exit__()
+            self.program.kill()
 
     def is_ready(self) -> bool:
         """Whether there is a program that runs, and that has room for another line."""
@@ -208,8 +208,15 @@ class Site:
         return self
 
     def __exit__(self, *_: object) -> None:
-        for place in (self.writer, *self.readers):
+        for place in self.readers:
             place.kill()
+        if self.database is None:
+            self.writer.kill()
+        elif self.editing.acquire(timeout=END_SECONDS):
+            # The edit that was under way is done, and no other comes.
+            self.writer.end()
+        else:
+            self.writer.kill()
 
     def places(self) -> list[Place]:
         """The places that print pages."""
@@ -259,7 +266,7 @@ class Site:
         except BaseException as fault:
             if isinstance(fault, Ended) and was_killed(program):
                 raise Killed from None
-            program.__exit__()
+            program.kill()
             raise
         return program
 

@@ -1,9 +1,11 @@
-"""A site that is served, edited and read through what serves it: a node of a cluster, or examples/browse.
+"""A site that is served, edited and read through what serves it: a node of a cluster, examples/browse, or for edits
+alone examples/serve.
 
 docs/CLUSTER.md has what a node takes and replies, and web.edit_requests what
 examples/browse takes besides.
 """
 
+import contextlib
 import http.client
 import secrets
 import time
@@ -14,10 +16,13 @@ from pathlib import Path
 from geanmarbles.client.program import check_program
 from geanmarbles.supervisor.kept import NotKept, history
 
-# How often an edit is asked for whose outcome isn't known, how long each time, and how long until the next time.
+# How often a node of a cluster is asked for an edit whose outcome isn't known, how long each time, and how long until
+# the next time.
 TRIES, SECONDS, PAUSE_SECONDS = 4, 30, 1
-# Statuses after which the same may be asked again, with the same key.
-AGAIN = (503, 504)
+# Statuses that don't say whether an edit was made.
+UNKNOWN = (502, 503, 504)
+# What each page of a node has, and no page of another server.
+OF_A_NODE = "X-Site-Revision"
 NO_HISTORY = (
     "prints pages, and hands out no edits: `cluster/node --export` writes the lines of a cluster's site for a file as"
     " SITE, and `examples/browse --token-file` hands out the edits of the site that it serves"
@@ -62,22 +67,37 @@ def history_of(program: str, site: str, token_file: Path | None) -> list[bytes]:
     return history(program, Path(site))
 
 
+def keeps_keys(address: str) -> bool:
+    """Whether a cluster serves a site. It knows the key of an edit again, also after the end of a node; examples/browse
+    forgets it at its end, and the program over HTTP has none."""
+    with contextlib.suppress(urllib.error.URLError, http.client.HTTPException, OSError):
+        asked = urllib.request.Request(f"{address.rstrip('/')}/", method="HEAD")
+        try:
+            with urllib.request.urlopen(asked, timeout=SECONDS) as response:
+                return OF_A_NODE in response.headers
+        except urllib.error.HTTPError as error:
+            return OF_A_NODE in error.headers
+    return False
+
+
 def edited(address: str, token: str, line: bytes) -> str:
-    """The reply of what serves a site to one edit. The edit has a key of its own, so it is made once, however often it
-    is asked for."""
+    """The reply of what serves a site to one edit. It is sent once, but to a cluster, where an edit with a key is made
+    once however often it is asked for."""
     head = {"Authorization": f"Bearer {token}", "Idempotency-Key": secrets.token_hex(16)}
     asked = urllib.request.Request(f"{address.rstrip('/')}/command", data=line, headers=head, method="POST")
     said = ""
     for attempt in range(TRIES):
         if attempt:
             time.sleep(PAUSE_SECONDS)
+            if not keeps_keys(address):
+                continue
         try:
             with urllib.request.urlopen(asked, timeout=SECONDS) as response:
                 said = response.read().decode().strip()
                 return said
         except urllib.error.HTTPError as error:
             said = f"{error.code}: {error.read().decode(errors='replace').strip()[:200]}"
-            if error.code not in AGAIN:
+            if error.code not in UNKNOWN:
                 raise NotKept(f"{address} refuses the edit with {said}") from None
         except (urllib.error.URLError, http.client.HTTPException, OSError) as error:
             said = str(getattr(error, "reason", error) or type(error).__name__)

@@ -11,8 +11,9 @@ from typing import Any, NamedTuple
 from urllib.parse import urlsplit
 
 from geanmarbles.wordpress.addresses import Places
+from geanmarbles.wordpress.harmless import is_harmless
 from geanmarbles.wordpress.items import Item, read_site
-from geanmarbles.wordpress.shown import Notes, Shown, is_harmless, trimmed
+from geanmarbles.wordpress.shown import Notes, Shown, trimmed
 from geanmarbles.wordpress.words import month_and_year, words_of
 
 # How deep menus and pages are nested in a list.

@@ -17,6 +17,7 @@ from xml.parsers import expat
 
 from geanmarbles.disk_tables import Disk, DiskDict
 from geanmarbles.wordpress.export import SPACES, Refused, short
+from geanmarbles.wordpress.harmless import is_harmless
 
 PIECE_BYTES = 1 << 16
 # The largest text of an element that is kept: the longest content that the program takes, and some more.
@@ -256,7 +257,7 @@ def item_of(element: Element, terms: dict[tuple[str, str], Term]) -> Item:
         whole_number(of("wp:menu_order")),
         of("excerpt:encoded"),
         of("wp:post_password"),
-        of("wp:attachment_url").strip(),
+        file if is_harmless(file := of("wp:attachment_url").strip()) else "",
         of("wp:is_sticky").strip() == "1",
         of("guid").strip(),
         of("wp:post_date_gmt").strip(),

@@ -5,6 +5,7 @@ blocks, typography and paragraphs, and shortcodes, whose output is held aside me
 it.
 """
 
+import json
 import re
 from bisect import bisect_left
 from collections import Counter
@@ -15,6 +16,7 @@ from urllib.parse import unquote, urlsplit
 
 from geanmarbles.wordpress.addresses import Places
 from geanmarbles.wordpress.contents import CORE
+from geanmarbles.wordpress.harmless import harmless, is_harmless
 from geanmarbles.wordpress.items import Item, WholeSite, pictures_of
 from geanmarbles.wordpress.texts import TAGS, paragraphs, quotes_of, texturize, with_characters
 
@@ -29,6 +31,8 @@ MARK_BLOCKS = re.compile(r"<!-- /?wp:(?:more|nextpage)\b[^<>]*-->\n?")
 DEPTH = 6
 HELD = "\x01{}\x01"
 IS_HELD = re.compile("\x01(\\d+)\x01")
+# What no text has, and what was written as `%XX` or in JSON may be.
+CONTROLS = re.compile("[\x00-\x1f\ud800-\udfff]")
 # An address alone in a line.
 ADDRESS_LINE = re.compile(r"^[ \t]*(https?://[^\s<>\"']+)[ \t]*$", re.M)
 EMBED = re.compile(r"(<div class=\"wp-block-embed__wrapper\">)\s*(https?://[^\s<>\"']+)\s*(</div>)")
@@ -144,12 +148,6 @@ def one_of(given: dict[str, str], names: tuple[str, ...]) -> str:
 def quoted(text: str) -> str:
     """A text as an attribute's value, its entities spared."""
     return escape(unescape(text))
-
-
-def is_harmless(address: str) -> bool:
-    """Whether an address may stand in a link: one of the site, of the web, or one to write or call to."""
-    scheme = urlsplit(address.strip()).scheme if re.match(r"[\w+.-]+:", address.strip()) else ""
-    return scheme.lower() in ("", "http", "https", "mailto", "tel")
 
 
 # A picture as Jetpack's service has it: the address that it comes from follows the host.
@@ -429,7 +427,8 @@ class Shown:
         if not (stored or text) or not width or int(width[0]) < 1:
             return self.with_links(picture)
         kind = " ".join(re.findall(r"[\w-]+", f"wp-caption {given.get('align', 'alignnone')} {given.get('class', '')}"))
-        # A caption in an attribute, as WordPress wrote them before 2012, keeps its quotes.
+        # A caption in an attribute, as WordPress wrote them before 2012, keeps its quotes. WordPress cleans its markup.
+        stored = harmless(stored) if "<" in stored else stored
         shown = self.with_links(stored or texturize(self.with_codes(text, False, 1), self.quotes))
         caption = f'<figcaption class="wp-caption-text">{shown}</figcaption>'
         return f'<figure class="{kind}" style="width: {int(width[0])}px">{self.with_links(picture)}{caption}</figure>'
@@ -501,7 +500,8 @@ class Shown:
         source = unescape(source)
         if kind == "video" and re.match(r"https?://(?:www\.)?(?:youtube\.com|youtu\.be|vimeo\.com)/", source):
             return f"<p>{anchor(source)}</p>"
-        poster = f' poster="{quoted(self.address(given["poster"]))}"' if given.get("poster") else ""
+        shown = given.get("poster", "")
+        poster = f' poster="{quoted(self.address(shown))}"' if shown and is_harmless(shown) else ""
         return f'<{kind} controls preload="none"{poster} src="{quoted(self.address(source))}"></{kind}>'
 
     def playlist(self, given: dict[str, str], _: str) -> str:
@@ -583,17 +583,25 @@ def more_mark(number: int, text: str) -> str:
 def target_of(given: str) -> str:
     """Where a button leads; a builder keeps several settings in one attribute."""
     found = re.search(r"(?:^|\|)url:([^|]*)", given)
-    address = unescape(unquote(found[1]) if found else given)
+    address = CONTROLS.sub("", unescape(unquote(found[1]) if found else given))
     return address if is_harmless(address) else "#"
 
 
 def social_link(given: str) -> str:
-    address, service = (re.search(rf'"{name}":"((?:[^"\\]|\\.)*)"', given) for name in ("url", "service"))
-    if not address or not is_harmless(address[1]):
+    to, service = (setting(given, name) for name in ("url", "service"))
+    if not to or not is_harmless(to):
         return ""
-    to = address[1].replace("\\/", "/").replace("\\u0026", "&")
-    name = service[1].capitalize() if service else urlsplit(to).netloc
+    name = service.capitalize() or urlsplit(to).netloc
     return f'<li class="wp-social-link"><a href="{quoted(to)}">{escape(name)}</a></li>'
+
+
+def setting(given: str, name: str) -> str:
+    """A text among a block's settings, or an empty one."""
+    found = re.search(rf'"{name}":("(?:[^"\\]|\\.)*")', given)
+    try:
+        return CONTROLS.sub("", json.loads(found[1], strict=False)) if found else ""
+    except ValueError:
+        return ""
 
 
 def anchor(address: str) -> str:

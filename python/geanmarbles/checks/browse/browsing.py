@@ -12,6 +12,7 @@ import socket
 import subprocess
 import tempfile
 import threading
+import time
 from collections.abc import Mapping
 from pathlib import Path
 from typing import Any, NamedTuple, Self
@@ -21,6 +22,8 @@ from geanmarbles.client.replies import Wrong
 from geanmarbles.paths import EXAMPLES
 
 SECONDS = 30
+# How long the programs of one that was killed may take to end.
+ENDING = 5
 PLAIN = "text/plain; charset=utf-8"
 
 
@@ -46,6 +49,23 @@ def read_response(came: http.client.HTTPResponse) -> Response:
 def take_interrupts() -> None:
     """Has a child end by SIGINT also if this script runs in the background, in which shells ignore it."""
     signal.signal(signal.SIGINT, signal.default_int_handler)
+
+
+def children_of(pid: int) -> list[int]:
+    """The processes that a process has started and that are there."""
+    try:
+        found = [it.joinpath("children").read_text("ascii") for it in Path(f"/proc/{pid}/task").iterdir()]
+        return [int(it) for listed in found for it in listed.split()]
+    except OSError:
+        return []
+
+
+def has_ended(pid: int) -> bool:
+    """Whether a process is gone, or waits for nothing but that its end is heard of."""
+    try:
+        return Path(f"/proc/{pid}/stat").read_text("utf-8", "replace").rpartition(")")[2].split()[0] in "ZX"
+    except OSError:
+        return True
 
 
 class Browse:
@@ -83,9 +103,14 @@ class Browse:
 
     def __exit__(self, *_: object) -> None:
         self.timer.cancel()
+        programs = children_of(self.process.pid)
         self.process.kill()
         self.process.wait()
         self.output.close()
+        # Its programs end once they see that it is gone. Until then a site's file is in use.
+        until = time.monotonic() + ENDING
+        while not all(map(has_ended, programs)) and time.monotonic() < until:
+            time.sleep(0.01)
 
     def errors(self) -> str:
         """What it has written to standard error."""

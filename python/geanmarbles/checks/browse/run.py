@@ -2,7 +2,7 @@
 
     tests/browse/run [PROGRAM]
 
-PROGRAM is crates/site/out/site of this repository if it is left out; with --unproved a script takes the place of the
+PROGRAM is the one that is here, built or shipped, if it is left out; with --unproved a script takes the place of the
 toolchain's command and runs PROGRAM, so nothing is compiled here. Each check is a function below, named by its first
 line, and fails if something came otherwise than it must. The pages that examples/bakery.out has are what a browser
 must get. The last line is 'N passed, M failed', over the checks. The exit status is 0 if nothing failed.
@@ -383,7 +383,7 @@ def bad_arguments_are_told(program: str) -> None:
         expect(ran(*words)[:2], (2, ""), f"status and standard output of {words}")
     instead = {"browse": ", and --unproved takes none", "pages": ""}
     for words in (["browse"], ["pages", str(EXAMPLES / "bakery.jsonl"), "/nonexistent"]):
-        wanted = (1, "", f"{words[0]}: there is no program at /nonexistent; ./site builds it{instead[words[0]]}\n")
+        wanted = (1, "", f"{words[0]}: there is no program at /nonexistent; ./build builds it{instead[words[0]]}\n")
         expect(ran(words[0], "--program", "/nonexistent", *words[1:]), wanted, f"{words[0]} without a program")
 
 

@@ -23,18 +23,20 @@ from typing import Any, NamedTuple
 from urllib.parse import quote, unquote, urlsplit
 
 from geanmarbles.archive.check import file_of
-from geanmarbles.archive.html import harmless, shortened
+from geanmarbles.archive.html import shortened
 from geanmarbles.archive.search import file_number, words_in
 from geanmarbles.checks.cluster.processes import free_port, listens, wait_for
 from geanmarbles.checks.from_wordpress.access_checks import faults_of, faults_of_colours
 from geanmarbles.checks.from_wordpress.browser_checks import browser, check_in_browser
 from geanmarbles.checks.from_wordpress.page_lines import lines_of, outline_of
 from geanmarbles.checks.from_wordpress.text_cases import by_wordpress, cases
-from geanmarbles.checks.judging import must
+from geanmarbles.checks.judging import Skipped, must
+from geanmarbles.checks.parts import PATH
 from geanmarbles.client.program import pipe
 from geanmarbles.client.replies import Wrong
 from geanmarbles.paths import EXAMPLES, TESTS
 from geanmarbles.wordpress.addresses import path_or_none, slug_of
+from geanmarbles.wordpress.harmless import harmless
 from geanmarbles.wordpress.items import unserialized
 from geanmarbles.wordpress.texts import QUOTES, paragraphs, texturize, with_characters
 from geanmarbles.wordpress.words import formatted
@@ -606,7 +608,7 @@ def served(archive: Archive, folder: Path) -> Iterator[int]:
     text = (archive.folder / "nginx.conf").read_text(encoding="utf-8")
     (folder / "archive.conf").write_text(text.replace("listen 8080;", f"listen 127.0.0.1:{port};"), encoding="utf-8")
     (folder / "nginx.conf").write_text(("user root;\n" if os.getuid() == 0 else "") + NGINX.format(folder=folder))
-    with subprocess.Popen(["nginx", "-c", folder / "nginx.conf"], stderr=subprocess.PIPE) as server:
+    with subprocess.Popen([str(nginx()), "-c", folder / "nginx.conf"], stderr=subprocess.PIPE) as server:
         try:
             wait_for(lambda: server.poll() is not None or listens(port), SECONDS, "nginx listens")
             must(server.poll() is None, f"nginx: {server.stderr.read()[-300:] if server.stderr else ''}")
@@ -716,11 +718,9 @@ def check_dates() -> None:
         must(formatted(date, form, language) == wanted, f"{form!r} gives {formatted(date, form, language)!r}")
 
 
-def checks(program: Path, wordpress: Path | None) -> Iterator[tuple[Any, ...]]:
+def checks(program: Path) -> Iterator[tuple[Any, ...]]:
     """What each check shows, and the check with its arguments."""
     yield "texts as WordPress recorded them", check_recorded_texts
-    if wordpress is not None:
-        yield "random texts beside WordPress's functions", check_random_texts, wordpress, 2_000
     yield "quotes of other languages", check_quotes
     yield "paths, comments and values that aren't trusted", check_safety
     yield "texts that nobody writes", check_growth
@@ -744,7 +744,34 @@ def checks(program: Path, wordpress: Path | None) -> Iterator[tuple[Any, ...]]:
         yield f"{name}: new posts", check_new_posts, program, site
         yield f"{name}: pages for everyone", check_access, program, site
         yield f"{name}: the search", check_search, program, site
-        if browser():
-            yield f"{name}: in a browser", check_browser, program, site
-        if shutil.which("nginx"):
-            yield f"{name}: served by nginx", check_served, program, site
+
+
+def checks_beside(wordpress: Path) -> Iterator[tuple[Any, ...]]:
+    """The check that needs PHP and WordPress."""
+    must_be_here(
+        shutil.which("php") and (wordpress / "wp-includes" / "formatting.php").is_file(), "PHP or no WordPress"
+    )
+    yield "random texts beside WordPress's functions", check_random_texts, wordpress, 2_000
+
+
+def checks_in_browser(program: Path) -> Iterator[tuple[Any, ...]]:
+    """The checks that need a browser."""
+    must_be_here(browser(), "chromium")
+    for site in map(recorded, SITES):
+        yield f"{site.export.stem}: in a browser", check_browser, program, site
+
+
+def checks_served(program: Path) -> Iterator[tuple[Any, ...]]:
+    """The checks that need nginx."""
+    must_be_here(nginx(), "nginx")
+    for site in map(recorded, SITES):
+        yield f"{site.export.stem}: served by nginx", check_served, program, site
+
+
+def nginx() -> str | None:
+    return shutil.which("nginx", path=PATH)
+
+
+def must_be_here(found: object, what: str) -> None:
+    if not found:
+        raise Skipped(f"there is no {what} here")

@@ -3,18 +3,22 @@
 It is a module, and runs nothing by itself.
 """
 
+import contextlib
 import json
+import socket
 import subprocess
 import tempfile
 import threading
 from collections.abc import Iterator
 from http.server import BaseHTTPRequestHandler, ThreadingHTTPServer
 from pathlib import Path
+from socketserver import BaseRequestHandler, ThreadingTCPServer
 from typing import Any
 
 from geanmarbles.checks.browse.browsing import Browse
 from geanmarbles.checks.from_wordpress.archive_checks import SECONDS
 from geanmarbles.checks.judging import must
+from geanmarbles.client.program import pipe
 from geanmarbles.paths import EXAMPLES
 
 EDITS = (
@@ -91,12 +95,49 @@ def check_posts(program: Path) -> None:
         must("3\tpage\tpublish\t2024-05-01 00:00:00\tA: b\n" in kept.post("list"), "the new page isn't listed")
 
 
+def check_heads(program: Path) -> None:
+    """A file with a head alone leaves the content of a post, and one more empty line empties it."""
+    with Kept(program) as kept:
+        for ending in ("", "\n", "\n\n"):
+            for status in ("draft", "publish"):
+                kept.post("set", "1", kept.file(f"status: {status}{ending}"))
+                said = kept.post("get", "1")
+                must(said.endswith(f"status: {status}\n\na\nc\n"), f"after a head and {ending!r} it is {said!r}")
+        kept.post("set", "1", kept.file("status: draft\n\n\n"))
+        said = kept.post("get", "1")
+        must(said.endswith("status: draft\n\n\n"), f"with an empty content it is {said!r}")
+        kept.post("set", "1", kept.file(said))
+        must(kept.post("get", "1") == said, "an empty post that was set to itself is another")
+        must(
+            kept.post("new", kept.file("title: A\ndate: 2024-05-01 00:00:00\n")) == "3\n", "a new post without content"
+        )
+
+
+def check_typos(program: Path) -> None:
+    """A path where no site is gets none: the reason is told."""
+    with Kept(program) as kept, tempfile.TemporaryDirectory() as folder:
+        empty, new = Path(folder, "empty.db"), kept.file("title: x\ndate: 2024-05-01 00:00:00\n\ny")
+        empty.touch()
+        for site, why in ((Path(folder, "typo.db"), "no"), (empty, "empty")):
+            given: dict[str, list[tuple[str | Path, ...]]] = {
+                "post": [("list",), ("get", "1"), ("set", "1", new), ("new", new)],
+                "history": [("1",)],
+                "undo": [(f"{folder}/new.db",)],
+            }
+            for script, words in [(script, words) for script, all_words in given.items() for words in all_words]:
+                said = kept.run(script, site, *words, status=1)
+                must(why in said and said.count("\n") == 1, f"{script} {words[0]} of {site.name}: {said!r}")
+        must([it.name for it in Path(folder).iterdir()] == ["empty.db"], f"there is {[*Path(folder).iterdir()]}")
+        must(empty.stat().st_size == 0, "the empty file has become a site")
+
+
 def check_faults(program: Path) -> None:
     """What can't be read or isn't taken ends with a reason, and changes nothing."""
     with Kept(program) as kept:
         before = kept.post("get", "1")
         for text, reason in (
-            ("no head", "a blank line"),
+            ("no head", "the head has"),
+            ("", "the head has"),
             ("titel: x\n\ny", "the head has"),
             ("title: x\ntitle: y\n\nz", "each once"),
             ("kind: page\n\nz", "can't be changed"),
@@ -147,6 +188,11 @@ class NodeRequest(BaseHTTPRequestHandler):
     def log_message(self, *_: object) -> None:
         """Nothing is logged."""
 
+    def do_HEAD(self) -> None:
+        self.send_response(404)
+        self.send_header("X-Site-Revision", "1")
+        self.end_headers()
+
     def do_POST(self) -> None:
         key, node = self.headers["Idempotency-Key"], self.server
         line = self.rfile.read(int(self.headers["Content-Length"]))
@@ -196,6 +242,62 @@ def check_served(program: Path) -> None:
         must(kept.post_at(str(lines), "get", "1") == kept.post("get", "1"), "the lines of a site have another post")
         must("nothing edits" in kept.post_at(str(lines), "set", "1", new, status=1), "lines are edited")
         must(lines.read_bytes() == exported.stdout, "lines have changed")
+
+
+class Losing(ThreadingTCPServer):
+    """A proxy that loses the first response to an edit."""
+
+    daemon_threads = True
+
+    def __init__(self, behind: tuple[str, int]) -> None:
+        super().__init__(("127.0.0.1", 0), LosingRequest)
+        self.behind, self.edits = behind, 0
+        threading.Thread(target=self.serve_forever, daemon=True).start()
+
+
+class LosingRequest(BaseRequestHandler):
+    server: Losing
+
+    def handle(self) -> None:
+        with socket.create_connection(self.server.behind, SECONDS) as behind:
+            begin: bytes = self.request.recv(1 << 16)
+            behind.sendall(begin)
+            threading.Thread(target=handed_on, args=(self.request, behind), daemon=True).start()
+            came = b"".join(iter(lambda: behind.recv(1 << 16), b""))
+        is_edit = begin.startswith(b"POST ")
+        self.server.edits += is_edit
+        if not is_edit or self.server.edits > 1:
+            self.request.sendall(came)
+
+
+def handed_on(one: socket.socket, other: socket.socket) -> None:
+    """Hands on what comes from one side, until either has gone."""
+    with contextlib.suppress(OSError):
+        while part := one.recv(1 << 16):
+            other.sendall(part)
+
+
+def check_lost_responses(program: Path) -> None:
+    """An edit whose response is lost is sent once to examples/serve and to examples/browse, and isn't known."""
+    for name in ("serve", "browse"):
+        with Kept(program) as kept:
+            token, new = Path(kept.room.name, "token"), kept.file("title: Lost\ndate: 2024-05-01 00:00:00\n\nx\n")
+            token.write_text("secret", encoding="ascii")
+            words: list[str | Path] = [EXAMPLES / name, "--program", program, "--port", "0"]
+            words += ["--database", kept.database, "--token-file", token]
+            with subprocess.Popen(words, stdout=subprocess.PIPE, stderr=subprocess.DEVNULL) as running:
+                port = int(pipe(running.stdout).readline().decode().rstrip("/\n").rpartition(":")[2])
+                with Losing(("127.0.0.1", port)) as losing:
+                    address = f"http://127.0.0.1:{losing.server_address[1]}/"
+                    asked: list[str | Path] = ["--token-file", token, address, "new", new]
+                    said = kept.run("post", *asked, status=1)
+                    must("isn't known" in said and said.count("\n") == 1, f"{name}: {said!r}")
+                    must(losing.edits == 1, f"{name}: the edit was sent {losing.edits} times")
+                    must(kept.run("post", *asked) == "4\n", f"{name}: the next post has another ID")
+                    losing.shutdown()
+                running.terminate()
+                must(running.wait(SECONDS) == 0, f"{name}: the status")
+            must(kept.post("list", "lost").count("Lost") == 2, f"{name}: there are {kept.post('list')!r}")
 
 
 def check_browsed(program: Path) -> None:
@@ -289,8 +391,11 @@ def check_undo(program: Path) -> None:
 def checks(program: Path) -> Iterator[tuple[Any, ...]]:
     """What each check shows, and the check with its arguments."""
     yield "posts as files", check_posts, program
+    yield "files with a head alone", check_heads, program
     yield "posts that can't be set", check_faults, program
+    yield "posts of a path where no site is", check_typos, program
     yield "posts of a site that a node serves", check_served, program
+    yield "posts whose response is lost", check_lost_responses, program
     yield "posts of a site that examples/browse serves", check_browsed, program
     yield "versions of a post", check_history, program
     yield "edits taken back", check_undo, program

@@ -1,8 +1,8 @@
 """Turns exports into commands by examples/from_wordpress, runs the program over them, and writes archives.
 
-    tests/from_wordpress/run [--wordpress DIR] [PROGRAM | --without-program]
+    tests/from_wordpress/run [--part NAME ..] [--wordpress DIR] [PROGRAM | --without-program]
 
-PROGRAM is crates/site/out/site of this repository if it is left out. For each NAME.xml, the report on standard error
+PROGRAM is the one that is here, built or shipped, if it is left out. For each NAME.xml, the report on standard error
 must be NAME.report, and the commands must be NAME.jsonl, or none if there is no such file; if there is NAME.all, it is
 the report with --all. @N*TEXT@ in these files stands for N times TEXT. Then the program must accept each command, serve
 the title and the content of each published post and page, and nothing of a draft. The same holds for an export that
@@ -24,7 +24,9 @@ WordPress in DIR, /usr/share/wordpress if it is left out, are there, random text
 Last come examples/post, history and undo: posts of a site in a file as files, also through examples/browse, which
 serves it, and through what stands for a node of a cluster; their versions; and edits taken back.
 
-With --without-program the checks that run the program are skipped: what is left takes no build.
+The parts are, in this order, or some of them, each after a --part: `exports`; `archives`, of the sites in whole/;
+`editors`, of examples/post, history and undo; `memory`; and, each where it is installed, `wordpress`, `chromium` and
+`nginx`. With --without-program the checks that run the program are skipped: what is left takes no build.
 
 The last line is 'N passed, M failed', over the checks. The exit status is 0 if none failed.
 """
@@ -33,10 +35,9 @@ import gzip
 import json
 import re
 import resource
-import shutil
 import subprocess
 import tempfile
-from collections.abc import Collection, Iterator
+from collections.abc import Callable, Collection, Iterator
 from functools import partial
 from html import unescape
 from html.parser import HTMLParser
@@ -44,8 +45,7 @@ from pathlib import Path
 from typing import Any
 
 from geanmarbles.checks.from_wordpress import archive_checks, editor_checks, memory_checks
-from geanmarbles.checks.from_wordpress.browser_checks import browser
-from geanmarbles.checks.judging import Counts, must
+from geanmarbles.checks.judging import Cases, Counts, must
 from geanmarbles.checks.programs import missing, parser_of
 from geanmarbles.client.replies import whole_replies
 from geanmarbles.paths import ROOT, TESTS
@@ -316,8 +316,8 @@ def check_refusals() -> None:
             must((status, commands) == (2, b"") and reason in last, f"{arguments}: status {status}: {report[-300:]}")
 
 
-def checks(program: Path, wordpress: Path | None) -> Iterator[tuple[Any, ...]]:
-    """What each check shows, and the check with its arguments."""
+def export_checks(program: Path) -> Iterator[tuple[Any, ...]]:
+    """What each check of exports shows, and the check with its arguments."""
     cases = sorted(HERE.glob("*.xml"))
     for path in cases:
         yield f"{path.name}: report and commands", check_case, path
@@ -333,30 +333,42 @@ def checks(program: Path, wordpress: Path | None) -> Iterator[tuple[Any, ...]]:
     yield "wordpress.xml: whole pages", check_whole, program, HERE / "wordpress.xml"
     yield "wordpress.xml: links to everything", check_walk, program, HERE / "wordpress.xml"
     yield "an export of several imports", check_long, program
-    yield from archive_checks.checks(program, wordpress)
-    yield from editor_checks.checks(program)
+
+
+def memory_check() -> Iterator[tuple[Any, ...]]:
     yield "memory that doesn't grow with a site", memory_checks.check_memory
+
+
+PARTS: dict[str, Callable[[Path, Path], Iterator[tuple[Any, ...]]]] = {
+    "exports": lambda program, _: export_checks(program),
+    "archives": lambda program, _: archive_checks.checks(program),
+    "editors": lambda program, _: editor_checks.checks(program),
+    "memory": lambda *_: memory_check(),
+    "wordpress": lambda _, wordpress: archive_checks.checks_beside(wordpress),
+    "chromium": lambda program, _: archive_checks.checks_in_browser(program),
+    "nginx": lambda program, _: archive_checks.checks_served(program),
+}
 
 
 def main() -> int:
     parser = parser_of(__doc__)
     parser.add_argument("--without-program", action="store_true", help="skip what runs the program")
     parser.add_argument("--wordpress", metavar="DIR", type=Path, default=Path("/usr/share/wordpress"))
+    some = f"some parts alone: {', '.join(PARTS)}"
+    parser.add_argument("--part", metavar="NAME", action="append", choices=PARTS, help=some)
     arguments = parser.parse_args()
     program = Path(arguments.program)
-    has_wordpress = shutil.which("php") and (arguments.wordpress / "wp-includes" / "formatting.php").is_file()
-    if not has_wordpress:
-        print("there is no PHP or no WordPress here, so texts are compared with what was recorded alone")
-    if not browser():
-        print("there is no chromium here, so no page is opened in a browser")
-    if not shutil.which("nginx"):
-        print("there is no nginx here, so no archive is served by it")
     counts = Counts()
     if missing(program) and not arguments.without_program:
         print(f"FAILED: {missing(program)}")
-    for name, check, *given in checks(program, arguments.wordpress if has_wordpress else None):
-        if arguments.without_program and program in given:
-            counts.skipped += 1
-        else:
-            counts.judge(name, partial(check, *given))
+
+    def cases(part: str) -> Cases:
+        for name, check, *given in PARTS[part](program, arguments.wordpress):
+            if arguments.without_program and program in given:
+                counts.skipped += 1
+            else:
+                yield name, partial(check, *given)
+
+    for part in arguments.part or PARTS:
+        counts.judge_all(cases(part))
     return counts.end()

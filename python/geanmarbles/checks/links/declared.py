@@ -41,7 +41,8 @@ class Declared:
         # The names of its files of definitions and lemmas.
         self.files: set[str] = set()
         self.foreign: set[str] = set(EVERYWHERE)
-        # By the name of a function, and by that of its type and its own: the text from `fn NAME` to the body.
+        # By the name of a function, and by that of its type, or `None`, and its own: the text from `fn NAME` to the
+        # body.
         self.contracts: dict[str, list[str]] = {}
         for path in sorted((CRATES / crate / "src").rglob("*.rt")):
             text = path.read_text(encoding="utf-8")
@@ -137,3 +138,9 @@ def contracts_of(name: str) -> list[str]:
     if len(parts) > 1 and not any(found):
         found = [it.contracts.get(parts[-1], []) for it in declared().values()]
     return [contract for contracts in found for contract in contracts]
+
+
+def contract_in(crate: str, name: str) -> list[str]:
+    """The contracts that a crate has of a function, or of a method that is named with its type."""
+    here = declared().get(crate)
+    return here.contracts.get(name if "::" in name else f"{None}::{name}", []) if here else []

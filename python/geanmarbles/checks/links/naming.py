@@ -10,12 +10,13 @@ from collections.abc import Iterable, Iterator
 from functools import cache
 from pathlib import Path
 
-from geanmarbles.checks.links.declared import declared, has_member
+from geanmarbles.checks.links.declared import contract_in, declared, has_member
 from geanmarbles.checks.links.reading import (
     BEHAVIOUR,
     DEFINITIONS_HEAD,
     FENCE,
     QUOTED,
+    SOURCE_LINK,
     Checks,
     cells_of,
     edits_of,
@@ -34,6 +35,8 @@ CALLED_TYPE = re.compile(r"\b[Tt]ypes? `([A-Z]\w*[a-z]\w*)`")
 SOURCE = re.compile(r"(?:src/)?((?:\w+/)*\w+\.rt)")
 DEFINITIONS = re.compile(r"(?:(\w+)/)?((?:specs|proofs)/(?:\w+/)*\w+)(?:\.antt)?")
 SHOWN = re.compile(r"^```rust\n(.*?)^```", re.M | re.S)
+# A clause that is shown, after the paragraph that names its function.
+SHOWN_CLAUSE = re.compile(r"^```\w*\n((?:ensures|requires)\b.*?)^```", re.M | re.S)
 WORD = re.compile(r"([a-z]\w*_\w+)(?:\(\))?")
 PARTS = ("src", "specs", "proofs")
 # A crate, and an edit of it, to which a command is given; `shout` is what the tutorial makes.
@@ -147,6 +150,20 @@ def check_shown(checks: Checks, page: Path) -> None:
         checks.check(known, page, f"no source has this: {' '.join(block.split())[:60]}")
 
 
+def check_shown_clauses(checks: Checks, page: Path) -> None:
+    """A clause that a document shows is in the contract of the function to which the paragraph before it has a link."""
+    text = page.read_text(encoding="utf-8")
+    for shown in SHOWN_CLAUSE.finditer(text):
+        clause = " ".join(shown[1].split())
+        links = SOURCE_LINK.findall(text[: shown.start()].rstrip().rpartition("\n\n")[2])
+        checks.check(len(links) == 1, page, f"{len(links)} links, and not one, to the function of: {clause[:60]}")
+        for name, link in links[:1]:
+            source = (page.parent / link).resolve()
+            crate = source.relative_to(CRATES).parts[0] if source.is_relative_to(CRATES) else ""
+            told = any(clause in " ".join(it.split()) for it in contract_in(crate, name))
+            checks.check(told, page, f"{name} of {crate} hasn't this clause: {clause[:60]}")
+
+
 @cache
 def spaced(crate: str) -> str:
     """A crate's sources, with one space between words."""
@@ -161,6 +178,7 @@ def check_naming(checks: Checks, pages: Iterable[Path]) -> None:
         # What PLUGINS.md shows is looked at by tests/scripts/run.
         if page.name != "PLUGINS.md":
             check_shown(checks, page)
+            check_shown_clauses(checks, page)
         parts = page.relative_to(ROOT).parts
         if parts[0] == "crates" and parts[1] in crates:
             users = {it for it in crates if parts[1] in below(crates, it)}

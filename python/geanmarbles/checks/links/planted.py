@@ -7,12 +7,14 @@ import tempfile
 from collections.abc import Callable
 from pathlib import Path
 
-from geanmarbles.checks.links.figures import COUNTED, FIGURES, REPEATED, TIMES, WORDS, Place
+from geanmarbles.checks.links.figures import COUNTED, OF_BUILD, REPEATED, TIMES, WORDS, Place, newest_build
 from geanmarbles.paths import ROOT
 
 SECONDS = 600
 ANYWHERE = "in any crate"
 HERE = "in this crate, what it depends on or the crates named here"
+# A clause of the function `Site::serve`.
+OF_ANOTHER = "ensures setup { setup_of self.new ≡ setup_of self.old }"
 # What is written at the end of a page, and what the check must say of that page.
 SENTENCES = [
     ("crates/hook_machine/DESIGN.md", "`Run::never_there`", f"no function Run::never_there {HERE}"),
@@ -32,6 +34,12 @@ SENTENCES = [
     ("crates/site_store/DESIGN.md", "`site_program/specs/NeverThere`", "no file site_program/specs/NeverThere"),
     ("docs/DECISIONS.md", "`Run::never_there`", f"no function Run::never_there {ANYWHERE}"),
     ("docs/PROOFS.md", "```rust\nensures replied { never_there }\n```", "no source has this: ensures replied"),
+    ("docs/PROOFS.md", f"```rust\n{OF_ANOTHER}\n```", f"0 links, and not one, to the function of: {OF_ANOTHER}"),
+    (
+        "docs/PROOFS.md",
+        f"Of [`serve_site`](../crates/site_program/src/serve.rt):\n\n```rust\n{OF_ANOTHER}\n```",
+        f"serve_site of site_program hasn't this clause: {OF_ANOTHER}",
+    ),
     ("docs/TOOLCHAIN.md", "`NeverThere`", f"no type NeverThere {ANYWHERE}"),
     ("docs/PROOFS.md", "`it_is_never_there`", f"no it_is_never_there {ANYWHERE}"),
     ("docs/DECISIONS.md", "`hook_machine::NeverThere`", "no NeverThere in hook_machine"),
@@ -48,7 +56,7 @@ SENTENCES = [
     ("crates/site_program/DESIGN.md", "The type `Stored` has it.", f"no type Stored {HERE}"),
     ("docs/INDEX.md", "More.", "isn't what tools/index makes of the sources"),
     ("docs/THEOREM.md", "More.", "isn't what tools/index makes of the sources"),
-    ("README.md", "\n" * 190, "it has not at most 190 lines"),
+    ("README.md", "\n" * 120, "it has not at most 120 lines"),
     ("README.md", "`Run::start` (`never_there`)", "no clause never_there of Run::start"),
     # A clause of another function of that name.
     ("README.md", "`Plans::start` (`started`)", "no clause started of Plans::start"),
@@ -62,9 +70,8 @@ CHANGED = [
     ("crates/call_plans/README.md", "# call_plans", "# call_plan", "the title isn't call_plans"),
     ("crates/byte_io/README.md", "# byte_io", "# bytes_io", "the title isn't byte_io"),
     ("tests/parts.txt", "tests/hostile/run", "tests/hostile/walk", "no script tests/hostile/walk"),
-    ("tests/parts.txt", "test      tests/ends/run", "quick     tests/ends/run", "tests/ends/run is no part of ./test"),
+    ("tests/parts.txt", "tests/reach/run", "tests/rows/run", "tests/reach/run is no part of ./test"),
     ("tests/README.md", "| [cost/run](cost/run)", "| [cost](cost/run)", "it has no row of cost/run"),
-    ("test", "(tests/reach/run)", "(reach)", "it doesn't say what tests/reach/run is for"),
     ("docs/BEHAVIOUR.md", "callbacks are registered. A", "callbacks are\nregistered. A", "line "),
     ("docs/BEHAVIOUR.md", "| entry | a callback", "| group | a callback", "the glossary has group in 2 rows"),
     (
@@ -129,11 +136,12 @@ def plant(folder: Path) -> list[str]:
     places += [place for _, repeated in REPEATED for place in repeated]
     wanted = [change(folder, place) for place in places]
     wanted += [change(folder, place, larger) for place in COUNTED.values()]
-    readme = folder / "README.md"
-    row = next(iter(FIGURES))
-    text = readme.read_text(encoding="utf-8")
-    readme.write_text(text.replace(f"| {row} | ", f"| {row} | 1"), encoding="utf-8")
-    wanted.append(f"README.md: its figures of {row} are ")
+    for page in OF_BUILD:
+        text = (folder / page).read_text(encoding="utf-8")
+        for figure in newest_build().values():
+            text = text.replace(figure, another(figure))
+            wanted.append(f"{page}: it doesn't say {figure!r}, ")
+        (folder / page).write_text(text, encoding="utf-8")
     for page, old, new, line in CHANGED:
         text = (folder / page).read_text(encoding="utf-8")
         (folder / page).write_text(text.replace(old, new, 1), encoding="utf-8")

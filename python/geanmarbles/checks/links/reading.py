@@ -10,6 +10,7 @@ from geanmarbles.paths import CRATES, ROOT
 BEHAVIOUR = ROOT / "docs" / "BEHAVIOUR.md"
 FENCE = re.compile(r"^(```.*?^```|    .*?$)", re.M | re.S)
 QUOTED = re.compile(r"`([^`]+)`")
+SOURCE_LINK = re.compile(r"\[`([\w:]+)`\]\(([^()\s]+\.(?:rt|antt|edit))\)")
 FUNCTION = re.compile(r"(?:\w+::)*[A-Za-z_]\w*")
 NAME = re.compile(r"[A-Za-z_][A-Za-z0-9_]*")
 # The last headings of the tables of definitions in the crates' pages.

@@ -6,7 +6,8 @@ Of every Markdown file: each relative link leads to a file of the repository, it
 link to a source is named by is in that file, each path of the repository is there, and so are the crates and edits
 that its commands name. Each `Type::function` is a function or variant of that type, or of a trait that the type
 implements. The types and other names that PROOFS, ARCHITECTURE, DECISIONS, FAILURES and TOOLCHAIN quote are in some
-crate. What is shown as Rust's code is in a source, word for word.
+crate. What is shown as Rust's code is in a source, word for word; a clause is in the contract of the function to which
+the paragraph before it has a link.
 
 Of docs/PROOFS.md and docs/FAILURES.md besides: each function that a promise names is in some crate, and each clause
 in the contract of one of its functions; a dash is there only if the function's one clause has no name; and those
@@ -25,18 +26,17 @@ the same paragraph or row names.
 
 docs/INDEX.md, docs/THEOREM.md and what is made in docs/ARCHITECTURE.md are what tools/index makes now, and each
 definition in THEOREM has a comment. The functions that README.md names with clauses have them, and it has no more than
-190 lines. Each edit that docs/BEHAVIOUR.md names changes a function that the program reaches, or a law.
+120 lines. Each edit that docs/BEHAVIOUR.md names changes a function that the program reaches, or a law.
 
 No line of text is longer than 120 columns, and none ends early in the middle of a paragraph; the glossary has each word
 once. The sentences of claims.py, on how the code does something, and the lines of sources by which they are true are
 there.
 
 The times of CONTRIBUTING.md's table are those that other documents and scripts say, the figures of a bench those that
-README.md repeats, and README's numbers of lines, functions and wrong bodies about those of the sources; figures.py has
-the places.
+README.md and CONTRIBUTING.md repeat, and the numbers of lines, functions and wrong bodies that README and ARCHITECTURE
+say about those of the sources; figures.py has the places.
 
-Each script of tests/ is a part of ./test by tests/parts.txt, and the head of ./test and the table of tests/README.md
-say what it is for; so does the help of tests/unproved of its parts.
+Each script of tests/ is a part of ./test by tests/parts.txt, and the table of tests/README.md says what it is for.
 
 A line is printed for each thing that is missing. The last line is 'N passed, M failed', over the documents. The exit
 status is 0 if nothing is missing. With --self-test wrong sentences, names and figures are planted in a copy of the
@@ -44,7 +44,6 @@ repository, where the check must find each; the last line is then over these.
 """
 
 import argparse
-import itertools
 import os
 import re
 import subprocess
@@ -64,6 +63,7 @@ from geanmarbles.checks.links.reading import (
     DEFINITIONS_HEAD,
     FENCE,
     QUOTED,
+    SOURCE_LINK,
     Checks,
     edits_of,
     functions_in,
@@ -72,8 +72,7 @@ from geanmarbles.checks.links.reading import (
     rows_of,
     text_of,
 )
-from geanmarbles.checks import unproved
-from geanmarbles.checks.parts import PARTS, lines_of
+from geanmarbles.checks.parts import PARTS, all_parts
 from geanmarbles.paths import CRATES, ROOT, TESTS
 from geanmarbles.repository import index, theorem
 from geanmarbles.repository.crates import own_crates, read_crates
@@ -83,7 +82,6 @@ PROOFS = ROOT / "docs" / "PROOFS.md"
 FAILURES = ROOT / "docs" / "FAILURES.md"
 LINK = re.compile(r"\[[^\]]*\]\(([^()\s]+)\)")
 LINK_WITH_TEXT = re.compile(r"\[([^\]]*)\]\(([^()\s]+)\)")
-SOURCE_LINK = re.compile(r"\[`([\w:]+)`\]\(([^()\s]+\.(?:rt|antt|edit))\)")
 HEADING = re.compile(r"^#+ +(.*)$", re.M)
 # A file or folder of the repository, but for one with a word in capitals in place of a name, what is built, and what
 # the tutorial makes.
@@ -99,10 +97,10 @@ MARKED = re.compile(r"`([\w:]+)`(°?)")
 ONE_CLAUSE = re.compile(r"\bensures\*? \{")
 FUNCTION_NAME = re.compile(r"^function: (?:\w+::)*(\w+)$", re.M)
 FUNCTION_PATH = re.compile(r"^function: *(\S+)$", re.M)
-# The runs that tests/parts.txt lists parts of, and what `./test` runs beside its parts.
-RUNS, BESIDE = ("test", "quick", "unproved"), {"tests/wrong_bodies/run"}
+# What `./prove` runs beside the parts of `./test`.
+BESIDE = {"tests/wrong_bodies/run"}
 # What README.md has at most.
-MOST_LINES = 190
+MOST_LINES = 120
 # What a crate's README.md has, in this order, in at most so many lines.
 README_HEADS = ["Called by", "Read first", "Contracts see", "Proved", "Limits", "Wrong bodies"]
 README_LINES = 40
@@ -138,7 +136,8 @@ def check_links(checks: Checks, page: Path) -> None:
         checks.check(aim.exists(), page, f"no file for the link {link}")
         if anchor and aim.suffix == ".md" and aim.exists():
             checks.check(anchor in anchors_of(aim), page, f"no heading for the link {link}")
-    for path in PATH.findall(text):
+    # (a changelog names what is gone)
+    for path in PATH.findall(text) if page.name != "CHANGELOG.md" else ():
         checks.check(MADE.search(path) or (ROOT / path).exists(), page, f"no file or folder {path}")
     # What a link to a source, a definition or an edit is named by is in that file, or is its name.
     for name, link in SOURCE_LINK.findall(text):
@@ -293,31 +292,17 @@ def check_trusted(checks: Checks, text: str) -> None:
 
 
 def check_parts(checks: Checks) -> None:
-    """The parts of the runs of the whole: each is a script, and each script is one, and the documents name it."""
-    text = PARTS.read_text(encoding="utf-8")
-    parts = lines_of(text)
-    scripts = {words[0] for _, words in parts}
-    for name in sorted(scripts):
+    """The parts of ./test: each is a script, each script is one, and tests/README.md has a row of it."""
+    whole = {it.words[0] for it in all_parts()} | BESIDE
+    for name in sorted(whole):
         checks.check(os.access(ROOT / name, os.X_OK), PARTS, f"no script {name}")
-    for name in sorted({run for run, _ in parts} - set(RUNS)):
-        checks.check(False, PARTS, f"there is no run {name}")
     there = {str(it.relative_to(ROOT)) for it in TESTS.glob("*/run")}
-    whole = {words[0] for run, words in parts if run == "test"} | BESIDE
     for name in sorted(there - whole):
         checks.check(False, PARTS, f"{name} is no part of ./test")
-    shown, table, head = ROOT / "test", TESTS / "README.md", unproved.__doc__ or ""
+    table = TESTS / "README.md"
     for name in sorted(whole):
-        checks.check(name in said_by(shown), shown, f"it doesn't say what {name} is for")
         link = name.removeprefix("tests/")
         checks.check(f"\n| [{link}](" in table.read_text(encoding="utf-8"), table, f"it has no row of {link}")
-    for name in sorted({words[0] for run, words in parts if run == "unproved"}):
-        checks.check(f"- {name}" in head, Path(unproved.__file__), f"it doesn't say what {name} is for")
-
-
-def said_by(script: Path) -> str:
-    """What the comment at the head of a script says."""
-    lines = script.read_text(encoding="utf-8").splitlines()[1:]
-    return " ".join(it[1:].strip() for it in itertools.takewhile(lambda it: it.startswith("#"), lines))
 
 
 def check_made(checks: Checks) -> None:
