@@ -34,7 +34,7 @@ def checks_of(modules: Iterable[str], only: Sequence[str]) -> Iterator[tuple[str
     """The checks of some modules whose names have one of some texts, or all if there is no text."""
     for name in modules:
         module = import_module(name)
-        for function, found in vars(module).items():
+        for function, found in list(vars(module).items()):
             full = f"{name.rpartition('.')[2]}::{function}"
             if is_check(module, function, found) and (not only or any(it in full for it in only)):
                 yield full, found
