@@ -11,7 +11,7 @@ from pathlib import Path
 from typing import NamedTuple
 
 from geanmarbles.checks.programs import compiler
-from geanmarbles.checks.reach import OBJECT
+from geanmarbles.checks import reach
 from geanmarbles.paths import BUILT_PASSES, BUILT_PRESS, TESTS
 
 PARTS = TESTS / "parts.txt"
@@ -74,7 +74,7 @@ NEEDS: dict[str, Callable[[], str | None]] = {
     "git": on_the_path("git"),
     "press": built(BUILT_PRESS, "the program press"),
     "test_bench": built(BUILT_PASSES, "the program test_bench"),
-    "toolchain": built(OBJECT, "what the toolchain's gate leaves of site"),
+    "toolchain": built(reach.PROGRAM, "what the toolchain's gate leaves of site"),
     "etcd": on_the_path("etcd", "etcdctl"),
     "php": on_the_path("php"),
     "wordpress": lambda: None if WORDPRESS.is_file() else "there is no WordPress in /usr/share/wordpress",

@@ -27,6 +27,7 @@ exit status is 0 if nothing failed, 1 if something did, and 2 if the arguments o
 import argparse
 import os
 import shutil
+import signal
 import subprocess
 import sys
 import tempfile
@@ -105,10 +106,14 @@ def shown(words: Sequence[str | Path], log: Path, copy: Path) -> int:
     how: dict[str, Any] = {"cwd": copy, "stdout": subprocess.PIPE, "stderr": subprocess.STDOUT, "errors": "replace"}
     with log.open("a", encoding="utf-8") as kept, subprocess.Popen(words, bufsize=1, **how) as child:
         lines: IO[str] = child.stdout  # type: ignore[assignment]
-        for line in lines:
-            print(line, end="", flush=True)
-            kept.write(line)
-            kept.flush()
+        try:
+            for line in lines:
+                print(line, end="", flush=True)
+                kept.write(line)
+                kept.flush()
+        except KeyboardInterrupt:
+            child.terminate()
+            raise
     return child.returncode
 
 
@@ -238,8 +243,12 @@ def main() -> int:
             "prove: the command 'rt' of the Rattle toolchain isn't on the PATH; nothing can be proved", file=sys.stderr
         )
         return 2
+    # SIGTERM ends what runs, and what was copied, as Ctrl-C does.
+    signal.signal(signal.SIGTERM, signal.default_int_handler)
     try:
         return prove_crates(asked.crates) if asked.crates else prove_all(asked)
+    except KeyboardInterrupt:
+        return 130
     except ToolchainFault as fault:
         print(f"prove: {fault}", file=sys.stderr)
         return 2

@@ -1,13 +1,13 @@
 """Finds what the program doesn't reach: public functions, and functions that a wrong body changes.
 
-    tests/reach/run [OBJECT]
+    tests/reach/run [PROGRAM]
 
-OBJECT is what Rattle's own compiler makes of `site`, crates/site/out/site.by-rattle.o as `rt ci` leaves it; it has each
+PROGRAM is what Rattle's own compiler makes of `site`, crates/site/out/site.by-rattle as `rt ci` leaves it; it has each
 function that `main` reaches, and no other. Of the crates that `site` stands on, each public function that isn't in it
 must have its reason in reasons.txt beside this script, and so must each function that a wrong body of wrong-bodies/
 changes: such a refusal says nothing of the pages that are served. A reason is a line `FUNCTION: WHY`; in FUNCTION a `*`
-stands for any text. A reason that no unreached function needs fails too. Without the object nothing is looked at, which
-is said.
+stands for any text. A reason that no unreached function needs fails too. Without the program nothing is looked at,
+which is said.
 
 The last line is 'N passed, M failed'. The exit status is 0 if nothing failed.
 """
@@ -24,7 +24,7 @@ from geanmarbles.paths import ROOT, TESTS
 from geanmarbles.repository.crates import below, read_crates
 
 HERE = TESTS / "reach"
-OBJECT = ROOT / "crates" / "site" / "out" / "site.by-rattle.o"
+PROGRAM = ROOT / "crates" / "site" / "out" / "site.by-rattle"
 REASONS = HERE / "reasons.txt"
 SYMBOLS, FUNCTION = 2, 2
 TYPE = re.compile(r"^(?:pub(?:\([a-z]+\))? )?(?:struct|enum|trait) (\w+)", re.M)
@@ -36,10 +36,10 @@ CHANGES = re.compile(r"^function: *(\S+)", re.M)
 
 
 def functions_in(path: Path) -> set[str]:
-    """The functions that an object file of ELF has, by their paths, without what they are generic over."""
+    """The functions that a file of ELF has, by their paths, without what they are generic over."""
     data = path.read_bytes()
     if data[:5] != b"\x7fELF\x02":
-        sys.exit(f"tests/reach/run: {path} is no object file of 64 bits")
+        sys.exit(f"tests/reach/run: {path} is no file of ELF of 64 bits")
     start, size, count = struct.unpack_from("<Q", data, 40)[0], *struct.unpack_from("<HH", data, 58)
     sections = [struct.unpack_from("<IIQQQQIIQQ", data, start + at * size) for at in range(count)]
     found = set()
@@ -88,8 +88,8 @@ def changed_functions(crate: str) -> Iterator[tuple[str, str]]:
 
 def main() -> int:
     parser = Parser(description="Finds what the program doesn't reach.")
-    parser.add_argument("object", nargs="?", type=Path, default=OBJECT, metavar="OBJECT")
-    path = parser.parse_args().object
+    parser.add_argument("program", nargs="?", type=Path, default=PROGRAM, metavar="PROGRAM")
+    path = parser.parse_args().program
     if not path.is_file():
         print(f"tests/reach/run: there is no {path}, so nothing is looked at: rt ci makes it\n0 passed, 0 failed")
         return 0
