@@ -1,5 +1,4 @@
-"""What may be printed of texts that anyone may have written: addresses that run nothing, and a few elements.
-"""
+"""What may be printed of texts that anyone may have written: addresses that run nothing, and a few elements."""
 
 import re
 from collections.abc import Iterator
