@@ -44,8 +44,6 @@ STOPPED_SECONDS = 0.3
 EDITS = 8
 # How long a node may take to end, with requests under way and without.
 ENDS = 13
-# What counts a request to which a node answers that it isn't ready.
-NOT_READY = "lost: 503"
 PAGE, HEALTH = b"GET / HTTP/1.1\r\nHost: x\r\n\r\n", b"GET /health HTTP/1.1\r\nHost: x\r\n\r\n"
 # How often a sign of life is asked for, in microseconds.
 WATCHDOG = 1_000_000
@@ -153,7 +151,7 @@ class Visitor(threading.Thread):
             else:
                 connection.request("GET", self.random.choice(("/", "/?p=1", "/x")))
             response = connection.getresponse()
-            response.read()
+            body = response.read()
         except BaseException:
             connection.close()
             raise
@@ -162,7 +160,7 @@ class Visitor(threading.Thread):
         else:
             connection.close()
         if response.status >= 500:
-            return f"lost: {response.status}"
+            return f"lost: {response.status} {body[:100].decode(errors='replace').strip()}"
         self.edits += [edit] if edit else []
         return f"{response.status}"
 
@@ -207,18 +205,7 @@ def restart(node: Node, begun: Callable[[], None]) -> float:
 
 
 def roll(arguments: argparse.Namespace, kills: bool) -> None:
-    """Starts each node anew in turn under load. If it is killed, requests must be lost, or nobody would see them. On a
-    busy machine a program may owe a reply for more than a second, so that its node answers by 503 that it isn't ready:
-    that is tried again, once."""
-    lost = rolled(arguments, kills)
-    if not kills and set(lost) == {NOT_READY}:
-        print(f"restarts: tried again, since nodes weren't ready: {lost}", flush=True)
-        lost = rolled(arguments, kills)
-    must(bool(lost) == kills, f"{'killed' if kills else 'told to end'}, nodes lose {lost}")
-
-
-def rolled(arguments: argparse.Namespace, kills: bool) -> dict[str, int]:
-    """The requests that are lost when each node is started anew in turn under load."""
+    """Starts each node anew in turn under load. If it is killed, requests must be lost, or nobody would see them."""
     with Cluster(arguments.program) as cluster:
         with Balancer(cluster.nodes) as balancer, Visitors(f"roll-{kills}", balancer) as visitors:
             for node in cluster.nodes:
@@ -233,11 +220,12 @@ def rolled(arguments: argparse.Namespace, kills: bool) -> dict[str, int]:
                 else:
                     restart(node, node.start)
             time.sleep(AROUND_SECONDS)
+        lost = visitors.lost()
+        must(bool(lost) == kills, f"{'killed' if kills else 'told to end'}, nodes lose {lost} of {visitors.told()}")
         must(visitors.came()["200"] > 100, f"only {visitors.came()} came")
         print(f"restarts: three nodes {'killed' if kills else 'started anew'}: {visitors.told()}", flush=True)
-        if not kills and not visitors.lost():
+        if not kills:
             check_edits(cluster, visitors)
-        return visitors.lost()
 
 
 def check_edits(cluster: Cluster, visitors: Visitors) -> None:
