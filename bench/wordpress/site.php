@@ -218,7 +218,8 @@ function reply_to($command) {
         case 'pass':
             return 'ok ' . (int) pass_over($command['count'], $command['spread']) . "\n";
         case 'jit':
-            return 'ok ' . (int) is_jit_on() . "\n";
+            // 1 or 2, since no reply has the number 0.
+            return 'ok ' . (1 + (int) is_jit_on()) . "\n";
     }
     return "refused 1 BadCommand\n";
 }

@@ -1,7 +1,6 @@
 """Dictionaries and sets in a temporary database on the disk, for scripts whose memory mustn't grow with a site.
 
-Keys are numbers, texts or bytes. The values that were asked for last are at
-hand.
+Keys are numbers, texts or bytes. The values that were asked for last are at hand.
 """
 
 import pickle
@@ -40,8 +39,7 @@ class Disk:
 class DiskDict(Generic[Key, Value]):
     """As much of a dictionary as the scripts need, in the order in which its keys came.
 
-    A value that is changed has to be set again.
-    """
+    A value that is changed has to be set again."""
 
     def __init__(self, disk: Disk, at_hand: int = AT_HAND) -> None:
         self.rows, self.most = disk.rows, at_hand

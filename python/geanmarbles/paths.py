@@ -10,8 +10,6 @@ EXAMPLES = ROOT / "examples"
 TESTS = ROOT / "tests"
 # The program, once it is built.
 BUILT_PROGRAM = CRATES / "site" / "out" / "site"
-# The program that has the plugin `snippets` too.
-BUILT_PRESS = CRATES / "press" / "out" / "press"
 BUILT_PASSES = CRATES / "test_bench" / "out" / "test_bench"
 
 

@@ -1,2 +1,3 @@
 mod Walks
 mod Tables
+mod FirstNumbers

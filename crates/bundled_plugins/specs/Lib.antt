@@ -2,3 +2,5 @@ pub mod Calls
 pub mod Replies
 pub mod Bundle
 pub mod Rows
+pub mod Program
+pub mod Beside

@@ -1,6 +1,6 @@
-//! A bundled callback as the engine keeps it.
+//! A callback as the engine keeps it.
 ghost use Rattle.std.specs.Prelude.{◌≡◌, Ok};
-ghost use Rattle.bundled_plugins.specs.Replies.{says};
+ghost use Rattle.bundled_plugins.specs.Program.{says};
 
 use callback_store::Stated;
 use hook_changes::{Call, CallbackId, Reply};
@@ -9,8 +9,8 @@ use std::alloc::{AllocError, Global};
 /// A callback as a boxed function, which takes the allocator and what it is called with.
 pub type Function = Box<dyn Fn(Global, &Call) -> Result<Reply, AllocError>>;
 
-/// A bundled callback: a boxed function, kept with the facts that it may be called on every call,
-/// and that whatever it answers is what the bundle states for its number.
+/// A callback of the program: a boxed function, kept with the facts that it may be called on every call,
+/// and that whatever it answers is what its plugin states for its number.
 #[derive(Drop)]
 pub struct Stored {
     id: CallbackId,

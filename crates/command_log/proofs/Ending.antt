@@ -15,8 +15,8 @@ use Rattle.sqlite.proofs.Callers.{survives_begin}
 use Rattle.command_log.specs.declared.fault.LogFault.{LogFault}
 use Rattle.command_log.specs.Faults.{IsCaused, fault_of}
 use Rattle.sha2.specs.Sha256.{sha256}
-use Rattle.line_digests.specs.Digests.{digest_of, digests_after, digests_of}
-use Rattle.line_digests.proofs.Digests.{digests_more}
+use Rattle.command_log.specs.Digests.{digest_of, digests_after, digests_of}
+use Rattle.command_log.proofs.Digests.{digests_more}
 use Rattle.command_log.specs.Lines.{HoldsLog, HoldsTable, IsOpen, IsIdle, IsLog, IsTabled, AreSealed, Makes, Puts, PutsAny, PutsAnyAt, IsReplaced, GivesRows, lines_of}
 use Rattle.command_log.specs.Lines.{lines_in, rows_of, digest_in}
 use Rattle.command_log.specs.Inside.{IsInside, InLog, ReadsRows}

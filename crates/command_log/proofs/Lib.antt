@@ -19,3 +19,4 @@ pub mod Statements
 pub mod Sealing
 pub mod Passing
 pub mod Reaching
+pub mod Digests

@@ -5,8 +5,8 @@ use Rattle.std.proofs.lemmas.List.{append_assoc, map-append, take-append-drop, t
 use Rattle.std.proofs.lemmas.List.{get_or_append_left, get_or_default, take-append-le}
 use Rattle.std.proofs.Math.Seq.{take-append-add, take-length}
 use Rattle.sha2.specs.Sha256.{sha256}
-use Rattle.line_digests.specs.Digests.{digest_after, digest_of, digests_after, digests_of}
-use Rattle.line_digests.proofs.Digests.{after_both, after_more, digests_more}
+use Rattle.command_log.specs.Digests.{digest_after, digest_of, digests_after, digests_of}
+use Rattle.command_log.proofs.Digests.{after_both, after_more, digests_more}
 use Rattle.sqlite.specs.Order.{Row}
 use Rattle.sqlite_value.specs.Order.{column}
 use Rattle.sqlite_rules.specs.Edit.{id_in}

@@ -31,8 +31,8 @@ use Rattle.sqlite.specs.Steps.{FailsToCommit}
 use Rattle.sqlite.specs.Held.{Held, state}
 use Rattle.sqlite.specs.declared.error.Error.{Error}
 use Rattle.command_log.specs.Table.{log_schema}
-use Rattle.line_digests.specs.Digests.{digest_after, digests_after}
-use Rattle.line_digests.proofs.Digests.{digests_more}
+use Rattle.command_log.specs.Digests.{digest_after, digests_after}
+use Rattle.command_log.proofs.Digests.{digests_more}
 use Rattle.command_log.specs.Lines.{HoldsLog, HoldsTable, KeepsLines, IsOpen, IsIdle, IsLog, IsTabled, AreSealed, Puts, PutsAny, PutsAt, HasRoom, lines_of, lines_in}
 
 -- what lines can't be stored for, if each of the two causes is carried over

@@ -2,7 +2,7 @@
 use Rattle.std.specs.Prelude.{◌≡◌, ◌≢◌, ◌⊎◌, ⊤, ℕ, ◌+◌, ◌^◌, ◌<◌, ◌+ℤ◌, pos, false, List, ◌++◌, length, map, take, get_or, All, Contains, IsSome, IsUtf8}
 use Rattle.sqlite.specs.Order.{Row}
 use Rattle.sha2.specs.Sha256.{sha256}
-use Rattle.line_digests.specs.Digests.{digest_of}
+use Rattle.command_log.specs.Digests.{digest_of}
 use Rattle.sqlite_rules.specs.Edit.{next_rowid}
 use Rattle.sqlite_sql.specs.Ops.{fits_i64}
 use Rattle.sqlite.specs.State.{State}

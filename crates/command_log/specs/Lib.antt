@@ -4,3 +4,4 @@ pub mod Lines
 pub mod Inside
 pub mod Found
 pub mod Testing
+pub mod Digests

@@ -14,7 +14,7 @@ use Rattle.sqlite.specs.Store.{Ghosts}
 use Rattle.sqlite.specs.Effect.{Database, IsDatabase}
 use Rattle.sqlite.specs.Held.{Held, state}
 use Rattle.sqlite.specs.State.{HasCleanDisk, Survives}
-use Rattle.line_digests.specs.Digests.{digests_after, digests_of}
+use Rattle.command_log.specs.Digests.{digests_after, digests_of}
 use Rattle.command_log.specs.Table.{log_schema, no_schema}
 
 -- a row is its number, a NULL in the column of the number, the line, and the digest of the lines up to it

@@ -1,7 +1,7 @@
 -- Testing the digests of the rows of a log.
 use Rattle.std.specs.Prelude.{◌≡◌, ◌≢◌, ⊤, ℕ, ◌+◌, ◌<◌, List, ◌++◌, length, map, take, get_or}
 use Rattle.sha2.specs.Sha256.{sha256}
-use Rattle.line_digests.specs.Digests.{digest_after, digest_of, digests_after}
+use Rattle.command_log.specs.Digests.{digest_after, digest_of, digests_after}
 use Rattle.sqlite.specs.Order.{Row}
 use Rattle.command_log.specs.declared.fault.LogFault.{LogFault}
 use Rattle.command_log.specs.declared.fault.LogFault.TheVariants as fault

@@ -11,13 +11,13 @@ ghost use Rattle.command_log.specs.Faults.{fault_of, IsCaused, Nothing, Unreadab
 ghost use Rattle.command_log.specs.Faults.{AreText};
 ghost use Rattle.command_log.specs.Inside.{IsInside, InLog, ReadsRows};
 ghost use Rattle.sha2.specs.Sha256.{sha256};
-ghost use Rattle.line_digests.specs.Digests.{digest_after, digest_of};
+ghost use Rattle.command_log.specs.Digests.{digest_after, digest_of};
 ghost use Rattle.command_log.specs.Lines.{IsLineRow, IsOpen, IsLog, IsTabled, Makes, Puts, PutsAny};
 ghost use Rattle.command_log.specs.Lines.{HasRoom, PutsAnyAt, PutsAt};
 ghost use Rattle.command_log.specs.Lines.{IsAppended, IsReplaced, GivesRows, text_in, place_after};
 ghost use Rattle.command_log.specs.Lines.{rows_of, lines_of, lines_left};
 
-use line_digests::LineDigest;
+use crate::digest::LineDigest;
 use sqlite::{Connection, Error, ErrorCode, Row, Transaction, params};
 use sqlite_trees::store::Alter;
 use std::alloc::Global;

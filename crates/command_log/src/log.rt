@@ -45,7 +45,7 @@ ghost use Rattle.command_log.specs.Lines.{
   lines_left,
   rows_of,
 };
-ghost use Rattle.line_digests.specs.Digests.{digest_of};
+ghost use Rattle.command_log.specs.Digests.{digest_of};
 ghost use Rattle.log_tails.specs.Rows.{IsNumber};
 ghost use Rattle.command_log.specs.Table.{log_schema, IsOther};
 ghost use Rattle.command_log.specs.Faults.{IsCaused, IsCloseFault, IsPlain, Unreadable, Unsealed, Unstorable};
@@ -57,12 +57,12 @@ ghost use Rattle.command_log.specs.Found.{FindsOnlySuch, IsFoundAgain, IsKeptAlo
 
 use crate::batch::{Batch, LogPlace};
 use crate::closed::LogFiles;
+use crate::digest::LineDigest;
 use crate::fault::LogFault;
 use crate::lines::{NO_LIMIT, ReadLines, put_all, read_after, replace_all};
 use crate::numbering::{last_after, number_after};
 use crate::table::{Holds, held_by, make};
 use crate::testing::{Tested, test_all};
-use line_digests::LineDigest;
 use sqlite::{Connection, FileStore, MemStore};
 use sqlite_disk::{Disk, Files};
 use sqlite_trees::store::Alter;
@@ -84,7 +84,7 @@ pub struct CommandLog<S: Alter> {
 impl<S: Alter> Model for CommandLog<S> {
     ghost use Rattle.sqlite.specs.Held.{Held, held_code};
     ghost use Rattle.std.specs.Prelude.{◌≡◌};
-    ghost use Rattle.line_digests.specs.Digests.{digest_of};
+    ghost use Rattle.command_log.specs.Digests.{digest_of};
     ghost use Rattle.command_log.specs.Lines.{IsLog, IsOpen, lines_of};
 
     ghost Value = { Held S };

@@ -2,7 +2,7 @@
 ghost use Rattle.std.specs.Prelude.{◌≡◌, ◌≢◌, ◌++◌, [], true, false, All, map};
 ghost use Rattle.std.specs.Prelude.{IfOk, IfErr, IsTrue, OnOk};
 ghost use Rattle.sha2.specs.Sha256.{sha256};
-ghost use Rattle.line_digests.specs.Digests.{digest_of};
+ghost use Rattle.command_log.specs.Digests.{digest_of};
 ghost use Rattle.sqlite.specs.Held.{state};
 ghost use Rattle.sqlite.specs.State.{HasCleanDisk, Survives};
 ghost use Rattle.command_log.specs.Faults.{IsCaused, IsPlain, Unsealed};
@@ -10,9 +10,9 @@ ghost use Rattle.command_log.specs.Lines.{AreSealed, IsLineRow, IsLog, IsOpen, I
 ghost use Rattle.command_log.specs.Lines.{line_in, lines_of, rows_after, rows_of, sum_in, text_in};
 ghost use Rattle.command_log.specs.Testing.{EndsTest, IsTested, Tests};
 
+use crate::digest::LineDigest;
 use crate::fault::LogFault;
 use crate::lines::{number_of, read_rows};
-use line_digests::LineDigest;
 use sqlite::{Connection, Row};
 use sqlite_trees::store::Alter;
 use sqlite_value::value::ValueRef;

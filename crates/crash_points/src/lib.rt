@@ -9,5 +9,5 @@
 mod serving;
 mod stopping;
 
-pub use serving::{serve_files, serve_until};
+pub use serving::serve_until;
 pub use stopping::Stopping;

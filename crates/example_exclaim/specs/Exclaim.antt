@@ -9,16 +9,16 @@ use Rattle.hook_changes.specs.declared.reply.Change.TheVariants.{Add}
 use Rattle.callback_store.specs.Shape.{Shape}
 use Rattle.example_exclaim.specs.declared.Exclaim.{Exclaim}
 
--- callback 1 runs on the_title at priority 10 and wants one argument, the title
+-- callback 1001 runs on the_title at priority 10 and wants one argument, the title
 abbrev pub load : List Change
-load = Add (codes "the_title") (pos 10) 1 1 ∷ []
+load = Add (codes "the_title") (pos 10) 1001 1 ∷ []
 
 abbrev pub exclaim : Shape
-exclaim = record { name = codes "exclaim"; load = load; callbacks = 1 ∷ [] }
+exclaim = record { name = codes "exclaim"; load = load; callbacks = 1001 ∷ [] }
 
 -- the number by which the callback is known
 abbrev pub number_of : Exclaim → ℕ
-number_of callback = 1
+number_of callback = 1001
 
 -- the title is the first argument
 abbrev pub title_in : List Text → Text

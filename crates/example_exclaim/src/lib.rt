@@ -22,7 +22,7 @@ impl Stated for Exclaim {
     ghost number = { number_of };
 
     fn id(&self) -> CallbackId {
-        CallbackId::new(1)
+        CallbackId::new(1001)
     }
 
     fn answer(&self, alloc: Global, call: &Call) -> Result<Reply, AllocError> {
@@ -64,7 +64,7 @@ fn load(alloc: Global) -> Result<Listed<Change>, AllocError>
     changes.push(Change::Add {
         hook: Text::copied(alloc, "the_title")?,
         priority: 10,
-        callback: CallbackId::new(1),
+        callback: CallbackId::new(1001),
         accepted: 1,
     })?;
     Ok(changes)

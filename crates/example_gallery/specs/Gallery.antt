@@ -15,12 +15,12 @@ use Rattle.hook_changes.specs.declared.reply.Change.TheVariants.{Add, AddTag}
 use Rattle.callback_store.specs.Shape.{Shape}
 use Rattle.page_escapes.specs.Escapes.{html_escaped}
 
--- callback 1 is the handler of [gallery], callback 2 an action at the end of each page, without arguments
+-- callback 1001 is the handler of [gallery], callback 1002 an action at the end of each page, without arguments
 abbrev pub load : List Change
-load = AddTag (codes "gallery") 1 ∷ Add (codes "wp_footer") (pos 10) 2 0 ∷ []
+load = AddTag (codes "gallery") 1001 ∷ Add (codes "wp_footer") (pos 10) 1002 0 ∷ []
 
 abbrev pub gallery : Shape
-gallery = record { name = codes "gallery"; load = load; callbacks = 1 ∷ 2 ∷ [] }
+gallery = record { name = codes "gallery"; load = load; callbacks = 1001 ∷ 1002 ∷ [] }
 
 -- the IDs in a text: what is between its commas
 abbrev pub ids_in : Text → List Text
@@ -51,7 +51,7 @@ gallery_html atts =
     (100 / columns_in (unwrap_or (value_of atts (codes "columns")) (codes "3")))
     (ids_in (unwrap_or (value_of atts (codes "ids")) []))
 
--- number 2 asks for the site's title, and prints it escaped; an action's answer is dropped
+-- number 1002 asks for the site's title, and prints it escaped; an action's answer is dropped
 abbrev pub credit : List Answer → Reply
 credit [] = asks (GetOption (codes "blogname"))
 credit (answer.Text name ∷ more) = prints_and_answers (codes "<p>Pictures: " ++ (html_escaped name ++ codes "</p>")) []
@@ -59,4 +59,4 @@ credit (other ∷ more) = answers_text []
 
 -- what the callback with that number replies
 unfoldable pub says : ℕ → Call → Reply
-says number call = if number == 1 then answers_text (gallery_html call.atts) else credit call.answers
+says number call = if number == 1001 then answers_text (gallery_html call.atts) else credit call.answers

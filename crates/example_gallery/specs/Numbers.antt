@@ -4,5 +4,5 @@ use Rattle.example_gallery.specs.declared.Callback.{Callback}
 use Rattle.example_gallery.specs.declared.Callback.TheVariants.{Gallery, Credit}
 
 abbrev pub number_of : Callback → ℕ
-number_of Gallery = 1
-number_of Credit = 2
+number_of Gallery = 1001
+number_of Credit = 1002

@@ -3,9 +3,6 @@
 //! docs/PLUGINS.md goes through it.
 #![tactic(auto)]
 
-#[cfg(test)]
-mod tests;
-
 ghost use Rattle.std.specs.Prelude.{◌≡◌, ◌<◌, ◌∷◌, [], IfOk, flat_map, map, unwrap_or};
 ghost use Rattle.shortcode_atts.specs.Attributes.{value_of};
 ghost use Rattle.callback_store.specs.Shape.{shape_of};
@@ -21,9 +18,9 @@ use std::alloc::{AllocError, Global};
 /// The callbacks of the plugin.
 #[derive(Clone, Copy)]
 pub enum Callback {
-    /// Number 1, the handler of `[gallery ids="3,1,2" columns=2]`.
+    /// Number 1001, the handler of `[gallery ids="3,1,2" columns=2]`.
     Gallery,
-    /// Number 2, an action on `wp_footer`.
+    /// Number 1002, an action on `wp_footer`.
     Credit,
 }
 
@@ -37,8 +34,8 @@ impl Stated for Callback {
 
     fn id(&self) -> CallbackId {
         match self {
-            Callback::Gallery => CallbackId::new(1),
-            Callback::Credit => CallbackId::new(2),
+            Callback::Gallery => CallbackId::new(1001),
+            Callback::Credit => CallbackId::new(1002),
         }
     }
 

@@ -13,12 +13,12 @@ use Rattle.hook_changes.specs.declared.reply.Change.TheVariants.{Add, AddTag}
 use Rattle.callback_store.specs.Shape.{Shape}
 use Rattle.page_escapes.specs.Escapes.{html_escaped}
 
--- the handler of [notice] is number 1, the filter on titles number 2, which wants the title and the post's ID
+-- the handler of [notice] is number 1001, the filter on titles number 1002, which wants the title and the post's ID
 abbrev pub load : List Change
-load = AddTag (codes "notice") 1 ∷ Add (codes "the_title") (pos 10) 2 2 ∷ []
+load = AddTag (codes "notice") 1001 ∷ Add (codes "the_title") (pos 10) 1002 2 ∷ []
 
 abbrev pub notices : Shape
-notices = record { name = codes "notices"; load = load; callbacks = 1 ∷ 2 ∷ [] }
+notices = record { name = codes "notices"; load = load; callbacks = 1001 ∷ 1002 ∷ [] }
 
 -- the attributes of [notice], and what each is if it isn't given
 abbrev pub defaults : List (Text × Text)
@@ -38,13 +38,13 @@ notice_html atts content =
     (unwrap_or (value_of atts (codes "label")) (codes "Note"))
     content
 
--- number 1 asks for the shortcodes in its content, and draws the box round the answer
+-- number 1001 asks for the shortcodes in its content, and draws the box round the answer
 abbrev pub notice : Attributes → Text → List Answer → Reply
 notice atts content [] = asks (Shortcodes content)
 notice atts content (answer.Text replaced ∷ more) = answers_text (notice_html atts replaced)
 notice atts content (other ∷ more) = answers_text []
 
--- number 2 puts the ID before the title
+-- number 1002 puts the ID before the title
 abbrev pub numbered : List Text → Text
 numbered [] = []
 numbered (title ∷ []) = title
@@ -53,5 +53,5 @@ numbered (title ∷ id ∷ more) = id ++ (codes ". " ++ title)
 -- what the callback with that number replies
 unfoldable pub says : ℕ → Call → Reply
 says number call =
-    if number == 1 then notice call.atts call.content call.answers
+    if number == 1001 then notice call.atts call.content call.answers
     else answers_text (numbered call.args)

@@ -4,5 +4,5 @@ use Rattle.example_notices.specs.declared.Callback.{Callback}
 use Rattle.example_notices.specs.declared.Callback.TheVariants.{Notice, NumberedTitle}
 
 abbrev pub number_of : Callback → ℕ
-number_of Notice = 1
-number_of NumberedTitle = 2
+number_of Notice = 1001
+number_of NumberedTitle = 1002

@@ -18,9 +18,9 @@ use std::alloc::{AllocError, Global};
 /// The callbacks of the plugin.
 #[derive(Clone, Copy)]
 pub enum Callback {
-    /// Number 1, the handler of `[notice kind="warning" label="Careful"]text[/notice]`.
+    /// Number 1001, the handler of `[notice kind="warning" label="Careful"]text[/notice]`.
     Notice,
-    /// Number 2, a filter on `the_title`.
+    /// Number 1002, a filter on `the_title`.
     NumberedTitle,
 }
 
@@ -34,8 +34,8 @@ impl Stated for Callback {
 
     fn id(&self) -> CallbackId {
         match self {
-            Callback::Notice => CallbackId::new(1),
-            Callback::NumberedTitle => CallbackId::new(2),
+            Callback::Notice => CallbackId::new(1001),
+            Callback::NumberedTitle => CallbackId::new(1002),
         }
     }
 

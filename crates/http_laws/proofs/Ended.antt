@@ -10,7 +10,7 @@ use Rattle.http_messages.specs.declared.request.RequestFault.{RequestFault}
 use Rattle.http_messages.specs.declared.request.RequestFault.TheVariants.{Failed}
 use Rattle.http_messages.specs.EntityTag.{is_met, tag_text}
 use Rattle.http_messages.specs.Response.{commands_response, content_fields, fault_of, fault_response, fields_of, page_response, reply_response, text, text_of}
-use Rattle.http_reading.specs.Reading.{states_length}
+use Rattle.http_laws.specs.Reading.{states_length}
 use Rattle.site_replies.specs.Reply.{ReplyData, done, done_id, refused, page}
 
 -- content comes with its length, whatever other fields there are

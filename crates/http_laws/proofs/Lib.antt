@@ -1,2 +1,5 @@
 pub mod Ended
 pub mod Unedited
+pub mod StatedEnds
+pub mod Same
+pub mod Streams

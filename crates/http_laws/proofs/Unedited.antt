@@ -17,7 +17,7 @@ use Rattle.site_laws.proofs.Readings.{line-is}
 use Rattle.site_program.specs.History.{Serves, history, is_kept}
 use Rattle.site_program.specs.State.{State}
 use Rattle.site_program.specs.Step.{step}
-use Rattle.site_program.proofs.Rebuilding.{reply-unkept}
+use Rattle.site_laws.proofs.Histories.{reply-unkept}
 use Rattle.site_replies.specs.Reply.{ReplyData}
 use Rattle.site_serving.specs.Served.{Replied}
 

@@ -10,8 +10,8 @@ use Rattle.http_server.specs.Connection.{history}
 use Rattle.http_server.specs.Exchange.{Call}
 use Rattle.http_server.specs.History.{IsServed}
 use Rattle.http_server.specs.Rounds.{Round, Rounds, all_of, kept_of, IsCleared}
-use Rattle.http_rounds.specs.Ends.{EndsWell}
-use Rattle.http_rounds.specs.Losses.{StopsAtALoss, TellsALoss}
+use Rattle.http_streams.specs.Ends.{EndsWell}
+use Rattle.http_streams.specs.Losses.{StopsAtALoss, TellsALoss}
 
 -- A connection read these bytes and wrote these. What it read is the requests of its calls, and then what its state says;
 -- what it wrote is the responses to them, in order (`IsServed`). The calls are rounds, from the site as it was to the site

@@ -3,8 +3,8 @@ ghost use Rattle.http_pages.specs.Serving.{IsServedTo};
 
 use crate::pages::Pages;
 use crate::service::PageService;
-use http_rounds::{Commits, serve_rounds};
 use http_server::{Config, Connection, Service};
+use http_streams::{Commits, serve_rounds};
 use std::hash::RandomState;
 use std::io;
 use std::io::{Read, Write};

@@ -13,8 +13,8 @@ use http_messages::{
     Wanted, condition_of, read_request, refuse, refuse_for_memory, respond_to_commands,
     respond_with,
 };
-use http_rounds::Commits;
 use http_server::{Response, Service};
+use http_streams::Commits;
 use std::alloc::{AllocError, Global};
 
 /// A site as a service of HTTP. It takes edits from whoever has the token, and from nobody if there

@@ -5,8 +5,8 @@ use Rattle.std.proofs.lemmas.Grind.{flat_map-append}
 use Rattle.std.proofs.lemmas.List.{map-append}
 use Rattle.std.proofs.lemmas.List.Elements.{All-append, All-head, All-nil, All-push, All-tail}
 use Rattle.http.specs.declared.request.Request.{Request}
-use Rattle.http_frames.specs.Frame.{FrameData, ReadsAs, front_of, part, whole}
-use Rattle.http_rounds.specs.Losses.{StopsAtALoss}
+use Rattle.http_streams.specs.Frame.{FrameData, ReadsAs, front_of, part, whole}
+use Rattle.http_streams.specs.Losses.{StopsAtALoss}
 use Rattle.http_server.specs.declared.response.Response.{Response}
 use Rattle.http_server.specs.Exchange.{Call}
 use Rattle.http_server.specs.Rounds.{Round, Rounds}

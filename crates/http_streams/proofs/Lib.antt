@@ -6,3 +6,4 @@ pub mod Sessions
 pub mod Stretch
 pub mod Streams
 pub mod Taking
+pub mod Round

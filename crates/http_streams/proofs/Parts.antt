@@ -6,7 +6,7 @@ use Rattle.std.proofs.lemmas.Grind.{common_steps, flat_map-append}
 use Rattle.std.proofs.lemmas.List.{length-append}
 use Rattle.std.proofs.lemmas.List.Elements.{All-head, All-nil, All-push, All-tail}
 use Rattle.http.specs.declared.request.Request.{Request}
-use Rattle.http_rounds.specs.Losses.{StopsAtALoss}
+use Rattle.http_streams.specs.Losses.{StopsAtALoss}
 use Rattle.http_server.specs.declared.connection.Connection.{Connection}
 use Rattle.http_server.specs.declared.response.Response.{Response}
 use Rattle.http_server.specs.Connection.{config_of, history}

@@ -10,8 +10,8 @@ use Rattle.std.proofs.lemmas.List.{map-append}
 use Rattle.std.proofs.lemmas.List.Elements.{All-append, All-head, All-nil, All-tail}
 use Rattle.byte_io.specs.Known.{AppendsFront}
 use Rattle.http.specs.declared.request.Request.{Request}
-use Rattle.http_frames.specs.Frame.{ReadsAs}
-use Rattle.http_rounds.specs.Losses.{StopsAtALoss}
+use Rattle.http_streams.specs.Frame.{ReadsAs}
+use Rattle.http_streams.specs.Losses.{StopsAtALoss}
 use Rattle.http_server.specs.declared.response.Response.{Response}
 use Rattle.http_server.specs.declared.state.Config.{Config}
 use Rattle.http_server.specs.Rounds.{Rounds}

@@ -5,7 +5,7 @@ use Rattle.std.specs.Int.{from_be_bytes, w32}
 use Rattle.std.proofs.lemmas.Bool.{cases_Bool}
 use Rattle.std.proofs.lemmas.Grind.{common_steps}
 use Rattle.std.proofs.lemmas.List.{drop-append-le, length-append, length-drop, take-append-le}
-use Rattle.http_frames.specs.Frame.{FrameData, FrontData, ReadsAs, after_head, front_of, most_bytes, part, too_long, whole}
+use Rattle.http_streams.specs.Frame.{FrameData, FrontData, ReadsAs, after_head, front_of, most_bytes, part, too_long, whole}
 
 -- more bytes after those that follow
 abbrev longer : List ℕ → FrontData → FrontData

@@ -1,6 +1,6 @@
 -- Many connections on one stream of frames: what was done, frame by frame.
 use Rattle.std.specs.Prelude.{◌≡◌, ℕ, nat_eq, List, [], ◌++◌, filter, flat_map}
-use Rattle.http_frames.specs.Frame.{FrameData, frame_bytes}
+use Rattle.http_streams.specs.Frame.{FrameData, frame_bytes}
 use Rattle.http_server.specs.declared.connection.Connection.{Connection}
 use Rattle.http_server.specs.declared.state.Config.{Config}
 use Rattle.http_server.specs.Connection.{config_of, history}

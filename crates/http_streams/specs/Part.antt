@@ -1,7 +1,7 @@
 -- What one frame does to its connection.
 use Rattle.std.specs.Prelude.{◌≡◌, ◌||◌, ◌==◌, ℕ, Bool, true, false, List, [], ◌++◌, All, flat_map, length, Result, OnOk}
 use Rattle.http.specs.declared.request.Request.{Request}
-use Rattle.http_rounds.specs.Losses.{StopsAtALoss}
+use Rattle.http_streams.specs.Losses.{StopsAtALoss}
 use Rattle.http_server.specs.declared.connection.Connection.{Connection}
 use Rattle.http_server.specs.declared.response.Response.{Response}
 use Rattle.http_server.specs.Connection.{config_of, history}

@@ -5,8 +5,8 @@ use Rattle.std.specs.Io.KnownBytes.{Appends, Consumes}
 use Rattle.std.specs.Ordering.{nat_cmp}
 use Rattle.byte_io.specs.Known.{AppendsFront}
 use Rattle.http.specs.declared.request.Request.{Request}
-use Rattle.http_frames.specs.Frame.{FrameData, ReadsAs, front_of, part}
-use Rattle.http_rounds.specs.Losses.{StopsAtALoss}
+use Rattle.http_streams.specs.Frame.{FrameData, ReadsAs, front_of, part}
+use Rattle.http_streams.specs.Losses.{StopsAtALoss}
 use Rattle.http_server.specs.declared.connection.Connection.{Connection}
 use Rattle.http_server.specs.declared.response.Response.{Response}
 use Rattle.http_server.specs.declared.state.Config.{Config}

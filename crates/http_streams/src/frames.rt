@@ -1,13 +1,13 @@
 //! One frame of any connection.
 ghost use Rattle.std.specs.Prelude.{◌≡◌, ◌++◌, ◌∷◌, [], List, OnErr, OnOk};
-ghost use Rattle.http_frames.specs.Frame.{FrameData};
+ghost use Rattle.http_streams.specs.Frame.{FrameData};
 ghost use Rattle.http_streams.specs.Deeds.{Deed, pieces_bytes};
 ghost use Rattle.http_streams.specs.Tables.{IsDone, IsServed, IsTableOf};
 
+use crate::frame::{Frame, Front, next_frame, push_frame};
 use crate::part::serve_part;
+use crate::rounds::Commits;
 use crate::table::Table;
-use http_frames::{Frame, Front, next_frame, push_frame};
-use http_rounds::Commits;
 use http_server::Service;
 use std::io;
 use std::io::ErrorKind;

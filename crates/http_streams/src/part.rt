@@ -4,8 +4,8 @@ ghost use Rattle.http_server.specs.Connection.{config_of, history};
 ghost use Rattle.http_streams.specs.Deeds.{pieces_bytes};
 ghost use Rattle.http_streams.specs.Part.{IsPart};
 
-use http_frames::{Frame, MAX_BYTES, push_frame};
-use http_rounds::Commits;
+use crate::frame::{Frame, MAX_BYTES, push_frame};
+use crate::rounds::Commits;
 use http_server::{Connection, Service};
 use std::io;
 use std::io::ErrorKind;

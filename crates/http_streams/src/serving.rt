@@ -4,10 +4,10 @@ ghost use Rattle.std.specs.Io.KnownBytes.{IsAtEnd};
 ghost use Rattle.http_streams.specs.Tables.{ServesMany};
 
 use crate::frames::serve_held;
+use crate::rounds::Commits;
 use crate::table::Table;
 use byte_io::{Sink, write_all};
 use bytes::BytesMut;
-use http_rounds::Commits;
 use http_server::Config;
 use std::alloc::Global;
 use std::hash::RandomState;

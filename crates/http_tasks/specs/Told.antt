@@ -3,9 +3,9 @@ use Rattle.std.specs.Prelude.{◌≡◌, ◌⊎◌, ℕ, Bool, true, false, List
 use Rattle.std.specs.Io.KnownBytes.{Appends, Consumes}
 use Rattle.byte_io.specs.Journal.{Grows}
 use Rattle.byte_io.specs.Known.{AppendsFront}
-use Rattle.http_frames.specs.Frame.{ReadsAs}
+use Rattle.http_streams.specs.Frame.{ReadsAs}
 use Rattle.http_pages.specs.declared.serve.TheConstants.{CONFIG}
-use Rattle.http_rounds.specs.Ends.{EndsWell}
+use Rattle.http_streams.specs.Ends.{EndsWell}
 use Rattle.http_server.specs.Connection.{history}
 use Rattle.http_server.specs.Exchange.{Call}
 use Rattle.http_server.specs.History.{IsServed}

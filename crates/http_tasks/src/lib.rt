@@ -11,6 +11,6 @@ mod serving;
 mod token;
 mod writer;
 
-pub use files::{Served, serve_file, serve_path};
+pub use files::{ServeClients, Served, serve_path};
 pub use serving::{Clients, serve};
 pub use token::read_token;

@@ -8,8 +8,6 @@
 mod line;
 mod log;
 mod paths;
-#[cfg(test)]
-mod tests;
 mod told;
 mod values;
 mod watch;

@@ -38,15 +38,14 @@ ghost use Rattle.permalink_query.specs.Found.{
   query_result,
 };
 ghost use Rattle.permalink_query.specs.Months.{is_month};
-ghost use Rattle.sorted_texts.specs.Sorted.{AreSorted};
+ghost use Rattle.site_records.specs.Sorted.{AreSorted};
 
 use crate::month::month_span;
 use crate::number::whole_number;
 use crate::query::Query;
 use plain_data::{Listed, Text};
 use post_tables::{StoreFault, Tables};
-use site_records::{Found, FoundKind, Post, PostDate, PostKind, PostStatus};
-use sorted_texts::sorted_named;
+use site_records::{Found, FoundKind, Post, PostDate, PostKind, PostStatus, sorted_named};
 use std::alloc::{AllocError, Global};
 
 /// How many posts make a part if the option doesn't say.

@@ -24,7 +24,8 @@ use Rattle.sqlite_rules.specs.Edit.{edit_of, id_in, is_taken}
 use Rattle.sqlite_rules.specs.declared.error.Rowids.TheVariants.{Above}
 use Rattle.sqlite.proofs.Callers.{one_step}
 use Rattle.site_records.specs.declared.post.Post.{Post}
-use Rattle.post_tables.specs.Stored.{row_of, kind_text, status_text, IsCounter, top_in}
+use Rattle.post_tables.specs.Stored.{row_of, IsCounter, top_in}
+use Rattle.site_records.specs.Kinds.{kind_text, status_text}
 use Rattle.table_rows.proofs.Casting.{cast_int, cast_null}
 use Rattle.post_tables.proofs.Comparing.{text_itself}
 use Rattle.std.proofs.lemmas.Cmp.{tied_itself}

@@ -46,7 +46,8 @@ use Rattle.site_records.specs.declared.post.PostStatus.TheVariants.{Publish, Dra
 use Rattle.table_rows.specs.Sorting.{in_order}
 use Rattle.post_tables.specs.Rows.{by_bytes}
 use Rattle.post_tables.specs.Page.{newest, is_kind, is_published, is_listed, page_of}
-use Rattle.post_tables.specs.Stored.{IsReadable, ArePosts, IsSite, rows_of, trees_of, row_of, post_in, kind_text, kind_of, status_text, status_of}
+use Rattle.post_tables.specs.Stored.{IsReadable, ArePosts, IsSite, rows_of, trees_of, row_of, post_in, kind_of, status_of}
+use Rattle.site_records.specs.Kinds.{kind_text, status_text}
 use Rattle.post_tables.specs.Reading.{post_from, IsPostRow}
 use Rattle.sqlite_typing.specs.Types.{accepts_program}
 use Rattle.std.specs.Prelude.{IsUtf8, All}

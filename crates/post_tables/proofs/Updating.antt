@@ -45,7 +45,8 @@ use Rattle.site_records.specs.declared.post.PostStatus.{PostStatus}
 use Rattle.post_tables.specs.Schema.{site_schema, post_table}
 use Rattle.table_rows.specs.Sorting.{in_order}
 use Rattle.post_tables.specs.Rows.{with_post, without_post, has_post, post_with, PostEdit, edited_post, edited_posts}
-use Rattle.post_tables.specs.Stored.{HoldsSite, IsReadable, ArePosts, IsCounter, row_of, post_in, top_in, status_text, rows_of, trees_of}
+use Rattle.post_tables.specs.Stored.{HoldsSite, IsReadable, ArePosts, IsCounter, row_of, post_in, top_in, rows_of, trees_of}
+use Rattle.site_records.specs.Kinds.{status_text}
 use Rattle.table_rows.proofs.Casting.{cast_int, cast_null}
 use Rattle.post_tables.proofs.Comparing.{number_compares, pos_cmp, same_number}
 use Rattle.table_rows.proofs.Steps.{went, same_value}

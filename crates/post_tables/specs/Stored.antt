@@ -23,6 +23,7 @@ use Rattle.site_records.specs.declared.post.PostKind.TheVariants.{Post as OfPost
 use Rattle.site_records.specs.declared.post.PostStatus.{PostStatus}
 use Rattle.site_records.specs.declared.post.PostStatus.TheVariants.{Publish, Draft}
 use Rattle.site_records.specs.Dates.{is_post_date}
+use Rattle.site_records.specs.Kinds.{kind_text, status_text}
 use Rattle.post_tables.specs.Schema.{site_schema}
 use Rattle.plain_data.specs.Texts.{Text}
 use Rattle.post_tables.specs.Rows.{by_bytes, Rows}
@@ -84,16 +85,8 @@ named_in value_in rows = from_entries (map (λ r. (name_in r, value_in r)) rows)
 
 -- ---- posts: a row is the ID, a NULL in its column, and then the other columns
 
-abbrev pub kind_text : PostKind → Text
-kind_text OfPost = codes "post"
-kind_text OfPage = codes "page"
-
 abbrev pub kind_of : Text → PostKind
 kind_of t = if bytes_eq t (codes "page") then OfPage else OfPost
-
-abbrev pub status_text : PostStatus → Text
-status_text Publish = codes "publish"
-status_text Draft = codes "draft"
 
 abbrev pub status_of : Text → PostStatus
 status_of t = if bytes_eq t (codes "publish") then Publish else Draft

@@ -13,9 +13,9 @@ ghost use Rattle.sqlite_value.specs.Order.{column};
 use crate::fault::TablesFault;
 use crate::kept::KeptPosts;
 use crate::kept_parts::KeptParts;
-use crate::posts::{kind_text, largest_id, page_rows, post_rows};
+use crate::posts::{largest_id, page_rows, post_rows};
 use crate::read::{push, read_found, read_ids, read_posts};
-use site_records::{Post, PostDate, PostKind};
+use site_records::{Post, PostDate, PostKind, kind_text};
 use sqlite::{Connection, Error, MemStore, Row, params};
 use std::alloc::Global;
 

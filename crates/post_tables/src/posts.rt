@@ -35,12 +35,11 @@ ghost use Rattle.post_tables.specs.Stored.{
   MakesInside,
   Reads,
   rows_of,
-  kind_text,
-  status_text,
 };
+ghost use Rattle.site_records.specs.Kinds.{status_text};
 
 use crate::read::read_top;
-use site_records::{PostDate, PostKind, PostStatus};
+use site_records::{PostDate, PostKind, PostStatus, kind_text, status_text};
 use sqlite::{Connection, Error, MemStore, Row, Transaction, params};
 
 const INSERT_POST: &str = "INSERT INTO post (id, kind, status, title, content, date) \
@@ -57,26 +56,6 @@ pub(crate) struct NewPost<'a> {
     pub(crate) title: &'a str,
     pub(crate) content: &'a str,
     pub(crate) date: &'a PostDate,
-}
-
-/// Returns what the column `kind` holds for a kind.
-pub(crate) fn kind_text(kind: PostKind) -> &'static str
-    ensures { result.now ≡ kind_text kind }
-{
-    match kind {
-        PostKind::Post => "post",
-        PostKind::Page => "page",
-    }
-}
-
-/// Returns what the column `status` holds for a status.
-fn status_text(status: PostStatus) -> &'static str
-    ensures { result.now ≡ status_text status }
-{
-    match status {
-        PostStatus::Publish => "publish",
-        PostStatus::Draft => "draft",
-    }
 }
 
 fn given_status(status: Option<PostStatus>) -> Option<&'static str>

@@ -1,8 +1,9 @@
 -- The value that the arguments give an option that reads a number.
 use Rattle.std.proofs.Common.{◌≡◌, ◌⊎◌, ◌∙◌, ◌<◌, ℕ, pos, true, List, [], ◌∷◌, map, length, zero, suc, Option, Some, None, codes, refl, sym, ap, subst}
 use Rattle.std.proofs.Common.{inl, inr, arith, lit<, ◌≤◌, ◌^◌, Result, Ok}
-use Rattle.std.specs.Prelude.{option_map, option_and_then, slice_get, unwrap_or}
-use Rattle.std.specs.List.{All, slice_index_or}
+use Rattle.std.specs.Prelude.{Bool, false, not, ◌&&◌, option_map, option_and_then, slice_get, unwrap_or}
+use Rattle.std.proofs.lemmas.Bool.{and_parts}
+use Rattle.std.specs.List.{All, list_all, slice_index_or}
 use Rattle.std.specs.Str.{bytes_eq}
 use Rattle.std.specs.Borrow.{Bor}
 use Rattle.std.specs.Str.Parse.{ParsesUnsigned}
@@ -22,8 +23,9 @@ use Rattle.clap.specs.declared.parser.matches.ArgMatches.{ArgMatches}
 use Rattle.clap.specs.declared.parser.matches.MatchedArg.{MatchedArg}
 use Rattle.clap.proofs.CallerLemmas.{entry_by_id, same_rules_by_id}
 use Rattle.clap.proofs.CallerReads.{signed_reads}
-use Rattle.site_args.specs.CommandLine.{site_app, number_rule, number_or}
-use Rattle.site_args.proofs.SiteApp.{all_rules, rules_are, plain, no_groups}
+use Rattle.site_args.specs.CommandLine.{option_rules, site_app, rule, number_or}
+use Rattle.site_args.specs.declared.options.Given.TheVariants.{Number}
+use Rattle.site_args.proofs.SiteApp.{rules_are, plain, no_groups}
 
 -- argument k of the command reads a number from 1 to the most, and has an id of its own
 pub record IsNumberArg (c : Command) (k : ℕ) (a : Arg) (id : Text) (most : ℕ) : Type 0 where
@@ -132,83 +134,70 @@ id_at (x ∷ xs) (r ∷ rs) same (suc j) e lt =
     let below : j < length xs = omega arith in
     id_at xs rs later j e below
 
--- no other option has the id
-calls_only : (j : ℕ) (r : Rule) → j < 12 → bytes_eq (slice_index_or all_rules j r).id (codes "calls") ≡ true → j ≡ 0
-calls_only zero r lt same = refl
-calls_only (suc zero) r lt same = let no : bytes_eq (codes "cache") (codes "calls") ≡ true = same in cc
-calls_only (suc (suc zero)) r lt same = let no : bytes_eq (codes "trace") (codes "calls") ≡ true = same in cc
-calls_only (suc (suc (suc zero))) r lt same = let no : bytes_eq (codes "database") (codes "calls") ≡ true = same in cc
-calls_only (suc (suc (suc (suc zero)))) r lt same = let no : bytes_eq (codes "must-exist") (codes "calls") ≡ true = same in cc
-calls_only (suc (suc (suc (suc (suc zero))))) r lt same = let no : bytes_eq (codes "without-wal") (codes "calls") ≡ true = same in cc
-calls_only (suc (suc (suc (suc (suc (suc zero)))))) r lt same = let no : bytes_eq (codes "export") (codes "calls") ≡ true = same in cc
-calls_only (suc (suc (suc (suc (suc (suc (suc zero))))))) r lt same = let no : bytes_eq (codes "compact") (codes "calls") ≡ true = same in cc
-calls_only (suc (suc (suc (suc (suc (suc (suc (suc zero)))))))) r lt same = let no : bytes_eq (codes "check") (codes "calls") ≡ true = same in cc
-calls_only (suc (suc (suc (suc (suc (suc (suc (suc (suc zero))))))))) r lt same = let no : bytes_eq (codes "http") (codes "calls") ≡ true = same in cc
-calls_only (suc (suc (suc (suc (suc (suc (suc (suc (suc (suc zero)))))))))) r lt same = let no : bytes_eq (codes "framed") (codes "calls") ≡ true = same in cc
-calls_only (suc (suc (suc (suc (suc (suc (suc (suc (suc (suc (suc zero))))))))))) r lt same = let no : bytes_eq (codes "token-file") (codes "calls") ≡ true = same in cc
-calls_only (suc (suc (suc (suc (suc (suc (suc (suc (suc (suc (suc (suc j)))))))))))) r lt same = absurd (omega arith)
+clash : (b : Bool) → b ≡ true → not b ≡ true → ⊥
+clash true e h = cc
+clash false e h = cc
 
-cache_only : (j : ℕ) (r : Rule) → j < 12 → bytes_eq (slice_index_or all_rules j r).id (codes "cache") ≡ true → j ≡ 1
-cache_only zero r lt same = let no : bytes_eq (codes "calls") (codes "cache") ≡ true = same in cc
-cache_only (suc zero) r lt same = refl
-cache_only (suc (suc zero)) r lt same = let no : bytes_eq (codes "trace") (codes "cache") ≡ true = same in cc
-cache_only (suc (suc (suc zero))) r lt same = let no : bytes_eq (codes "database") (codes "cache") ≡ true = same in cc
-cache_only (suc (suc (suc (suc zero)))) r lt same = let no : bytes_eq (codes "must-exist") (codes "cache") ≡ true = same in cc
-cache_only (suc (suc (suc (suc (suc zero))))) r lt same = let no : bytes_eq (codes "without-wal") (codes "cache") ≡ true = same in cc
-cache_only (suc (suc (suc (suc (suc (suc zero)))))) r lt same = let no : bytes_eq (codes "export") (codes "cache") ≡ true = same in cc
-cache_only (suc (suc (suc (suc (suc (suc (suc zero))))))) r lt same = let no : bytes_eq (codes "compact") (codes "cache") ≡ true = same in cc
-cache_only (suc (suc (suc (suc (suc (suc (suc (suc zero)))))))) r lt same = let no : bytes_eq (codes "check") (codes "cache") ≡ true = same in cc
-cache_only (suc (suc (suc (suc (suc (suc (suc (suc (suc zero))))))))) r lt same = let no : bytes_eq (codes "http") (codes "cache") ≡ true = same in cc
-cache_only (suc (suc (suc (suc (suc (suc (suc (suc (suc (suc zero)))))))))) r lt same = let no : bytes_eq (codes "framed") (codes "cache") ≡ true = same in cc
-cache_only (suc (suc (suc (suc (suc (suc (suc (suc (suc (suc (suc zero))))))))))) r lt same = let no : bytes_eq (codes "token-file") (codes "cache") ≡ true = same in cc
-cache_only (suc (suc (suc (suc (suc (suc (suc (suc (suc (suc (suc (suc j)))))))))))) r lt same = absurd (omega arith)
+-- whether the rule in place k has the id, and no other has it
+abbrev is_only : Text → ℕ → List Rule → Bool
+is_only id k [] = false
+is_only id zero (r ∷ rs) = bytes_eq r.id id && list_all (λ s. not (bytes_eq s.id id)) rs
+is_only id (suc k) (r ∷ rs) = not (bytes_eq r.id id) && is_only id k rs
 
-calls_arg : (c : Command) → app_of c ≡ site_app → (a : Arg) × IsNumberArg c 0 a (codes "calls") 100000
-calls_arg c is =
+none_later : (id : Text) (rs : List Rule) (j : ℕ) (r : Rule) → list_all (λ s. not (bytes_eq s.id id)) rs ≡ true → j < length rs
+    → bytes_eq (slice_index_or rs j r).id id ≡ true → ⊥
+none_later id [] j r none lt same = omega arith
+none_later id (s ∷ rs) zero r none lt same = clash (bytes_eq s.id id) same (and_parts (not (bytes_eq s.id id)) (list_all (λ r. not (bytes_eq r.id id)) rs) none).0
+none_later id (s ∷ rs) (suc j) r none lt same = let below : j < length rs = omega arith in none_later id rs j r (and_parts (not (bytes_eq s.id id)) (list_all (λ r. not (bytes_eq r.id id)) rs) none).1 below same
+
+only : (id : Text) (k : ℕ) (rs : List Rule) (j : ℕ) (r : Rule) → is_only id k rs ≡ true → j < length rs
+    → bytes_eq (slice_index_or rs j r).id id ≡ true → j ≡ k
+only id k [] j r is lt same = absurd (omega arith)
+only id zero (s ∷ rs) zero r is lt same = refl
+only id zero (s ∷ rs) (suc j) r is lt same =
+    let below : j < length rs = omega arith in
+    absurd (none_later id rs j r (and_parts (bytes_eq s.id id) (list_all (λ r. not (bytes_eq r.id id)) rs) is).1 below same)
+only id (suc k) (s ∷ rs) zero r is lt same = absurd (clash (bytes_eq s.id id) same (and_parts (not (bytes_eq s.id id)) (is_only id k rs) is).0)
+only id (suc k) (s ∷ rs) (suc j) r is lt same =
+    let below : j < length rs = omega arith in
+    ap suc (only id k rs j r (and_parts (not (bytes_eq s.id id)) (is_only id k rs) is).1 below same)
+
+-- the option in place k of the program's reads a number, and is the only one of its name
+number_arg : (c : Command) → app_of c ≡ site_app → (k : ℕ) (id : Text) (most : ℕ) → k < length option_rules
+    → slice_index_or option_rules k (rule id (Number most)) ≡ rule id (Number most)
+    → is_only id k option_rules ≡ true
+    → ((id ≡ codes "help") ⊎ (id ≡ codes "version") → ⊥) → (id ≡ [] → ⊥) → (a : Arg) × IsNumberArg c k a id most
+number_arg c is k id most under at alone own named =
     let rules = rules_are c is in
-    let item = item_at rule_of (args_of c) all_rules 0 (number_rule (codes "calls") 100000) rules (lit< tt) in
-    let twelve : length (args_of c) ≡ 12 = sym (length-map (args_of c) rule_of) ∙ ap (λ (rs : List Rule). length rs) rules in (
+    let item = item_at rule_of (args_of c) option_rules k (rule id (Number most)) rules under in
+    let row : rule_of item.0 ≡ rule id (Number most) = item.2 ∙ at in
+    let size : length (args_of c) ≡ length option_rules = sym (length-map (args_of c) rule_of) ∙ ap (λ (rs : List Rule). length rs) rules in (
       item.0,
       record {
-        within = rw twelve (lit< tt);
+        within = subst (λ n. k < n) (sym size) under;
         is = item.1;
-        id_is = ap (λ (r : Rule). r.id) item.2;
-        parser = ap (λ (r : Rule). r.parser) item.2;
+        id_is = ap (λ (r : Rule). r.id) row;
+        parser = ap (λ (r : Rule). r.parser) row;
         alone =
-            λ j e lt same. calls_only j (rule_of e) (subst (λ n. j < n) twelve lt)
-            (subst (λ (w : Text). bytes_eq w (codes "calls") ≡ true) (id_at (args_of c) all_rules rules j e lt) same);
-        own = λ auto. elim auto [ inl h ↦ cc | inr h ↦ cc ];
-        named = λ h. cc;
-      },
-    )
-
-cache_arg : (c : Command) → app_of c ≡ site_app → (a : Arg) × IsNumberArg c 1 a (codes "cache") 4096
-cache_arg c is =
-    let rules = rules_are c is in
-    let item = item_at rule_of (args_of c) all_rules 1 (number_rule (codes "cache") 4096) rules (lit< tt) in
-    let twelve : length (args_of c) ≡ 12 = sym (length-map (args_of c) rule_of) ∙ ap (λ (rs : List Rule). length rs) rules in (
-      item.0,
-      record {
-        within = rw twelve (lit< tt);
-        is = item.1;
-        id_is = ap (λ (r : Rule). r.id) item.2;
-        parser = ap (λ (r : Rule). r.parser) item.2;
-        alone =
-            λ j e lt same. cache_only j (rule_of e) (subst (λ n. j < n) twelve lt)
-            (subst (λ (w : Text). bytes_eq w (codes "cache") ≡ true) (id_at (args_of c) all_rules rules j e lt) same);
-        own = λ auto. elim auto [ inl h ↦ cc | inr h ↦ cc ];
-        named = λ h. cc;
+            λ j e lt same. only id k option_rules j (rule_of e) alone (subst (λ n. j < n) size lt)
+            (subst (λ (w : Text). bytes_eq w id ≡ true) (id_at (args_of c) option_rules rules j e lt) same);
+        own = own;
+        named = named;
       },
     )
 
 -- what is read of the two options
 pub calls_read : (c : Command) (m : ArgMatches) → app_of c ≡ site_app → IsParsedFrom c m → (t : Text) → one_text (found_of m) (codes "calls") ≡ Some t
     → IsRead t 100000
-calls_read c m is p = let arg = calls_arg c is in given c 0 arg.0 _ _ arg.1 m p is
+calls_read c m is p =
+    let arg = number_arg c is 0 (codes "calls") 100000 (lit< tt) refl refl (λ auto. elim auto [ inl h ↦ cc | inr h ↦ cc ]) (λ h. cc) in
+    given c 0 arg.0 _ _ arg.1 m p is
 
 pub cache_read : (c : Command) (m : ArgMatches) → app_of c ≡ site_app → IsParsedFrom c m → (t : Text) → one_text (found_of m) (codes "cache") ≡ Some t
     → IsRead t 4096
-cache_read c m is p = let arg = cache_arg c is in given c 1 arg.0 _ _ arg.1 m p is
+cache_read c m is p =
+    let arg = number_arg c is 1 (codes "cache") 4096 (lit< tt) refl refl (λ auto. elim auto [ inl h ↦ cc | inr h ↦ cc ]) (λ h. cc) in
+    given c 1 arg.0 _ _ arg.1 m p is
 
 -- a number that is read so is the one that the text says, and in the range; if there is no text, it is the default
 pub number_is : {E : Type 0} (G : Text → Result ℕ E → Type 0) (default most : ℕ) (o : Option Text) (r : Option ℕ)

@@ -1,11 +1,14 @@
 -- Facts about the program's command line, computed.
-use Rattle.std.proofs.Common.{◌≡◌, ◌∙◌, [], ◌∷◌, List, map, true, codes, refl, ap}
-use Rattle.std.specs.List.{All, list_all}
-use Rattle.clap.specs.Words.{App, Rule, app_of, args_of, is_simple, is_simple_and_free, rule_of}
+use Rattle.std.proofs.Common.{rules, ◌≡◌, ◌∙◌, ℕ, ◌+◌, ◌<◌, List, [], ◌∷◌, ◌++◌, length, take, map, true, refl, ap}
+use Rattle.std.specs.List.{All, list_all, slice_index_or}
+use Rattle.std.proofs.lemmas.List.{append_assoc, map-append, take_more}
+use Rattle.clap.specs.Words.{App, Rule, app_of, args_of, is_simple, is_simple_and_free, rule_of, with_rule}
+use Rattle.clap.specs.Simple.{on_top}
 use Rattle.clap.specs.declared.builder.command.Command.{Command}
 use Rattle.clap.proofs.OnLiterals.{clap_on_literals}
 use Rattle.clap.proofs.SimpleLemmas.{HasPlainFields, plain_fields, simple_groups}
-use Rattle.site_args.specs.CommandLine.{site_app, bare_app, serving_rules, file_rules, history_rules, http_rules, number_rule, flag_rule, path_rule}
+use Rattle.site_args.specs.CommandLine.{option_rules, rule_of_row, site_app, with_rules}
+use Rattle.site_args.specs.declared.options.OptionRow.{OptionRow}
 
 pub simple : is_simple site_app ≡ true
 unfolding clap_on_literals site_app
@@ -15,21 +18,7 @@ pub simple_and_free : is_simple_and_free site_app ≡ true
 unfolding clap_on_literals site_app
 simple_and_free = refl
 
--- the groups of options one after another make the whole
-pub app_is : (bare served filed logged whole : App) → bare ≡ bare_app → served ≡ serving_rules bare → filed ≡ file_rules served
-    → logged ≡ history_rules filed → whole ≡ http_rules logged → whole ≡ site_app
-unfolding site_app
-app_is bare served filed logged whole is_bare is_served is_filed is_logged is_whole =
-    is_whole ∙ ap http_rules (is_logged ∙ ap history_rules (is_filed ∙ ap file_rules (is_served ∙ ap serving_rules is_bare)))
-
--- the twelve options
-abbrev pub all_rules : List Rule
-all_rules =
-    number_rule (codes "calls") 100000 ∷ number_rule (codes "cache") 4096 ∷ flag_rule (codes "trace") ∷ path_rule (codes "database")
-    ∷ flag_rule (codes "must-exist") ∷ flag_rule (codes "without-wal") ∷ flag_rule (codes "export") ∷ flag_rule (codes "compact")
-    ∷ flag_rule (codes "check") ∷ flag_rule (codes "http") ∷ flag_rule (codes "framed") ∷ path_rule (codes "token-file") ∷ []
-
-pub rules_are : (c : Command) → app_of c ≡ site_app → map rule_of (args_of c) ≡ all_rules
+pub rules_are : (c : Command) → app_of c ≡ site_app → map rule_of (args_of c) ≡ option_rules
 unfolding site_app
 rules_are c is = ap (λ (a : App). a.top.rules) is
 
@@ -41,3 +30,14 @@ plain c is = plain_fields c (ap (λ (a : App). a.top.is_plain) is)
 pub no_groups : (c : Command) → app_of c ≡ site_app → All (λ a. a.groups.items ≡ []) (args_of c)
 unfolding site_app
 no_groups c is = simple_groups c (ap (λ (a : App). list_all (λ (r : Rule). r.is_simple) a.top.rules) is)
+
+-- the options of the rows so far, and that of one more
+pub one_more : (first old new : App) (rows : List OptionRow) (i : ℕ) (d : OptionRow) → i < length rows
+    → old ≡ with_rules first (map rule_of_row (take i rows)) → new ≡ with_rule old (rule_of_row (slice_index_or rows i d))
+    → new ≡ with_rules first (map rule_of_row (take (i + 1) rows))
+one_more first old new rows i d inside so_far added =
+    added ∙ ap (λ app. with_rule app (rule_of_row (slice_index_or rows i d))) so_far ∙ ap (λ rs. on_top (λ s. record s { rules = rs }) first) longer
+  where
+    longer : (first.top.rules ++ map rule_of_row (take i rows)) ++ rule_of_row (slice_index_or rows i d) ∷ []
+        ≡ first.top.rules ++ map rule_of_row (take (i + 1) rows)
+    longer = search (rules, take_more rows i d inside, map-append, append_assoc)

@@ -3,7 +3,7 @@ use Rattle.std.proofs.Common.{◌≡◌, List, [], ◌∷◌, codes, refl, true,
 use Rattle.clap.proofs.OnLiterals.{clap_on_literals}
 use Rattle.clap.specs.Words.{Text}
 use Rattle.clap.specs.declared.error.kind.ErrorKind.TheVariants as kind
-use Rattle.site_args.specs.CommandLine.{calls_of, cache_of, trace_of, database_of, export_of, compact_of, check_of, must_exist_of, without_wal_of, http_of, framed_of, token_file_of, reasons, site_app}
+use Rattle.site_args.specs.CommandLine.{calls_of, cache_of, database_of, flags_of, token_file_of, reasons, site_app}
 
 pub no_words : reasons [] ≡ []
 unfolding clap_on_literals site_app
@@ -76,7 +76,7 @@ pub help : reasons (codes "--help" ∷ []) ≡ kind.DisplayHelp ∷ []
 unfolding clap_on_literals site_app
 help = refl
 
-pub no_trace : trace_of [] ≡ false
+pub no_trace : (flags_of []).trace ≡ false
 unfolding clap_on_literals site_app
 no_trace = refl
 
@@ -84,7 +84,7 @@ pub traced : reasons (codes "--trace" ∷ []) ≡ []
 unfolding clap_on_literals site_app
 traced = refl
 
-pub trace : trace_of (codes "--trace" ∷ []) ≡ true
+pub trace : (flags_of (codes "--trace" ∷ [])).trace ≡ true
 unfolding clap_on_literals site_app
 trace = refl
 
@@ -107,15 +107,15 @@ pub database : database_of export_options ≡ Some (codes "a.db")
 unfolding clap_on_literals site_app
 database = refl
 
-pub export : export_of export_options ≡ true
+pub export : (flags_of export_options).export ≡ true
 unfolding clap_on_literals site_app
 export = refl
 
-pub not_compact : compact_of export_options ≡ false
+pub not_compact : (flags_of export_options).compact ≡ false
 unfolding clap_on_literals site_app
 not_compact = refl
 
-pub compact : compact_of (codes "--compact" ∷ []) ≡ true
+pub compact : (flags_of (codes "--compact" ∷ [])).compact ≡ true
 unfolding clap_on_literals site_app
 compact = refl
 
@@ -127,23 +127,23 @@ pub two_databases : reasons (codes "--database" ∷ codes "a" ∷ codes "--datab
 unfolding clap_on_literals site_app
 two_databases = refl
 
-pub check : check_of (codes "--database" ∷ codes "a.db" ∷ codes "--check" ∷ []) ≡ true
+pub check : (flags_of (codes "--database" ∷ codes "a.db" ∷ codes "--check" ∷ [])).check ≡ true
 unfolding clap_on_literals site_app
 check = refl
 
-pub must_exist : must_exist_of (codes "--must-exist" ∷ []) ≡ true
+pub must_exist : (flags_of (codes "--must-exist" ∷ [])).must_exist ≡ true
 unfolding clap_on_literals site_app
 must_exist = refl
 
-pub may_be_new : must_exist_of (codes "--database" ∷ codes "a.db" ∷ []) ≡ false
+pub may_be_new : (flags_of (codes "--database" ∷ codes "a.db" ∷ [])).must_exist ≡ false
 unfolding clap_on_literals site_app
 may_be_new = refl
 
-pub without_wal : without_wal_of (codes "--without-wal" ∷ []) ≡ true
+pub without_wal : (flags_of (codes "--without-wal" ∷ [])).without_wal ≡ true
 unfolding clap_on_literals site_app
 without_wal = refl
 
-pub with_wal : without_wal_of (codes "--database" ∷ codes "a.db" ∷ []) ≡ false
+pub with_wal : (flags_of (codes "--database" ∷ codes "a.db" ∷ [])).without_wal ≡ false
 unfolding clap_on_literals site_app
 with_wal = refl
 
@@ -154,7 +154,7 @@ pub served_over_http : reasons http_options ≡ []
 unfolding clap_on_literals site_app
 served_over_http = refl
 
-pub http : http_of http_options ≡ true
+pub http : (flags_of http_options).http ≡ true
 unfolding clap_on_literals site_app
 http = refl
 
@@ -162,15 +162,15 @@ pub token_file : token_file_of http_options ≡ Some (codes "key")
 unfolding clap_on_literals site_app
 token_file = refl
 
-pub served_as_lines : http_of [] ≡ false
+pub served_as_lines : (flags_of []).http ≡ false
 unfolding clap_on_literals site_app
 served_as_lines = refl
 
-pub framed : framed_of (codes "--http" ∷ codes "--framed" ∷ []) ≡ true
+pub framed : (flags_of (codes "--http" ∷ codes "--framed" ∷ [])).framed ≡ true
 unfolding clap_on_literals site_app
 framed = refl
 
-pub one_client : framed_of (codes "--http" ∷ []) ≡ false
+pub one_client : (flags_of (codes "--http" ∷ [])).framed ≡ false
 unfolding clap_on_literals site_app
 one_client = refl
 

@@ -1,53 +1,50 @@
 -- The program's command line, in clap's own terms.
-use Rattle.std.specs.Prelude.{ℕ, pos, List, Bool, Option, None, Some, true, false, codes, bytes_eq}
+use Rattle.std.specs.Prelude.{ℕ, pos, List, [], ◌∷◌, ◌++◌, Bool, Option, None, Some, true, false, codes, bytes_eq}
 use Rattle.std.specs.Str.Parse.{digits_value, without_leading_plus}
-use Rattle.clap.specs.Words.{App, Kinds, Rule, Text, new_app, new_rule, with_rule, one_of, first_of, matches_of, fault_of}
+use Rattle.clap.specs.Words.{App, Kinds, Row, Rule, Text, new_app, new_rule, one_of, first_of, matches_of, fault_of}
 use Rattle.clap.specs.Simple.{on_top}
 use Rattle.clap.specs.declared.builder.action.ArgAction.TheVariants.{Set, SetTrue}
 use Rattle.clap.specs.declared.builder.value_parser.ValueParser.TheVariants as parser
+use Rattle.site_args.specs.declared.answer.Flags.{Flags}
+use Rattle.site_args.specs.declared.options.Given.{Given}
+use Rattle.site_args.specs.declared.options.Given.TheVariants.{Number, File, Nothing}
+use Rattle.site_args.specs.declared.options.OptionRow.{OptionRow}
 
--- `--NAME N`, with a number from 1 to the most
-abbrev pub number_rule : Text → ℕ → Rule
-number_rule name most = record (new_rule name) {
+-- how an option of that name is read
+abbrev pub rule : Text → Given → Rule
+rule name (Number most) = record (new_rule name) {
   long = Some name;
   value_names = 1;
   action = Some Set;
   parser = Some (parser.Signed (pos 1) (pos most));
 }
+rule name File = record (new_rule name) { long = Some name; value_names = 1; action = Some Set }
+rule name Nothing = record (new_rule name) { long = Some name; action = Some SetTrue }
 
--- `--NAME`, which is given or not
-abbrev pub flag_rule : Text → Rule
-flag_rule name = record (new_rule name) { long = Some name; action = Some SetTrue }
+-- the options; clap adds `--help`
+abbrev pub option_rules : List Rule
+option_rules =
+    -- how many calls each page has, and how many texts are kept
+    rule (codes "calls") (Number 100000) ∷ rule (codes "cache") (Number 4096)
+    -- whether the plugin `snippets` is there, and whether invocations are told
+    ∷ rule (codes "snippets") Nothing ∷ rule (codes "trace") Nothing
+    -- the file that the site is kept in, whether it has to be there, and whether it may be without SQLite's log beside it
+    ∷ rule (codes "database") File ∷ rule (codes "must-exist") Nothing ∷ rule (codes "without-wal") Nothing
+    -- whether its short history is printed, or put in the place of the history, or the history only read
+    ∷ rule (codes "export") Nothing ∷ rule (codes "compact") Nothing ∷ rule (codes "check") Nothing
+    -- whether the site is served over HTTP, to many clients on one stream of frames, and the file with the token for edits
+    ∷ rule (codes "http") Nothing ∷ rule (codes "framed") Nothing ∷ rule (codes "token-file") File ∷ []
 
--- `--NAME FILE`, with a text
-abbrev pub path_rule : Text → Rule
-path_rule name = record (new_rule name) { long = Some name; value_names = 1; action = Some Set }
+-- an app with these rules after its own
+abbrev pub with_rules : App → List Rule → App
+with_rules app rules = on_top (λ s. record s { rules = s.rules ++ rules }) app
 
--- the options of a site in memory
-abbrev pub serving_rules : App → App
-serving_rules app =
-    with_rule (with_rule (with_rule app (number_rule (codes "calls") 100000)) (number_rule (codes "cache") 4096)) (flag_rule (codes "trace"))
-
--- those of a site in a file
-abbrev pub file_rules : App → App
-file_rules app = with_rule (with_rule (with_rule app (path_rule (codes "database"))) (flag_rule (codes "must-exist"))) (flag_rule (codes "without-wal"))
-
--- and those for its history
-abbrev pub history_rules : App → App
-history_rules app = with_rule (with_rule (with_rule app (flag_rule (codes "export"))) (flag_rule (codes "compact"))) (flag_rule (codes "check"))
-
--- and those for HTTP
-abbrev pub http_rules : App → App
-http_rules app = with_rule (with_rule (with_rule app (flag_rule (codes "http"))) (flag_rule (codes "framed"))) (path_rule (codes "token-file"))
-
--- `site`, of the command-line arguments; clap adds `--help`
+-- `site`, of the command-line arguments alone
 abbrev pub bare_app : App
 bare_app = on_top (λ s. record s { no_binary_name = true }) (new_app (codes "site"))
 
--- `site [--calls N] [--cache N] [--trace] [--database FILE] [--must-exist] [--without-wal] [--export] [--compact]
--- [--check] [--http] [--framed] [--token-file FILE]`
 unfoldable pub site_app : App
-site_app = http_rules (history_rules (file_rules (serving_rules bare_app)))
+site_app = with_rules bare_app option_rules
 
 -- why clap refuses the arguments, by the first of its steps that does, and nothing if it accepts them
 abbrev pub reasons : List Text → Kinds
@@ -71,42 +68,37 @@ abbrev pub is_given : Option Text → Bool
 is_given None = false
 is_given (Some text) = bytes_eq text (codes "true")
 
--- whether invocations are told: only if the arguments say so
-abbrev pub trace_of : List Text → Bool
-trace_of words = is_given (first_of (codes "trace") (matches_of site_app words))
+-- whether clap found the flag of that name
+abbrev pub has_flag : List Row → Text → Bool
+has_flag found name = is_given (first_of name found)
+
+-- the options that are given nothing, each under its name
+abbrev pub flags_in : List Row → Flags
+flags_in found = record {
+  snippets = has_flag found (codes "snippets");
+  trace = has_flag found (codes "trace");
+  must_exist = has_flag found (codes "must-exist");
+  without_wal = has_flag found (codes "without-wal");
+  export = has_flag found (codes "export");
+  compact = has_flag found (codes "compact");
+  check = has_flag found (codes "check");
+  http = has_flag found (codes "http");
+  framed = has_flag found (codes "framed");
+}
+
+abbrev pub flags_of : List Text → Flags
+flags_of words = flags_in (matches_of site_app words)
 
 -- the file that the site is kept in, if the arguments name one
 abbrev pub database_of : List Text → Option Text
 database_of words = first_of (codes "database") (matches_of site_app words)
 
--- whether that file has to be there
-abbrev pub must_exist_of : List Text → Bool
-must_exist_of words = is_given (first_of (codes "must-exist") (matches_of site_app words))
-
--- whether it may be without SQLite's log beside it
-abbrev pub without_wal_of : List Text → Bool
-without_wal_of words = is_given (first_of (codes "without-wal") (matches_of site_app words))
-
--- whether the short history is to be printed
-abbrev pub export_of : List Text → Bool
-export_of words = is_given (first_of (codes "export") (matches_of site_app words))
-
--- whether it is to be put in the place of the history
-abbrev pub compact_of : List Text → Bool
-compact_of words = is_given (first_of (codes "compact") (matches_of site_app words))
-
--- whether the history is only to be read
-abbrev pub check_of : List Text → Bool
-check_of words = is_given (first_of (codes "check") (matches_of site_app words))
-
--- whether the site is served over HTTP
-abbrev pub http_of : List Text → Bool
-http_of words = is_given (first_of (codes "http") (matches_of site_app words))
-
--- whether it is served so to many clients, on one stream of frames
-abbrev pub framed_of : List Text → Bool
-framed_of words = is_given (first_of (codes "framed") (matches_of site_app words))
-
 -- the file with the token that edits over HTTP need, if the arguments name one
 abbrev pub token_file_of : List Text → Option Text
 token_file_of words = first_of (codes "token-file") (matches_of site_app words)
+
+-- ---- definitions for private clauses
+
+-- how a row's option is read
+abbrev pub rule_of_row : OptionRow → Rule
+rule_of_row row = rule row.name.now row.given

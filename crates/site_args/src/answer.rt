@@ -1,29 +1,46 @@
 //! What the command-line arguments ask for.
 ghost use Rattle.std.specs.Prelude.{◌≡◌, ◌≤◌, IfOk, map, option_map, string_bytes};
-ghost use Rattle.clap.specs.Words.{FailsBy, HasKind, Kinds};
+ghost use Rattle.clap.specs.Words.{FailsBy, HasKind, Kinds, found_of, rows_of};
 ghost use Rattle.site_args.specs.CommandLine.{
   calls_of,
   cache_of,
-  trace_of,
   database_of,
-  must_exist_of,
-  without_wal_of,
-  export_of,
-  compact_of,
-  check_of,
-  http_of,
-  framed_of,
-  token_file_of,
-  is_given,
+  flags_in,
+  flags_of,
+  has_flag,
   reasons,
+  token_file_of,
 };
 ghost use Rattle.site_args.specs.Answers.{AsksFor, HasRanges, HasNumbers, IsOutcome, IsReadFrom};
 ghost use Rattle.site_args.specs.Answers.{IsBad, IsRefusal, suits};
 
 use crate::options::site_command;
-use clap::Error;
 use clap::error::ErrorKind;
+use clap::{ArgMatches, Error};
 use std::alloc::{AllocError, Global};
+
+/// The options that are given nothing: whether each is there.
+#[derive(Clone, Copy)]
+pub struct Flags {
+    /// Whether the plugin `snippets` is beside the bundle.
+    pub snippets: bool,
+    /// Whether each invocation is told on standard error.
+    pub trace: bool,
+    /// Whether the file has to be there already.
+    pub must_exist: bool,
+    /// Whether the file is taken without SQLite's log beside it.
+    pub without_wal: bool,
+    /// Whether the short history is printed.
+    pub export: bool,
+    /// Whether it is put in the place of the history.
+    pub compact: bool,
+    /// Whether the history is only read.
+    pub check: bool,
+    /// Whether what is served is served over HTTP.
+    pub http: bool,
+    /// Whether that is to many clients, on one stream of frames.
+    pub framed: bool,
+}
 
 /// What the program is to do.
 #[derive(Drop)]
@@ -50,16 +67,8 @@ pub enum ArgsAnswer {
         calls: u32,
         /// How many texts keep their pieces: 1 to 4,096, and 64 if no argument says otherwise.
         cache: u32,
-        /// Whether each invocation is told on standard error: not if no argument says so.
-        trace: bool,
-        /// Whether the file has to be there already: not if no argument says so.
-        must_exist: bool,
-        /// Whether the file is taken without SQLite's log beside it: not if no argument says so.
-        without_wal: bool,
-        /// Whether what is served is served over HTTP: not if no argument says so.
-        http: bool,
-        /// Whether that is to many clients, on one stream of frames: not if no argument says so.
-        framed: bool,
+        /// Which options are there.
+        flags: Flags,
         /// The file with the token that edits over HTTP need, if there is one.
         token_file: Option<String>,
         /// What is done, and with which file.
@@ -89,25 +98,16 @@ const UNSUITED: &str =
 struct Options {
     calls: u32,
     cache: u32,
-    trace: bool,
+    flags: Flags,
     database: Option<String>,
-    must_exist: bool,
-    without_wal: bool,
-    export: bool,
-    compact: bool,
-    check: bool,
-    http: bool,
-    framed: bool,
     token_file: Option<String>,
 }
 
-/// Parses the command-line arguments: `--calls N`, `--cache N` (also as `--calls=N`), `--trace`,
-/// `--database FILE`, `--must-exist`, `--without-wal`, `--export`, `--compact`, `--check`, `--http`,
-/// `--framed`, `--token-file FILE` and `--help`. An option given twice, a number out of its range,
-/// any other argument, one of `--must-exist`, `--without-wal`, `--export`, `--compact` and `--check`
-/// without a database, two of the last three, one of them with `--http`, and `--framed` or
-/// `--token-file` without it are [`ArgsAnswer::Bad`]. The last clause says in clap's terms which answer
-/// it is.
+/// Parses the command-line arguments, which `--help` lists. An option given twice, a number out of
+/// its range, any other argument, one of `--must-exist`, `--without-wal`, `--export`, `--compact` and
+/// `--check` without a database, two of the last three, one of them with `--http`, and `--framed` or
+/// `--token-file` without it are [`ArgsAnswer::Bad`]. The last clause says in clap's terms which
+/// answer it is.
 pub fn read_args(alloc: Global, words: &[String]) -> ArgsAnswer
     ensures ranges { HasRanges result }
     ensures numbers { HasNumbers (map string_bytes words.now) result }
@@ -129,26 +129,15 @@ fn answer(alloc: Global, options: Options) -> ArgsAnswer
     let Options {
         calls,
         cache,
-        trace,
+        flags,
         database,
-        must_exist,
-        without_wal,
-        export,
-        compact,
-        check,
-        http,
-        framed,
         token_file,
     } = options;
-    match task_for(database, must_exist, without_wal, export, compact, check) {
-        Some(task) if suits(http, framed, token_file.is_none(), &task) => ArgsAnswer::Run {
+    match task_for(database, flags) {
+        Some(task) if suits(flags, token_file.is_none(), &task) => ArgsAnswer::Run {
             calls,
             cache,
-            trace,
-            must_exist,
-            without_wal,
-            http,
-            framed,
+            flags,
             token_file,
             task,
         },
@@ -168,27 +157,29 @@ fn bad(alloc: Global, why: &str) -> ArgsAnswer
 }
 
 /// Returns whether a task suits the options for HTTP.
-fn suits(http: bool, framed: bool, no_token: bool, task: &Task) -> bool
-    ensures { result ≡ suits http framed no_token task.now }
+fn suits(flags: Flags, no_token: bool, task: &Task) -> bool
+    ensures { result ≡ suits flags.http flags.framed no_token task.now }
 {
     match task {
-        _ if !http => no_token && !framed,
+        _ if !flags.http => no_token && !flags.framed,
         Task::Serve | Task::ServeFile(_) => true,
         Task::Export(_) | Task::Compact(_) | Task::Check(_) => false,
     }
 }
 
 /// Returns what the options on a database ask for, or `None` if they don't go together.
-fn task_for(
-    database: Option<String>,
-    must_exist: bool,
-    without_wal: bool,
-    export: bool,
-    compact: bool,
-    check: bool,
-) -> Option<Task>
-    ensures { AsksFor (option_map string_bytes database) must_exist without_wal export compact check result }
+fn task_for(database: Option<String>, flags: Flags) -> Option<Task>
+    ensures { AsksFor (option_map string_bytes database) flags.must_exist flags.without_wal
+        flags.export flags.compact flags.check result }
 {
+    let Flags {
+        must_exist,
+        without_wal,
+        export,
+        compact,
+        check,
+        ..
+    } = flags;
     match database {
         None if must_exist || without_wal || export || compact || check => None,
         None => Some(Task::Serve),
@@ -206,18 +197,9 @@ fn read_options(alloc: Global, words: &[String]) -> Result<Options, Error>
         (1 ≤ o.calls) × (o.calls ≤ 100000) × (o.calls ≡ calls_of (map string_bytes words.now))) }
     ensures cache { IfOk result (λ o.
         (1 ≤ o.cache) × (o.cache ≤ 4096) × (o.cache ≡ cache_of (map string_bytes words.now))) }
-    ensures trace { IfOk result (λ o. o.trace ≡ trace_of (map string_bytes words.now)) }
+    ensures flags { IfOk result (λ o. o.flags ≡ flags_of (map string_bytes words.now)) }
     ensures database { IfOk result (λ o. option_map string_bytes o.database
         ≡ database_of (map string_bytes words.now)) }
-    ensures must_exist { IfOk result
-        (λ o. o.must_exist ≡ must_exist_of (map string_bytes words.now)) }
-    ensures without_wal { IfOk result
-        (λ o. o.without_wal ≡ without_wal_of (map string_bytes words.now)) }
-    ensures export { IfOk result (λ o. o.export ≡ export_of (map string_bytes words.now)) }
-    ensures compact { IfOk result (λ o. o.compact ≡ compact_of (map string_bytes words.now)) }
-    ensures check { IfOk result (λ o. o.check ≡ check_of (map string_bytes words.now)) }
-    ensures http { IfOk result (λ o. o.http ≡ http_of (map string_bytes words.now)) }
-    ensures framed { IfOk result (λ o. o.framed ≡ framed_of (map string_bytes words.now)) }
     ensures token_file { IfOk result (λ o. option_map string_bytes o.token_file
         ≡ token_file_of (map string_bytes words.now)) }
     ensures kinds { FailsBy (reasons (map string_bytes words.now)) result }
@@ -226,28 +208,14 @@ fn read_options(alloc: Global, words: &[String]) -> Result<Options, Error>
     let matches = command.try_get_matches_from(words)?;
     let calls = matches.get_one::<u32>("calls").unwrap_or(10_000);
     let cache = matches.get_one::<u32>("cache").unwrap_or(64);
-    let trace = is_given(matches.get_str("trace"));
-    let must_exist = is_given(matches.get_str("must-exist"));
-    let without_wal = is_given(matches.get_str("without-wal"));
-    let export = is_given(matches.get_str("export"));
-    let compact = is_given(matches.get_str("compact"));
-    let check = is_given(matches.get_str("check"));
-    let http = is_given(matches.get_str("http"));
-    let framed = is_given(matches.get_str("framed"));
+    let flags = flags_in(&matches);
     let database = copy_of(alloc, matches.get_str("database"))?;
     let token_file = copy_of(alloc, matches.get_str("token-file"))?;
     Ok(Options {
         calls,
         cache,
-        trace,
+        flags,
         database,
-        must_exist,
-        without_wal,
-        export,
-        compact,
-        check,
-        http,
-        framed,
         token_file,
     })
 }
@@ -263,12 +231,29 @@ fn copy_of(alloc: Global, text: Option<&str>) -> Result<Option<String>, AllocErr
     }
 }
 
-/// Returns whether a flag is given, by the text that clap has for it: `true` if it is, else
-/// `false`.
-fn is_given(text: Option<&str>) -> bool
-    ensures { result ≡ is_given (option_map (λ text. text.now) text.entry) }
+/// Returns which flags clap found.
+fn flags_in(matches: &ArgMatches<'_>) -> Flags
+    ensures { result ≡ flags_in (rows_of (found_of matches.now)) }
 {
-    match text {
+    Flags {
+        snippets: has_flag(matches, "snippets"),
+        trace: has_flag(matches, "trace"),
+        must_exist: has_flag(matches, "must-exist"),
+        without_wal: has_flag(matches, "without-wal"),
+        export: has_flag(matches, "export"),
+        compact: has_flag(matches, "compact"),
+        check: has_flag(matches, "check"),
+        http: has_flag(matches, "http"),
+        framed: has_flag(matches, "framed"),
+    }
+}
+
+/// Returns whether clap found a flag: it has the text `true` for one that is given, and else
+/// `false`.
+fn has_flag(matches: &ArgMatches<'_>, name: &str) -> bool
+    ensures { result ≡ has_flag (rows_of (found_of matches.now)) name.now }
+{
+    match matches.get_str(name) {
         Some(text) => text == "true",
         None => false,
     }

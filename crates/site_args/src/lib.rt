@@ -6,5 +6,5 @@ mod answer;
 mod options;
 mod worked;
 
-pub use answer::{ArgsAnswer, Task, read_args};
+pub use answer::{ArgsAnswer, Flags, Task, read_args};
 pub use worked::worked_args;

@@ -1,157 +1,111 @@
 //! The options, as `clap` knows them.
-ghost use Rattle.std.specs.Prelude.{◌≡◌, IfOk, codes, false};
+ghost use Rattle.std.specs.Prelude.{◌≡◌, IfOk, false, map};
 ghost use Rattle.clap.specs.Words.{app_of, rule_of};
-ghost use Rattle.site_args.specs.CommandLine.{
-  number_rule,
-  flag_rule,
-  path_rule,
-  bare_app,
-  serving_rules,
-  file_rules,
-  history_rules,
-  http_rules,
-  site_app,
-};
+ghost use Rattle.site_args.specs.CommandLine.{bare_app, rule_of_row, site_app, with_rules};
 
 use clap::{Arg, ArgAction, Command, value_parser};
 use std::alloc::{AllocError, Global};
 
-/// Makes the option `--calls N`.
-fn calls_option<'a>(alloc: Global) -> Arg<'a>
-    ensures rule { rule_of result ≡ number_rule (codes "calls") 100000 }
-    ensures local { result.global ≡ false }
-{
-    Arg::new(alloc, "calls")
-        .long("calls")
-        .value_name("N")
-        .help("How many callbacks a page may call, 1 to 100000 [default: 10000]")
-        .action(ArgAction::Set)
-        .value_parser(value_parser!(u32).range(1..=100_000))
+/// What an option is given.
+#[derive(Clone, Copy)]
+pub(crate) enum Given {
+    /// A number from 1 to this one.
+    Number(u32),
+    /// The path of a file.
+    File,
+    /// Nothing: it is there or not.
+    Nothing,
 }
 
-/// Makes the option `--cache N`.
-fn cache_option<'a>(alloc: Global) -> Arg<'a>
-    ensures rule { rule_of result ≡ number_rule (codes "cache") 4096 }
-    ensures local { result.global ≡ false }
-{
-    Arg::new(alloc, "cache")
-        .long("cache")
-        .value_name("N")
-        .help("How many texts are kept with their shortcodes found, 1 to 4096 [default: 64]")
-        .action(ArgAction::Set)
-        .value_parser(value_parser!(u32).range(1..=4_096))
+/// An option, as it is read and as the help shows it.
+pub(crate) struct OptionRow {
+    name: &'static str,
+    given: Given,
+    help: &'static str,
 }
 
-/// Makes the flag `--trace`.
-fn trace_flag<'a>(alloc: Global) -> Arg<'a>
-    ensures rule { rule_of result ≡ flag_rule (codes "trace") }
-    ensures local { result.global ≡ false }
-{
-    Arg::new(alloc, "trace")
-        .long("trace")
-        .help("Writes a line of JSON on standard error for each callback that is called")
-        .action(ArgAction::SetTrue)
-}
+const OPTIONS: [OptionRow; 13] = [
+    OptionRow {
+        name: "calls",
+        given: Given::Number(100_000),
+        help: "How many callbacks a page may call, 1 to 100000 [default: 10000]",
+    },
+    OptionRow {
+        name: "cache",
+        given: Given::Number(4_096),
+        help: "How many texts are kept with their shortcodes found, 1 to 4096 [default: 64]",
+    },
+    OptionRow {
+        name: "snippets",
+        given: Given::Nothing,
+        help: "Adds the plugin snippets: shortcodes, filters and actions that are options",
+    },
+    OptionRow {
+        name: "trace",
+        given: Given::Nothing,
+        help: "Writes a line of JSON on standard error for each callback that is called",
+    },
+    OptionRow {
+        name: "database",
+        given: Given::File,
+        help: "Keeps the site in this SQLite database, which is made if it is not there",
+    },
+    OptionRow {
+        name: "must-exist",
+        given: Given::Nothing,
+        help: "Refuses a database that is not there or is empty, in place of making one",
+    },
+    OptionRow {
+        name: "without-wal",
+        given: Given::Nothing,
+        help: "Takes a database that has no FILE-wal beside it, which is else refused",
+    },
+    OptionRow {
+        name: "export",
+        given: Given::Nothing,
+        help: "Writes lines that rebuild the site of the database, and serves nothing",
+    },
+    OptionRow {
+        name: "compact",
+        given: Given::Nothing,
+        help: "Puts such lines in the place of the database's history, and serves nothing",
+    },
+    OptionRow {
+        name: "check",
+        given: Given::Nothing,
+        help: "Says how many edits the database has and their digest, and serves nothing",
+    },
+    OptionRow {
+        name: "http",
+        given: Given::Nothing,
+        help: "Serves one client of HTTP/1.1 on standard input and output, in place of lines",
+    },
+    OptionRow {
+        name: "framed",
+        given: Given::Nothing,
+        help: "With --http, serves many clients, on one stream of frames",
+    },
+    OptionRow {
+        name: "token-file",
+        given: Given::File,
+        help: "Takes edits over HTTP from whoever sends the token in this file",
+    },
+];
 
-/// Makes the option `--database FILE`.
-fn database_option<'a>(alloc: Global) -> Arg<'a>
-    ensures rule { rule_of result ≡ path_rule (codes "database") }
+/// Makes the option of a row.
+fn option_of<'a>(alloc: Global, row: &OptionRow) -> Arg<'a>
+    ensures rule { rule_of result ≡ rule_of_row row.now }
     ensures local { result.global ≡ false }
 {
-    Arg::new(alloc, "database")
-        .long("database")
-        .value_name("FILE")
-        .help("Keeps the site in this SQLite database, which is made if it is not there")
-        .action(ArgAction::Set)
-}
-
-/// Makes the flag `--must-exist`.
-fn must_exist_flag<'a>(alloc: Global) -> Arg<'a>
-    ensures rule { rule_of result ≡ flag_rule (codes "must-exist") }
-    ensures local { result.global ≡ false }
-{
-    Arg::new(alloc, "must-exist")
-        .long("must-exist")
-        .help("Refuses a database that is not there or is empty, in place of making one")
-        .action(ArgAction::SetTrue)
-}
-
-/// Makes the flag `--without-wal`.
-fn without_wal_flag<'a>(alloc: Global) -> Arg<'a>
-    ensures rule { rule_of result ≡ flag_rule (codes "without-wal") }
-    ensures local { result.global ≡ false }
-{
-    Arg::new(alloc, "without-wal")
-        .long("without-wal")
-        .help("Takes a database that has no FILE-wal beside it, which is else refused")
-        .action(ArgAction::SetTrue)
-}
-
-/// Makes the flag `--export`.
-fn export_flag<'a>(alloc: Global) -> Arg<'a>
-    ensures rule { rule_of result ≡ flag_rule (codes "export") }
-    ensures local { result.global ≡ false }
-{
-    Arg::new(alloc, "export")
-        .long("export")
-        .help("Writes lines that rebuild the site of the database, and serves nothing")
-        .action(ArgAction::SetTrue)
-}
-
-/// Makes the flag `--compact`.
-fn compact_flag<'a>(alloc: Global) -> Arg<'a>
-    ensures rule { rule_of result ≡ flag_rule (codes "compact") }
-    ensures local { result.global ≡ false }
-{
-    Arg::new(alloc, "compact")
-        .long("compact")
-        .help("Puts such lines in the place of the database's history, and serves nothing")
-        .action(ArgAction::SetTrue)
-}
-
-/// Makes the flag `--check`.
-fn check_flag<'a>(alloc: Global) -> Arg<'a>
-    ensures rule { rule_of result ≡ flag_rule (codes "check") }
-    ensures local { result.global ≡ false }
-{
-    Arg::new(alloc, "check")
-        .long("check")
-        .help("Says how many edits the database has and their digest, and serves nothing")
-        .action(ArgAction::SetTrue)
-}
-
-/// Makes the flag `--http`.
-fn http_flag<'a>(alloc: Global) -> Arg<'a>
-    ensures rule { rule_of result ≡ flag_rule (codes "http") }
-    ensures local { result.global ≡ false }
-{
-    Arg::new(alloc, "http")
-        .long("http")
-        .help("Serves one client of HTTP/1.1 on standard input and output, in place of lines")
-        .action(ArgAction::SetTrue)
-}
-
-/// Makes the flag `--framed`.
-fn framed_flag<'a>(alloc: Global) -> Arg<'a>
-    ensures rule { rule_of result ≡ flag_rule (codes "framed") }
-    ensures local { result.global ≡ false }
-{
-    Arg::new(alloc, "framed")
-        .long("framed")
-        .help("With --http, serves many clients, on one stream of frames")
-        .action(ArgAction::SetTrue)
-}
-
-/// Makes the option `--token-file FILE`.
-fn token_file_option<'a>(alloc: Global) -> Arg<'a>
-    ensures rule { rule_of result ≡ path_rule (codes "token-file") }
-    ensures local { result.global ≡ false }
-{
-    Arg::new(alloc, "token-file")
-        .long("token-file")
-        .value_name("FILE")
-        .help("Takes edits over HTTP from whoever sends the token in this file")
-        .action(ArgAction::Set)
+    let option = Arg::new(alloc, row.name).long(row.name).help(row.help);
+    match row.given {
+        Given::Number(most) => option
+            .value_name("N")
+            .action(ArgAction::Set)
+            .value_parser(value_parser!(u32).range(1..=i64::from(most))),
+        Given::File => option.value_name("FILE").action(ArgAction::Set),
+        Given::Nothing => option.action(ArgAction::SetTrue),
+    }
 }
 
 /// Makes a command line with no options, for arguments that begin after the program's name.
@@ -165,52 +119,25 @@ fn bare_command<'a>(alloc: Global) -> Command<'a>
         .no_binary_name(true)
 }
 
-/// Adds the options of a site in memory.
-fn with_serving_options<'a>(alloc: Global, command: Command<'a>) -> Result<Command<'a>, AllocError>
-    ensures { IfOk result (λ more. app_of more ≡ serving_rules (app_of command.entry)) }
+/// Adds the options of rows to a command line.
+fn with_options<'a>(
+    alloc: Global,
+    command: Command<'a>,
+    rows: &[OptionRow],
+) -> Result<Command<'a>, AllocError>
+    ensures { IfOk result (λ more. app_of more
+        ≡ with_rules (app_of command.entry) (map rule_of_row rows.now)) }
 {
-    command
-        .arg(calls_option(alloc))?
-        .arg(cache_option(alloc))?
-        .arg(trace_flag(alloc))
-}
-
-/// Adds the options of a file.
-fn with_file_options<'a>(alloc: Global, command: Command<'a>) -> Result<Command<'a>, AllocError>
-    ensures { IfOk result (λ more. app_of more ≡ file_rules (app_of command.entry)) }
-{
-    command
-        .arg(database_option(alloc))?
-        .arg(must_exist_flag(alloc))?
-        .arg(without_wal_flag(alloc))
-}
-
-/// Adds the options for the history in a file.
-fn with_history_options<'a>(alloc: Global, command: Command<'a>) -> Result<Command<'a>, AllocError>
-    ensures { IfOk result (λ more. app_of more ≡ history_rules (app_of command.entry)) }
-{
-    command
-        .arg(export_flag(alloc))?
-        .arg(compact_flag(alloc))?
-        .arg(check_flag(alloc))
-}
-
-/// Adds the options for HTTP.
-fn with_http_options<'a>(alloc: Global, command: Command<'a>) -> Result<Command<'a>, AllocError>
-    ensures { IfOk result (λ more. app_of more ≡ http_rules (app_of command.entry)) }
-{
-    command
-        .arg(http_flag(alloc))?
-        .arg(framed_flag(alloc))?
-        .arg(token_file_option(alloc))
+    let mut command = command;
+    for row in rows {
+        command = command.arg(option_of(alloc, row))?;
+    }
+    Ok(command)
 }
 
 /// Makes the whole command line, for arguments that begin after the program's name.
 pub(crate) fn site_command<'a>(alloc: Global) -> Result<Command<'a>, AllocError>
     ensures { IfOk result (λ command. app_of command ≡ site_app) }
 {
-    let serving = with_serving_options(alloc, bare_command(alloc))?;
-    let filed = with_file_options(alloc, serving)?;
-    let logged = with_history_options(alloc, filed)?;
-    with_http_options(alloc, logged)
+    with_options(alloc, bare_command(alloc), &OPTIONS)
 }

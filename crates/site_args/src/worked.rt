@@ -1,8 +1,7 @@
 //! Worked command lines that are theorems: each clause below is computed from clap's definitions.
 ghost use Rattle.std.specs.Prelude.{◌≡◌, ◌∷◌, [], codes, true, false, Some, None};
-ghost use Rattle.site_args.specs.CommandLine.{calls_of, cache_of, trace_of, database_of, export_of};
-ghost use Rattle.site_args.specs.CommandLine.{check_of, compact_of, must_exist_of, without_wal_of};
-ghost use Rattle.site_args.specs.CommandLine.{http_of, framed_of, token_file_of, reasons};
+ghost use Rattle.site_args.specs.CommandLine.{calls_of, cache_of, database_of, flags_of};
+ghost use Rattle.site_args.specs.CommandLine.{reasons, token_file_of};
 
 use clap::error::ErrorKind;
 
@@ -12,7 +11,7 @@ pub fn worked_args()
     ensures no_words { reasons [] ≡ [] }
     ensures default_calls { calls_of [] ≡ 10000 }
     ensures default_cache { cache_of [] ≡ 64 }
-    ensures no_trace { trace_of [] ≡ false }
+    ensures no_trace { (flags_of []).trace ≡ false }
 
     ensures both { reasons
         (codes "--calls" ∷ codes "100000" ∷ codes "--cache" ∷ codes "1" ∷ []) ≡ [] }
@@ -21,31 +20,30 @@ pub fn worked_args()
     ensures both_cache { cache_of
         (codes "--calls" ∷ codes "100000" ∷ codes "--cache" ∷ codes "1" ∷ []) ≡ 1 }
     ensures traced { reasons (codes "--trace" ∷ []) ≡ [] }
-    ensures trace { trace_of (codes "--trace" ∷ []) ≡ true }
+    ensures trace { (flags_of (codes "--trace" ∷ [])).trace ≡ true }
     ensures one_word { cache_of (codes "--cache=4096" ∷ []) ≡ 4096 }
 
     ensures no_database { database_of [] ≡ None }
     ensures exported { reasons (codes "--database" ∷ codes "a.db" ∷ codes "--export" ∷ []) ≡ [] }
     ensures database { database_of (codes "--database" ∷ codes "a.db" ∷ codes "--export" ∷ [])
         ≡ Some (codes "a.db") }
-    ensures export { export_of (codes "--database" ∷ codes "a.db" ∷ codes "--export" ∷ []) ≡ true }
-    ensures not_compact { compact_of (codes "--database" ∷ codes "a.db" ∷ codes "--export" ∷ [])
-        ≡ false }
-    ensures compact { compact_of (codes "--compact" ∷ []) ≡ true }
-    ensures check { check_of (codes "--database" ∷ codes "a.db" ∷ codes "--check" ∷ []) ≡ true }
-    ensures must_exist { must_exist_of (codes "--must-exist" ∷ []) ≡ true }
-    ensures may_be_new { must_exist_of (codes "--database" ∷ codes "a.db" ∷ []) ≡ false }
-    ensures without_wal { without_wal_of (codes "--without-wal" ∷ []) ≡ true }
-    ensures with_wal { without_wal_of (codes "--database" ∷ codes "a.db" ∷ []) ≡ false }
+    ensures export { (flags_of (codes "--database" ∷ codes "a.db" ∷ codes "--export" ∷ [])).export ≡ true }
+    ensures not_compact { (flags_of (codes "--database" ∷ codes "a.db" ∷ codes "--export" ∷ [])).compact ≡ false }
+    ensures compact { (flags_of (codes "--compact" ∷ [])).compact ≡ true }
+    ensures check { (flags_of (codes "--database" ∷ codes "a.db" ∷ codes "--check" ∷ [])).check ≡ true }
+    ensures must_exist { (flags_of (codes "--must-exist" ∷ [])).must_exist ≡ true }
+    ensures may_be_new { (flags_of (codes "--database" ∷ codes "a.db" ∷ [])).must_exist ≡ false }
+    ensures without_wal { (flags_of (codes "--without-wal" ∷ [])).without_wal ≡ true }
+    ensures with_wal { (flags_of (codes "--database" ∷ codes "a.db" ∷ [])).without_wal ≡ false }
 
     ensures served_over_http { reasons
         (codes "--http" ∷ codes "--token-file" ∷ codes "key" ∷ []) ≡ [] }
-    ensures http { http_of (codes "--http" ∷ codes "--token-file" ∷ codes "key" ∷ []) ≡ true }
+    ensures http { (flags_of (codes "--http" ∷ codes "--token-file" ∷ codes "key" ∷ [])).http ≡ true }
     ensures token_file { token_file_of (codes "--http" ∷ codes "--token-file" ∷ codes "key" ∷ [])
         ≡ Some (codes "key") }
-    ensures served_as_lines { http_of [] ≡ false }
-    ensures framed { framed_of (codes "--http" ∷ codes "--framed" ∷ []) ≡ true }
-    ensures one_client { framed_of (codes "--http" ∷ []) ≡ false }
+    ensures served_as_lines { (flags_of []).http ≡ false }
+    ensures framed { (flags_of (codes "--http" ∷ codes "--framed" ∷ [])).framed ≡ true }
+    ensures one_client { (flags_of (codes "--http" ∷ [])).framed ≡ false }
     ensures no_token { token_file_of (codes "--http" ∷ []) ≡ None }
 
     // What clap refuses, and why.

@@ -9,7 +9,7 @@ use Rattle.site_records.specs.declared.post.PostKind.{PostKind}
 use Rattle.site_records.specs.declared.post.PostKind.TheVariants.{Post as OfPost, Page as OfPage}
 use Rattle.site_records.specs.declared.post.PostStatus.{PostStatus}
 use Rattle.site_records.specs.declared.post.PostStatus.TheVariants.{Publish, Draft}
-use Rattle.post_tables.specs.Stored.{kind_text, status_text}
+use Rattle.site_records.specs.Kinds.{kind_text, status_text}
 use Rattle.std.proofs.Common.{sym, subst, map, filter, not, is_some}
 use Rattle.std.specs.Prelude.{sum_by, if◌then◌else◌, nat_eq}
 use Rattle.std.specs.List.{AllByRecursion, flat_map}

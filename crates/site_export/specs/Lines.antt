@@ -10,7 +10,7 @@ use Rattle.site_records.specs.declared.post.PostKind.TheVariants.{Post as OfPost
 use Rattle.site_records.specs.declared.post.PostStatus.TheVariants.{Draft}
 use Rattle.plain_data.specs.Texts.{Text}
 use Rattle.post_tables.specs.Rows.{Rows, post_with}
-use Rattle.post_tables.specs.Stored.{kind_text, status_text}
+use Rattle.site_records.specs.Kinds.{kind_text, status_text}
 use Rattle.site_export.specs.declared.posts.ShownPost.{ShownPost}
 
 -- a member of an object: its name, and a text or a number

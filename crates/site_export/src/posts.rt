@@ -2,7 +2,6 @@
 ghost use Rattle.std.specs.Prelude.{◌≡◌, ◌≤◌, ◌<◌, ◌+◌, ◌++◌, ◌∷◌, [], ℕ, true, Some, None};
 ghost use Rattle.std.specs.Prelude.{string_bytes, map, take, length, IfOk, OnOk};
 ghost use Rattle.json.specs.Print.{print};
-ghost use Rattle.post_tables.specs.Stored.{kind_text, status_text};
 ghost use Rattle.site_export.specs.Lines.{
   exported_post,
   gone,
@@ -23,6 +22,7 @@ ghost use Rattle.site_export.specs.Lines.{
 use crate::line::{begin_command, end_command, ended, put, put_number, put_text};
 use json::{Token, Writer};
 use post_tables::{Post, PostKind, PostStatus};
+use site_records::{kind_text, status_text};
 use std::alloc::{AllocError, Global};
 
 /// The maximum room of posts that one line imports. For each byte of it they have at most six bytes
@@ -45,24 +45,6 @@ struct ShownPost<'a> {
     title: &'a str,
     content: &'a str,
     date: &'a str,
-}
-
-fn kind_name(kind: PostKind) -> &'static str
-    ensures { result.now ≡ kind_text kind }
-{
-    match kind {
-        PostKind::Post => "post",
-        PostKind::Page => "page",
-    }
-}
-
-fn status_name(status: PostStatus) -> &'static str
-    ensures { result.now ≡ status_text status }
-{
-    match status {
-        PostStatus::Publish => "publish",
-        PostStatus::Draft => "draft",
-    }
 }
 
 /// Shows a post whole.
@@ -102,9 +84,9 @@ fn put_post(line: &mut Writer, post: &ShownPost<'_>) -> Result<(), AllocError>
         line,
         &[
             Token::Key("kind"),
-            Token::String(kind_name(post.kind)),
+            Token::String(kind_text(post.kind)),
             Token::Key("status"),
-            Token::String(status_name(post.status)),
+            Token::String(status_text(post.status)),
             Token::Key("title"),
             Token::String(post.title),
             Token::Key("content"),

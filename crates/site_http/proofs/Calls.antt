@@ -11,7 +11,7 @@ use Rattle.http_messages.specs.Request.{WantedData, page, commands, refused, wan
 use Rattle.http_pages.specs.declared.pages.Pages as pages
 use Rattle.http_pages.specs.declared.service.PageService.{PageService}
 use Rattle.http_pages.specs.Service.{Responds, RespondsTo}
-use Rattle.http_rounds.specs.Losses.{StopsAtALoss}
+use Rattle.http_streams.specs.Losses.{StopsAtALoss}
 use Rattle.http_server.specs.declared.response.Response.{Response}
 use Rattle.http_server.specs.Exchange.{Call, Chain}
 use Rattle.http_server.specs.Rounds.{Round, Rounds, all_of, kept_of}

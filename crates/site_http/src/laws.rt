@@ -3,7 +3,7 @@ ghost use Rattle.std.specs.Prelude.{◌≡◌, ℕ, List, [], false, option_map}
 ghost use Rattle.std.specs.String.{string_bytes};
 ghost use Rattle.byte_io.specs.Journal.{IsSettled};
 ghost use Rattle.http_pages.specs.declared.service.PageService.{PageService as ServiceOf};
-ghost use Rattle.http_rounds.specs.Losses.{StopsAtALoss};
+ghost use Rattle.http_streams.specs.Losses.{StopsAtALoss};
 ghost use Rattle.http_server.specs.Connection.{history};
 ghost use Rattle.http_server.specs.Exchange.{Call};
 ghost use Rattle.http_server.specs.Rounds.{IsCleared, Round, Rounds, all_of, kept_of};
@@ -15,8 +15,8 @@ ghost use Rattle.site_http.specs.declared.site_pages.SitePages.{SitePages as Pag
 use crate::site_pages::SitePages;
 use byte_io::Journal;
 use http_pages::PageService;
-use http_rounds::Commits;
 use http_server::Service;
+use http_streams::Commits;
 use page_trace::Watch;
 use site_serving::Commands;
 

@@ -22,7 +22,7 @@ use Rattle.site_records.specs.declared.post.PostKind.{PostKind}
 use Rattle.site_records.specs.declared.post.PostKind.TheVariants.{Post as OfPost, Page as OfPage}
 use Rattle.site_records.specs.declared.post.PostStatus.{PostStatus}
 use Rattle.site_records.specs.declared.post.PostStatus.TheVariants.{Publish, Draft}
-use Rattle.post_tables.specs.Stored.{kind_text, status_text}
+use Rattle.site_records.specs.Kinds.{kind_text, status_text}
 use Rattle.post_tables.specs.Rows.{Rows, are_new, with_all}
 use Rattle.site_values.specs.Named.{kind_named, status_named}
 use Rattle.site_import.specs.Walks.{each_from, list_of}

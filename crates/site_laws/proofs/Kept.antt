@@ -280,7 +280,7 @@ module _ (engine : Engine) (calls : ℕ) where
   lines-stored site [] is = is
   lines-stored site (line ∷ lines) is = lines-stored (step engine calls site line).0 lines (step-stored site line is)
 
-  empty_stored : (limit : Option ℕ) → AreStored engine.plugins (empty_under limit).rows
+  pub empty_stored : (limit : Option ℕ) → AreStored engine.plugins (empty_under limit).rows
   empty_stored limit = record { posts = tt; rise = tt; given = tt; most = omega arith; options = none_set IsOption; templates = none_set IsTemplate; active = none_named (IsKnown engine.plugins) }
 
   pub rows-stored : (limit : Option ℕ) (lines : List (List ℕ)) → AreStored engine.plugins (rows_after engine calls limit lines)

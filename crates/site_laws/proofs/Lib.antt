@@ -13,3 +13,9 @@ pub mod Inserted
 pub mod Commands
 pub mod Imported
 pub mod Kept
+mod FurtherPlugins
+pub mod Histories
+pub mod LogAndSite
+pub mod Bounds
+pub mod Isolation
+pub mod OtherPrograms

@@ -1,1 +1,4 @@
 pub mod Stored
+pub mod Further
+pub mod Given
+pub mod Through

@@ -6,55 +6,86 @@ use crate::http::{serve_http, serve_http_file, token_in};
 use crate::serving::{serve, serve_file};
 use callback_store::{Plugins, Stated};
 use http_tasks::Clients;
-use kept_pages::KeptPages;
-use site_args::{ArgsAnswer, Task, read_args};
+use site_args::{ArgsAnswer, Flags, Task, read_args};
 use site_program::{Site, StoreFault};
+use site_serving::KeptPages;
 use site_start::identity_of;
 use site_tasks::{check, compact, export, failed};
 use std::process::ExitCode;
 use std::{env, io};
 
-/// Does what the command-line arguments ask for, with a site over these plugins, and returns the
-/// program's exit status: 0 if all went well, 1 after a fault and 2 after bad arguments, each with
-/// a line on standard error.
-pub fn run<S: Stated>(rt: &HostRuntime, plugins: &Plugins<S>) -> ExitCode {
+/// What the command-line arguments ask for.
+#[derive(Drop)]
+pub struct Asked {
+    calls: u32,
+    cache: u32,
+    flags: Flags,
+    token_file: Option<String>,
+    task: Task,
+    ghost calls_in: { (1 ≤ calls) × (calls ≤ 100000) },
+    ghost cache_in: { (1 ≤ cache) × (cache ≤ 4096) },
+}
+
+impl Asked {
+    /// Returns whether the plugin `snippets` is asked for, beside those of the bundle.
+    pub fn with_snippets(&self) -> bool {
+        self.flags.snippets
+    }
+}
+
+/// Reads the command-line arguments. If they ask for help or are bad, or memory for them runs out,
+/// says so and returns the program's exit status: 0, 2 or 1.
+pub fn read_command_line(rt: &HostRuntime) -> Result<Asked, ExitCode> {
     let words = match words(rt) {
         Ok(words) => words,
         Err(error) if error.kind() == io::ErrorKind::InvalidData => {
             let _ = eprintln!(rt; "error: a command-line argument is not UTF-8");
-            return ExitCode::from(2);
+            return Err(ExitCode::from(2));
         }
-        Err(_) => return failed(rt, StoreFault::OutOfMemory),
+        Err(_) => return Err(failed(rt, StoreFault::OutOfMemory)),
     };
     match read_args(rt.alloc(), &words) {
         ArgsAnswer::Run {
             calls,
             cache,
-            trace,
-            must_exist,
-            without_wal,
-            http,
-            framed,
+            flags,
             token_file,
             task,
-        } => {
-            if let Some(status) = unfit_file(rt, &task, must_exist, without_wal) {
-                return status;
-            }
-            match way_of(rt, http, framed, token_file) {
-                Ok(way) => with_site(rt, plugins, calls, cache, trace, &task, way),
-                Err(status) => status,
-            }
-        }
+        } => Ok(Asked {
+            calls,
+            cache,
+            flags,
+            token_file,
+            task,
+        }),
         ArgsAnswer::Help(text) => {
             let _ = print!(rt; "{text}");
-            ExitCode::SUCCESS
+            Err(ExitCode::SUCCESS)
         }
         ArgsAnswer::Bad(text) => {
             let _ = eprint!(rt; "{text}");
-            ExitCode::from(2)
+            Err(ExitCode::from(2))
         }
-        ArgsAnswer::OutOfMemory => failed(rt, StoreFault::OutOfMemory),
+        ArgsAnswer::OutOfMemory => Err(failed(rt, StoreFault::OutOfMemory)),
+    }
+}
+
+/// Does what is asked for, with a site over these plugins, and returns the program's exit status: 0
+/// if all went well, 1 after a fault, which a line on standard error names.
+pub fn run<S: Stated>(rt: &HostRuntime, plugins: &Plugins<S>, asked: Asked) -> ExitCode {
+    let Asked {
+        calls,
+        cache,
+        flags,
+        token_file,
+        task,
+    } = asked;
+    if let Some(status) = unfit_file(rt, &task, flags) {
+        return status;
+    }
+    match way_of(rt, flags, token_file) {
+        Ok(way) => with_site(rt, plugins, calls, cache, flags.trace, &task, way),
+        Err(status) => status,
     }
 }
 
@@ -69,20 +100,18 @@ enum Way {
 
 /// Returns how a site is served, with the token from its file. If that cannot be read, returns the
 /// program's exit status.
-fn way_of(
-    rt: &HostRuntime,
-    http: bool,
-    framed: bool,
-    token_file: Option<String>,
-) -> Result<Way, ExitCode> {
-    if !http {
+fn way_of(rt: &HostRuntime, flags: Flags, token_file: Option<String>) -> Result<Way, ExitCode> {
+    if !flags.http {
         return Ok(Way::Lines);
     }
     let token = match token_file {
         Some(path) => Some(token_in(rt, path.as_str())?),
         None => None,
     };
-    Ok(Way::Http(Clients { framed, token }))
+    Ok(Way::Http(Clients {
+        framed: flags.framed,
+        token,
+    }))
 }
 
 /// Returns the command-line arguments.
@@ -153,7 +182,7 @@ fn with_pages<S: Stated>(
     };
     match (path, way) {
         (None, Way::Lines) => serve(rt, &mut site, trace),
-        (Some(path), Way::Lines) => serve_file(rt, &mut site, identity, path, trace),
+        (Some(path), Way::Lines) => serve_file(rt, site, identity, path, trace),
         (None, Way::Http(clients)) => serve_http(rt, site, clients, trace),
         (Some(path), Way::Http(clients)) => serve_http_file(
             rt, site, identity, clients, path, trace,

@@ -1,5 +1,5 @@
 //! What a database file has to be before it is opened.
-use site_args::Task;
+use site_args::{Flags, Task};
 use site_program::StoreFault;
 use site_tasks::failed;
 use std::alloc::AllocError;
@@ -41,18 +41,13 @@ impl fmt::Display for LoneFile<'_> {
 /// Says why the file of a task is not opened, and returns the program's exit status: it is not there
 /// or is empty, where it has to have a site; or SQLite's log is not beside it, and no option says that
 /// the file is whole without it. No file is made.
-pub(crate) fn unfit_file(
-    rt: &HostRuntime,
-    task: &Task,
-    must_exist: bool,
-    without_wal: bool,
-) -> Option<ExitCode> {
+pub(crate) fn unfit_file(rt: &HostRuntime, task: &Task, flags: Flags) -> Option<ExitCode> {
     let (path, must_exist) = match task {
         Task::Serve => return None,
         Task::Check(path) => (path.as_str(), true),
         Task::ServeFile(path) | Task::Export(path) | Task::Compact(path) => (
             path.as_str(),
-            must_exist,
+            flags.must_exist,
         ),
     };
     if must_exist {
@@ -60,7 +55,7 @@ pub(crate) fn unfit_file(
             return Some(failed(rt, MissingFile { path, why }));
         }
     }
-    if without_wal {
+    if flags.without_wal {
         return None;
     }
     match missing_log(rt, path) {

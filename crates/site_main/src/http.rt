@@ -1,6 +1,7 @@
 //! Serving clients of HTTP on standard input and output.
+use crate::trace::Trace;
 use http_tasks::{Clients, read_token, serve, serve_path};
-use site_program::{Commands, PageTrace, Unwatched, Writing};
+use site_program::Commands;
 use site_tasks::failed_at;
 use std::process::ExitCode;
 
@@ -21,12 +22,7 @@ pub(crate) fn serve_http<C: Commands + Drop>(
     clients: Clients,
     trace: bool,
 ) -> ExitCode {
-    if trace {
-        let log = PageTrace::new(rt.alloc(), Writing::new(rt.stderr()));
-        serve(rt, site, clients, log)
-    } else {
-        serve(rt, site, clients, Unwatched)
-    }
+    serve(rt, site, clients, Trace::new(rt, trace))
 }
 
 /// Makes the site anew by the log in a file, and serves it into that log.
@@ -39,10 +35,5 @@ pub(crate) fn serve_http_file<C: Commands + Drop>(
     path: &str,
     trace: bool,
 ) -> ExitCode {
-    if trace {
-        let log = PageTrace::new(rt.alloc(), Writing::new(rt.stderr()));
-        serve_path(rt, path, site, identity, clients, log)
-    } else {
-        serve_path(rt, path, site, identity, clients, Unwatched)
-    }
+    serve_path(rt, path, site, identity, clients, Trace::new(rt, trace))
 }

@@ -1,13 +1,15 @@
 //! What a program that serves a site does beside making its plugins: it reads the command-line
 //! arguments, and does what they ask for.
 //!
-//! A program makes its [`Plugins`](callback_store::Plugins) and hands them to [`run`].
+//! A program asks for its arguments by [`read_command_line`], makes its [`Plugins`](callback_store::Plugins), and
+//! hands both to [`run`].
 #![tactic(auto)]
 
 mod arguments;
 mod files;
 mod http;
 mod serving;
+mod trace;
 
-pub use arguments::run;
+pub use arguments::{Asked, read_command_line, run};
 pub use site_tasks::failed;

@@ -1,11 +1,10 @@
 //! Serving standard input.
 ghost use Rattle.std.specs.Prelude.{◌≡◌, false};
 
+use crate::trace::Trace;
 use callback_store::Stated;
-use kept_pages::KeptPages;
-use site_program::{
-    Commands, Journal, PageTrace, Reading, ServeFault, Site, Source, Unwatched, Writing, serve_site,
-};
+use site_program::{Commands, Journal, Reading, ServeFault, Site, Source, Writing, serve_site};
+use site_serving::KeptPages;
 use site_tasks::{failed, serve_path};
 use std::io;
 use std::process::ExitCode;
@@ -30,21 +29,24 @@ pub(crate) fn serve<S: Stated>(
 /// Makes the site anew by the log in a file, whose first line has to be the identity, and serves
 /// standard input into that log. With `trace` each invocation is told on standard error.
 #[inline(never)]
-pub(crate) fn serve_file<C: Commands>(
+pub(crate) fn serve_file<C: Commands + Drop>(
     rt: &HostRuntime,
-    site: &mut C,
+    site: C,
     identity: &str,
     path: &str,
     trace: bool,
 ) -> ExitCode {
     let reader = Reading::new(rt.reader());
     let sink = Writing::new(io::writer(rt));
-    if trace {
-        let mut log = PageTrace::new(rt.alloc(), Writing::new(rt.stderr()));
-        serve_path(rt, path, site, identity, reader, sink, &mut log)
-    } else {
-        serve_path(rt, path, site, identity, reader, sink, &mut Unwatched)
-    }
+    serve_path(
+        rt,
+        path,
+        site,
+        identity,
+        reader,
+        sink,
+        Trace::new(rt, trace),
+    )
 }
 
 /// Serves standard input into a journal. With `trace` each invocation is told on standard error.
@@ -75,6 +77,6 @@ fn serve_traced<C: Commands, R: Source, W: Journal>(
     requires reader { R.has_failed reader.old ≡ false }
     requires writer { W.has_failed writer.old ≡ false }
 {
-    let mut log = PageTrace::new(rt.alloc(), Writing::new(rt.stderr()));
+    let mut log = Trace::new(rt, true);
     site_serving::serve(rt.alloc(), site, reader, writer, &mut log)
 }

@@ -12,11 +12,10 @@ ghost use Rattle.site_program.specs.Step.{steps_of};
 use crate::site::Site;
 use byte_io::{Journal, Source};
 use callback_store::Stated;
-use kept_pages::KeptPages;
 use page_trace::{Unwatched, Watch};
 use site_edits::StoreFault;
 use site_replies::{Refusal, ServeFault};
-use site_serving::{Commands, LineReply};
+use site_serving::{Commands, KeptPages, LineReply};
 use std::alloc::Global;
 
 impl<'p, S: Stated> Commands for Site<'p, S> {

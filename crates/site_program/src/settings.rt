@@ -1,14 +1,13 @@
 //! What the pages of a site need of its options and templates.
 ghost use Rattle.std.specs.Prelude.{◌≡◌, [], codes, IfOk, map, unwrap_or};
 ghost use Rattle.site_records.specs.Texts.{text_named};
-ghost use Rattle.sorted_texts.specs.Sorted.{AreSorted};
+ghost use Rattle.site_records.specs.Sorted.{AreSorted};
 ghost use Rattle.template_parts.specs.Choice.{template_choice};
 ghost use Rattle.site_program.specs.Requests.{template_for, settings_for};
 
 use plain_data::{Shared, Text};
-use site_records::FoundKind;
+use site_records::{FoundKind, sorted_named};
 use site_store::Templates;
-use sorted_texts::sorted_named;
 use std::alloc::{AllocError, Global};
 use template_parts::{Settings, choose};
 use template_trees::Template;

@@ -1,4 +1,7 @@
 //! Posts, and the records of a whole site.
+ghost use Rattle.std.specs.Prelude.{◌≡◌};
+ghost use Rattle.site_records.specs.Kinds.{kind_text, status_text};
+
 use crate::date::PostDate;
 use plain_data::{Listed, Text};
 
@@ -13,6 +16,16 @@ pub enum PostKind {
     Page,
 }
 
+/// Returns the name of a kind, as commands and the database have it (`post_type`).
+pub fn kind_text(kind: PostKind) -> &'static str
+    ensures { result.now ≡ kind_text kind }
+{
+    match kind {
+        PostKind::Post => "post",
+        PostKind::Page => "page",
+    }
+}
+
 /// Whether a visitor sees an entry (WordPress documentation, Post Status).
 #[derive(Clone, Copy, PartialEq, Eq)]
 pub enum PostStatus {
@@ -20,6 +33,16 @@ pub enum PostStatus {
     Publish,
     /// It is kept, and shown to nobody.
     Draft,
+}
+
+/// Returns the name of a status, as commands and the database have it (`post_status`).
+pub fn status_text(status: PostStatus) -> &'static str
+    ensures { result.now ≡ status_text status }
+{
+    match status {
+        PostStatus::Publish => "publish",
+        PostStatus::Draft => "draft",
+    }
 }
 
 /// A stored post or page.

@@ -5,3 +5,4 @@ pub mod Newlines
 mod Stretches
 mod Endings
 mod Settling
+pub mod Kept

@@ -3,3 +3,4 @@ pub mod Lines
 pub mod Served
 pub mod Serving
 pub mod Stretches
+pub mod Kept

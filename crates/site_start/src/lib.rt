@@ -7,8 +7,10 @@ mod fault;
 mod identity;
 mod opening;
 mod replay;
+mod task;
 
 pub use compacting::{compact, compact_file};
 pub use fault::StartFault;
 pub use identity::identity_of;
 pub use opening::{FileLog, open_site, start};
+pub use task::{LogTask, with_files, with_log};

@@ -5,7 +5,7 @@ ghost use Rattle.permalink_query.specs.Found.{query_result};
 ghost use Rattle.post_tables.specs.Faults.{IsStoreReadFault};
 ghost use Rattle.site_export.specs.Lines.{IsHistory, IsShort, FitsLines};
 ghost use Rattle.site_store.specs.Stored.{options_of, templates_of, active_of, found_by};
-ghost use Rattle.sorted_texts.specs.Sorted.{AreSorted};
+ghost use Rattle.site_records.specs.Sorted.{AreSorted};
 
 use crate::kept_finds::KeptFinds;
 use crate::templates::Templates;

@@ -12,7 +12,7 @@ mod status;
 mod summary;
 
 pub use file_ids::WhileThere;
-pub use files::{Served, ended, serve_file, serve_log, serve_path};
+pub use files::{ServeLines, Served, ended, serve_path};
 pub use history::{check, compact, export};
 pub use status::{failed, failed_at, not_started};
 pub use summary::{Summary, summary_of};

@@ -3,10 +3,9 @@ ghost use Rattle.std.specs.Prelude.{◌≡◌, ◌-◌, length, IfOk, OnOk};
 ghost use Rattle.sqlite.specs.Held.{state};
 ghost use Rattle.sqlite.specs.State.{HasCleanDisk};
 ghost use Rattle.command_log.specs.Lines.{IsOpen, lines_of};
-ghost use Rattle.line_digests.specs.Digests.{digest_of};
+ghost use Rattle.command_log.specs.Digests.{digest_of};
 
-use command_log::{CommandLog, LogFault, LogPlace};
-use line_digests::LineDigest;
+use command_log::{CommandLog, LineDigest, LogFault, LogPlace};
 use sqlite_trees::store::Alter;
 use std::fmt;
 

@@ -6,7 +6,7 @@ use Rattle.std.specs.Option.{option_map_or}
 use Rattle.std.proofs.lemmas.Bool.Decides.{nat_tests}
 use Rattle.snippets.specs.Markup.{is_mark, marks, IsHarmless, AreInPlace}
 use Rattle.snippets.specs.declared.places.Element.{Element}
-use Rattle.snippets.specs.Places.{Place, Between, Opened, EndOpened, Declared, Ending, Comment, Name, Inside, Attribute, Equals, Bare, Quoted, Raw, is_quote, place_after, takes_values}
+use Rattle.snippets.specs.Places.{Place, Between, Opened, EndOpened, Declared, Ending, Comment, Name, Inside, Attribute, Equals, Bare, Quoted, Raw, Nowhere, is_quote, place_after, takes_values}
 use Rattle.snippets.specs.Templates.{Part, Own, Value, Opening, Inverted, Closing, Piece, Fixed, Shown, Inner, Values, safe, shown, non_empty}
 use Rattle.snippets.specs.Templates.{piece_under, piece_of, place_past, left_out_after, pieces_from, pieces_of, parts_of}
 use Rattle.snippets.proofs.Markup.{shown_marks}
@@ -54,7 +54,13 @@ keeps_place (Attribute element) text takes none = cc
 keeps_place (Equals element) text takes none = cc
 keeps_place (Bare element) text takes none = cc
 keeps_place (Quoted quote element) text takes none = keeps_quotes quote element text takes none
-keeps_place (Raw element left) text takes none = cc
+keeps_place (Raw element left escape) text takes none = cc
+keeps_place Nowhere text takes none = cc
+
+-- after a `<!--` in a script there is no place for a value
+pub stays_nowhere : (text : Text) → place_after Nowhere text ≡ Nowhere
+stays_nowhere [] = refl
+stays_nowhere (b ∷ rest) = stays_nowhere rest
 
 harmless_keeps : (place : Place) (text : Text) → IsHarmless place text → place_after place text ≡ place
 harmless_keeps place text (none, inl is) = ap (place_after place) is

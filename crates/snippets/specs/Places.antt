@@ -32,8 +32,10 @@ pub data Place : Type 0 where
   Equals : Element → Place
   Bare : Element → Place
   Quoted : ℕ → Element → Place
-  -- in the text of a script or a style, with what is left of `</script` or `</style`
-  Raw : Element → Text → Place
+  -- in the text of a script or a style, with what is left of `</script` or `</style`, and of `<!--`
+  Raw : Element → Text → Text → Place
+  -- in the text of a script after a `<!--`, where `<script` may begin another one: its end isn't looked for
+  Nowhere : Place
 
 -- white space (HTML Standard, ASCII whitespace), and what else ends a name: `/` is 47, `>` 62, `<` 60, `=` 61, `-` 45,
 -- `!` 33, `?` 63
@@ -71,9 +73,13 @@ end_of Script = codes "</script"
 end_of Style = codes "</style"
 end_of Other = []
 
+-- what makes the end of a script's text unsure (script data escape start state)
+abbrev pub escape : Text
+escape = codes "<!--"
+
 abbrev pub after_tag : Element → Place
-after_tag Script = Raw Script (end_of Script)
-after_tag Style = Raw Style (end_of Style)
+after_tag Script = Raw Script (end_of Script) escape
+after_tag Style = Raw Style (end_of Style) escape
 after_tag Other = Between
 
 abbrev pub after_angle : ℕ → Place
@@ -130,15 +136,19 @@ in_bare element b = if b == 62 then after_tag element else (if is_blank b then I
 abbrev pub in_quotes : ℕ → Element → ℕ → Place
 in_quotes quote element b = if b == quote then Inside element else Quoted quote element
 
--- what is left of the end after a byte: it begins anew at each `<`
-abbrev pub end_after : Element → Text → ℕ → Text
-end_after element left b = unwrap_or (word_after left b) (unwrap_or (word_after (end_of element) b) (end_of element))
+-- what is left of a word after a byte: it begins anew at each `<`
+abbrev pub left_after : Text → Text → ℕ → Text
+left_after word left b = unwrap_or (word_after left b) (unwrap_or (word_after word b) word)
 
-abbrev pub in_raw : Element → Text → ℕ → Place
-in_raw element left b =
+abbrev pub raw_after : Element → Text → Text → Place
+raw_after Script left [] = Nowhere
+raw_after element left escape_left = Raw element left escape_left
+
+abbrev pub in_raw : Element → Text → Text → ℕ → Place
+in_raw element left escape_left b =
     if length left == 0 && b == 62 then Between
     else (if length left == 0 && is_gap b then Inside Other
-    else Raw element (end_after element left b))
+    else raw_after element (left_after (end_of element) left b) (left_after escape escape_left b))
 
 -- the place after one more byte
 abbrev pub next_place : Place → ℕ → Place
@@ -154,7 +164,8 @@ next_place (Attribute element) b = in_attribute element b
 next_place (Equals element) b = after_equals element b
 next_place (Bare element) b = in_bare element b
 next_place (Quoted quote element) b = in_quotes quote element b
-next_place (Raw element left) b = in_raw element left b
+next_place (Raw element left escape_left) b = in_raw element left escape_left b
+next_place Nowhere b = Nowhere
 
 -- the place after a text
 abbrev pub place_after : Place → Text → Place
@@ -181,4 +192,5 @@ place_now (variant.Attribute element) = Attribute element
 place_now (variant.Equals element) = Equals element
 place_now (variant.Bare element) = Bare element
 place_now (variant.Quoted quote element) = Quoted quote element
-place_now (variant.Raw element left) = Raw element left.now
+place_now (variant.Raw element left escape_left) = Raw element left.now escape_left.now
+place_now variant.Nowhere = Nowhere

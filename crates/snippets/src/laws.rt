@@ -2,7 +2,7 @@
 ghost use Rattle.std.specs.Prelude.{◌≡◌, ◌∷◌, ℕ, List, [], codes, flat_map, false};
 ghost use Rattle.hook_changes.specs.declared.reply.Call.{Call};
 ghost use Rattle.snippets.specs.Markup.{AreInPlace, emptied, emptied_call, markup_of, marks, prints_after};
-ghost use Rattle.snippets.specs.Places.{Between};
+ghost use Rattle.snippets.specs.Places.{Between, Nowhere, place_after};
 ghost use Rattle.snippets.specs.Snippets.{says};
 ghost use Rattle.snippets.specs.Templates.{Values, is_script, pieces_of, printed, safe, text_in};
 
@@ -21,6 +21,9 @@ pub fn values_add_no_markup()
         → AreInPlace Between (pieces_of template values content) }
     ensures pieces { (template content : List ℕ) (values : Values)
         → printed template values content ≡ flat_map text_in (pieces_of template values content) }
+
+    // None is printed after a `<!--` in a script, whose end no text is taken for.
+    ensures nowhere { (text : List ℕ) → place_after Nowhere text ≡ Nowhere }
 
     // And no value is printed that a browser would read as an address that is a program.
     ensures scripts { (value : List ℕ) → is_script (safe value) ≡ false }
@@ -52,7 +55,11 @@ pub fn worked_places()
     ensures name { prints_after (codes "<h") ≡ [] }
     ensures script { prints_after (codes "<SCRIPT>x = \"</b>") ≡ [] }
     ensures after_script { prints_after (codes "<script src=\"/a.js\"></script >") ≡ codes "1" }
+    ensures escaped { prints_after (codes "<script><!--<script></script>") ≡ [] }
+    ensures escaped_once { prints_after (codes "<script><!-- --></script>") ≡ [] }
+    ensures dash { prints_after (codes "<script>a<!-b</script>") ≡ codes "1" }
     ensures style { prints_after (codes "<style>b{") ≡ [] }
+    ensures after_style { prints_after (codes "<style><!--b{}--></style>") ≡ codes "1" }
     ensures strong { prints_after (codes "<strong>") ≡ codes "1" }
     ensures comment { prints_after (codes "<!-- a > ") ≡ [] }
     ensures after_comment { prints_after (codes "<!--- a --->") ≡ codes "1" }

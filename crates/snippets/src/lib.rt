@@ -9,8 +9,6 @@ mod printing;
 mod registering;
 mod replies;
 mod shipped;
-#[cfg(test)]
-mod tests;
 
 pub use laws::{values_add_no_markup, worked_templates};
 pub use replies::snippet_reply;

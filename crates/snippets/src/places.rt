@@ -1,7 +1,8 @@
 //! Where in a page's markup the text of a template ends: whether a value would come between tags,
 //! within quotes, or where escaping doesn't make it safe.
 ghost use Rattle.std.specs.Prelude.{◌≡◌, option_map, unwrap_or, codes};
-ghost use Rattle.snippets.specs.Places.{after_angle, next_place, after_equals, after_tag, element_of, end_after};
+ghost use Rattle.snippets.specs.Places.{after_angle, next_place, after_equals, after_tag, element_of};
+ghost use Rattle.snippets.specs.Places.{left_after, raw_after};
 ghost use Rattle.snippets.specs.Places.{after_declared, after_slash, in_ending};
 ghost use Rattle.snippets.specs.Places.{end_of, in_attribute, in_bare, in_comment, in_name, in_quotes};
 ghost use Rattle.snippets.specs.Places.{in_raw, in_tag, is_blank, is_gap, is_quote, is_whole, name_after};
@@ -45,9 +46,14 @@ pub(crate) enum Place<'w> {
     Bare(Element),
     /// In a value within two of this quote.
     Quoted(u8, Element),
-    /// In the text of a script or a style: what is left of the name of its end tag.
-    Raw(Element, &'w [u8]),
+    /// In the text of a script or a style: what is left of the name of its end tag, and of `<!--`.
+    Raw(Element, &'w [u8], &'w [u8]),
+    /// In the text of a script after a `<!--`, whose end isn't looked for.
+    Nowhere,
 }
+
+/// What makes the end of a script's text unsure: a `<script` after it begins another one.
+const ESCAPE: &[u8] = b"<!--";
 
 /// Returns whether a byte is white space.
 fn is_blank(byte: u8) -> bool
@@ -124,8 +130,8 @@ fn after_tag<'w>(element: Element) -> Place<'w>
     ensures { place_now result ≡ after_tag element }
 {
     match element {
-        Element::Script => Place::Raw(Element::Script, end_of(Element::Script)),
-        Element::Style => Place::Raw(Element::Style, end_of(Element::Style)),
+        Element::Script => Place::Raw(Element::Script, end_of(Element::Script), ESCAPE),
+        Element::Style => Place::Raw(Element::Style, end_of(Element::Style), ESCAPE),
         Element::Other => Place::Between,
     }
 }
@@ -278,30 +284,40 @@ fn in_quotes<'w>(quote: u8, element: Element, byte: u8) -> Place<'w>
     }
 }
 
-/// Returns what is left of the name of an element's end tag after a byte of its text.
-fn end_after<'w>(element: Element, left: &'w [u8], byte: u8) -> &'w [u8]
-    ensures { result.now ≡ end_after element left.entry.now byte }
+/// Returns what is left of a word after a byte of a text, where it may begin at any time.
+fn left_after<'w>(word: &'w [u8], left: &'w [u8], byte: u8) -> &'w [u8]
+    ensures { result.now ≡ left_after word.entry.now left.entry.now byte }
 {
     if let Some(rest) = word_after(left, byte) {
         return rest;
     }
-    let end = end_of(element);
-    match word_after(end, byte) {
+    match word_after(word, byte) {
         Some(rest) => rest,
-        None => end,
+        None => word,
+    }
+}
+
+/// Returns the place in the text of a script or a style with this left of its end and of `<!--`.
+fn raw_after<'w>(element: Element, left: &'w [u8], escape: &'w [u8]) -> Place<'w>
+    ensures { place_now result ≡ raw_after element left.entry.now escape.entry.now }
+{
+    match element {
+        Element::Script if escape.is_empty() => Place::Nowhere,
+        _ => Place::Raw(element, left, escape),
     }
 }
 
 /// Returns the place after a byte in the text of a script or a style.
-fn in_raw<'w>(element: Element, left: &'w [u8], byte: u8) -> Place<'w>
-    ensures { place_now result ≡ in_raw element left.entry.now byte }
+fn in_raw<'w>(element: Element, left: &'w [u8], escape: &'w [u8], byte: u8) -> Place<'w>
+    ensures { place_now result ≡ in_raw element left.entry.now escape.entry.now byte }
 {
     if left.is_empty() && byte == b'>' {
         Place::Between
     } else if left.is_empty() && is_gap(byte) {
         Place::Inside(Element::Other)
     } else {
-        Place::Raw(element, end_after(element, left, byte))
+        let left = left_after(end_of(element), left, byte);
+        raw_after(element, left, left_after(ESCAPE, escape, byte))
     }
 }
 
@@ -328,7 +344,8 @@ fn next_place<'w>(place: Place<'w>, byte: u8) -> Place<'w>
         Place::Equals(element) => after_equals(element, byte),
         Place::Bare(element) => in_bare(element, byte),
         Place::Quoted(quote, element) => in_quotes(quote, element, byte),
-        Place::Raw(element, left) => in_raw(element, left, byte),
+        Place::Raw(element, left, escape) => in_raw(element, left, escape, byte),
+        Place::Nowhere => Place::Nowhere,
     }
 }
 

@@ -1,7 +1,6 @@
 """The feeds, the sitemap and the robots.txt of an archive.
 
-Feeds are of RSS 2.0, as https://www.rssboard.org/rss-specification has
-it.
+Feeds are of RSS 2.0, as https://www.rssboard.org/rss-specification has it.
 """
 
 import re

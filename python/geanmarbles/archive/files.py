@@ -1,7 +1,7 @@
 """The files of an archive: written only if they changed, and removed once nothing writes them any more.
 
-An archive's folder has `public`, which a web server serves, and beside it
-`written.txt`, the list of what was written there.
+An archive's folder has `public`, which a web server serves, and beside it `written.txt`, the list of what was written
+there.
 """
 
 import contextlib
@@ -91,7 +91,10 @@ class Files(Copies):
         """The files that an earlier run has written."""
         with contextlib.suppress(FileNotFoundError), (self.folder / WRITTEN).open(encoding="utf-8") as listed:
             for line in listed:
-                yield from (it for it in line.splitlines() if it == ".htaccess" or path_or_none("/" + it) == "/" + it)
+                for it in line.splitlines():
+                    path = "/" + it.removesuffix(".htaccess")
+                    if path_or_none(path) == path:
+                        yield it
 
     def name_of(self, path: str, index: str, is_folder: bool) -> str:
         """The file for a path: a folder's index, unless the path itself has an ending and nothing is below it."""
@@ -127,12 +130,6 @@ class Files(Copies):
                 return False
         self.current.add(name)
         return True
-
-    def add(self, name: str, text: Iterable[str]) -> None:
-        """Writes a file of pieces that is no page, such as one for a web server."""
-        with made_of(text) as data:
-            self.put(self.root / name, data)
-        self.current.add(name)
 
     @staticmethod
     def put(file: Path, data: IO[bytes]) -> None:

@@ -1,17 +1,17 @@
 """Pieces of HTML for an archive: places in a printed page, and shortened contents.
 
-A page is what the program printed; what is added to it is put where the
-templates have marks for it, or else at the usual elements.
+A page is what the program printed; what is added to it is put where the templates have marks for it, or else at the
+usual elements.
 """
 
 import re
 from collections.abc import Callable
 from html import escape, unescape
 
+from geanmarbles.wordpress.addresses import as_link
 from geanmarbles.wordpress.harmless import VOID, tag_name
 from geanmarbles.wordpress.texts import TAGS
 
-TIME = re.compile(r"<time>(\d{4}-\d\d-\d\d \d\d:\d\d:\d\d)</time>")
 MORE = re.compile(r"<span id=\"more-\d+\"(?: data-more=\"([^\"]*)\")?></span>")
 # The links to the parts of the front, as `from_wordpress` writes them into templates.
 FRONT_PARTS = re.compile(r"(?:<li><a href=\"/(?:\?paged=\d+)?\">\d+</a></li>\n)+")
@@ -29,15 +29,15 @@ def region(page: str, name: str, html: str, is_last: bool = False) -> str | None
     return page[:at] + html + page[until + len(end) :]
 
 
-def with_heading(page: str, heading: str) -> str:
-    """A list's page with its heading."""
+def with_heading(page: str, heading: str, more: str = "") -> str:
+    """A list's page with its heading, and something after it."""
     if not heading:
         return page
-    made = region(page, "heading", f"<h1>{heading}</h1>")
+    made = region(page, "heading", f"<h1>{heading}</h1>{more}")
     if made is not None:
         return made
     name = "main" if re.search(r"<main\b", page) else "body"
-    return re.sub(rf"<{name}\b[^<>]*>", lambda it: f"{it[0]}\n<h1>{heading}</h1>", page, count=1)
+    return re.sub(rf"<{name}\b[^<>]*>", lambda it: f"{it[0]}\n<h1>{heading}</h1>{more}", page, count=1)
 
 
 def with_parts(page: str, items: list[str]) -> str:
@@ -82,7 +82,15 @@ def with_plain_title(page: str, title: str, plain: str) -> str:
     """A post's page whose title has no tags, and no entities that were escaped once more."""
     escaped = escape(title).replace("&#x27;", "&#039;")
     shown = escape(plain, quote=False)
-    return re.sub(r"<title>[^<]*</title>", lambda it: it[0].replace(escaped, shown, 1), page, count=1)
+    return re.sub(r"(?<=<title>)[^<]*", lambda it: it[0].replace(escaped, shown, 1), page, count=1)
+
+
+def with_current(page: str, path: str) -> str:
+    """A page whose menu, which is its first `<nav>`, marks the link to a path."""
+    before, begin, rest = page.partition("<nav")
+    menu, end, after = rest.partition("</nav>")
+    link = f'href="{escape(as_link(path))}"'
+    return before + begin + menu.replace(link, f'{link} aria-current="page"', 1) + end + after
 
 
 def with_head(page: str, html: str) -> str:

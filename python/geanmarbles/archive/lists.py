@@ -1,7 +1,4 @@
-"""The posts of an archive in their orders: by date, and in each list.
-
-The orders lie in a database on the disk.
-"""
+"""The posts of an archive in their orders, by date and in each list, which lie in a database on the disk."""
 
 from collections.abc import Iterable, Iterator, Mapping
 from dataclasses import dataclass

@@ -5,6 +5,7 @@ import re
 from collections import defaultdict
 from collections.abc import Callable, Iterable, Iterator
 from datetime import datetime, timedelta
+from hashlib import sha256
 from html import escape
 from itertools import chain
 from typing import NamedTuple
@@ -13,8 +14,10 @@ from geanmarbles.archive.files import Files, Noted
 from geanmarbles.archive.html import (
     after_post,
     before_last,
+    region,
     shortened,
     text_of,
+    with_current,
     with_head,
     with_heading,
     with_links,
@@ -38,6 +41,9 @@ PART = "<!--nextpage-->"
 DESCRIPTION = 155
 # A file of the site in a page: the value of an attribute, or one of several in `srcset`.
 SHOWN_FILE = re.compile(rf"[\"' ,](/[^\"'\s,<>]*{UPLOADS}[^\"'\s,<>?#]+)")
+STYLE = re.compile(r"<style>([^<]*)</style>")
+# How many parts of a list before one and after it that one links to.
+NEAR = 4
 # How many links' targets are kept from page to page.
 LINKS = 2_000
 # Fields in which plugins keep the description of a post.
@@ -84,6 +90,8 @@ class Pages:
         self.uploads: DiskSet[str] = DiskSet(plan.store.disk)
         # Where links of the pages written last lead: most pages have the same.
         self.links: dict[str, str] = {}
+        self.years = self.dates("year")
+        self.styles: set[str] = set()
         self.count = 0
 
     def write(self) -> None:
@@ -104,7 +112,7 @@ class Pages:
             post = plan.store.posts[number]
             content = plan.store.content(number)
             asked = "/" if number == plan.front else f"/?{'p' if post.kind == 'post' else 'page_id'}={number}"
-            if PART in content and number != plan.front:
+            if (PART in content or post.title != plan.title(number)) and number != plan.front:
                 self.write_parts(number, asked, content)
                 continue
             status, page = self.printer.page(asked)
@@ -120,7 +128,7 @@ class Pages:
         self.search.take(number, content)
         if post.kind == "post":
             page = with_times(page, [(post.date, plan.date(number))])
-        page = with_plain_title(page, post.title, plan.plain_title(number))
+        page = with_plain_title(page, plan.title(number), plan.plain_title(number))
         page = after_post(page, self.after(number, part, parts))
         head = Head(
             path,
@@ -140,9 +148,9 @@ class Pages:
         self.finish(page, head, post.date if post.kind == "post" else "")
 
     def write_parts(self, number: int, asked: str, content: str) -> None:
-        """Writes a divided post as its author has divided it."""
-        post, texts = self.plan.store.posts[number], content.split(PART)
-        entry = {"id": number, "kind": post.kind, "status": "publish", "title": post.title, "date": post.date}
+        """Writes a divided post as its author has divided it, or one whose title isn't the site's."""
+        post, texts, title = self.plan.store.posts[number], content.split(PART), self.plan.title(number)
+        entry = {"id": number, "kind": post.kind, "status": "publish", "title": title, "date": post.date}
         for part, text in enumerate(texts, 1):
             _, page = self.lister.page({number: line_of({**entry, "content": text.strip("\n")})}, asked)
             self.write_post(number, page, text, part, len(texts))
@@ -267,7 +275,7 @@ class Pages:
         plan = self.plan
         size = plan.store.per_page()
         parts = max(1, -(-listing.count // size))
-        links = [link(plan.places.part(listing.path, it), str(it)) for it in range(1, parts + 1)]
+        months = self.dates("month", listing.path) if listing.kind == "year" else ""
         for part in range(1, parts + 1):
             # (the program lists a hundred posts at most)
             sticky = plan.sticky(MOST_PER_PAGE - size) if listing.kind == "home" and part == 1 else []
@@ -275,14 +283,27 @@ class Pages:
             entries = {it: self.entry(it) for it in numbers}
             entries |= {it: self.made_entry(it, date) for it, date in first_dates(sticky).items()}
             _, page = self.lister.page({it: entry.line for it, entry in entries.items()}, "/")
-            page = with_heading(page, listing.heading)
-            here = f'<span aria-current="page">{part}</span>'
-            page = with_parts(page, [*links[: part - 1], here, *links[part:]] if parts > 1 else [])
+            page = with_heading(page, listing.heading, months)
+            page = with_parts(page, self.near(listing.path, part, parts))
             page = with_times(page, [(it.date, it.shown) for it in entries.values()])
             for it in sticky:
                 # (a template may print the date in another element too)
                 page = page.replace(entries[it].date, plan.store.posts[it].date)
             self.finish_list(page, listing, part)
+
+    def near(self, path: str, part: int, parts: int) -> list[str]:
+        """Links to the first part of a list, to the last and to those near one of them."""
+        made, shown = [], sorted({1, parts, *range(max(1, part - NEAR), min(parts, part + NEAR) + 1)})
+        for before, it in zip([0, *shown], shown if parts > 1 else []):
+            made += ["…"] if it > before + 1 else []
+            here = f'<span aria-current="page">{it}</span>'
+            made.append(here if it == part else link(self.plan.places.part(path, it), str(it)))
+        return made
+
+    def dates(self, kind: str, above: str = "") -> str:
+        """Links to the lists of all years, or of the months of a year."""
+        label = self.plan.words["year" if kind == "year" else "months_label"]
+        return self.nav(label, (link(*it) for it in self.plan.dates(kind, above)))
 
     def entry(self, number: int) -> Entry:
         """A post as lists show it, which is made for the first of them."""
@@ -293,7 +314,7 @@ class Pages:
 
     def made_entry(self, number: int, date: str) -> Entry:
         """A post as a list shows it, with the date by which the program orders it."""
-        plan, post = self.plan, self.plan.store.posts[number]
+        plan = self.plan
 
         def more(text: str) -> str:
             word = text or plan.words["more"]
@@ -306,7 +327,7 @@ class Pages:
 
         content = plan.store.content(number)
         shown = shortened(content, plan.excerpt(number), more) if number in plan.paths else content
-        given = {"id": number, "kind": "post", "status": "publish", "title": post.title, "date": date}
+        given = {"id": number, "kind": "post", "status": "publish", "title": plan.title(number), "date": date}
         return Entry(date, plan.date(number), line_of({**given, "content": shown}))
 
     def finish_list(self, page: str, listing: Listing, part: int) -> None:
@@ -328,8 +349,8 @@ class Pages:
 
     def finish(self, page: str, head: Head, date: str, base: str = "") -> None:
         """Writes a page with its head, its links leading to the old addresses."""
-        base = base or self.plan.places.home
-        page = self.finished(with_head(page, self.head(head)), base)
+        here, base = base or head.path, base or self.plan.places.home
+        page = with_current(self.finished(with_head(page, self.head(head)), base), here)
         whole: str | Iterable[str] = page
         if LIST in page and head.path == self.search.path:
             # The list of the search has all posts, so it isn't made whole.
@@ -347,7 +368,18 @@ class Pages:
         if len(self.links) > LINKS:
             self.links.clear()
         page = with_search(page, self.search.form())
+        page = region(page, "dates", self.years, is_last=True) or page
+        head, mark, body = page.partition("</head>")
+        page = STYLE.sub(self.style_file, head, count=1) + mark + body
         return with_links(page, lambda it: self.plan.target(it, base), self.links)
+
+    def style_file(self, style: re.Match[str]) -> str:
+        """A link to a file with the style of a page's head; its name changes with what is in it."""
+        path = f"{self.plan.places.home}style-{sha256(style[1].encode()).hexdigest()[:8]}.css"
+        if path not in self.styles:
+            self.styles.add(path)
+            self.files.write(path, style[1])
+        return f'<link rel="stylesheet" href="{escape(as_link(path))}">'
 
     def head(self, head: Head) -> str:
         """What the head of a page gets."""

@@ -36,6 +36,7 @@ class Plan:
 
     def __init__(self, site: WholeSite, store: Store, settings: Settings) -> None:
         self.site, self.store = site, store
+        site.take_options(store.options)
         self.places = Places(site, settings.bases)
         self.words, self.quotes = words_of(site.language), quotes_of(site.language)
         self.form = settings.date_format or store.options.get("date_format") or date_format(site.language)
@@ -158,6 +159,11 @@ class Plan:
         lists.leave_out(self.taken)
         return lists
 
+    def dates(self, kind: str, above: str = "") -> Iterator[tuple[str, str]]:
+        """The path and the name of each year, month or day that has a list below a path, the newest first."""
+        found = (it for it in self.lists if it.kind == kind and it.path.startswith(above))
+        return ((it.path, it.heading.removeprefix(self.heading(kind, ""))) for it in found)
+
     def posts_of(self, listing: Listing, begin: int, count: int) -> Iterator[int]:
         """Some posts of a list from one onwards, the newest first."""
         if listing.kind == "home":
@@ -236,7 +242,14 @@ class Plan:
             return as_link(self.places.part(self.places.date(given["m"][:4], given["m"][4:]), part))
         return as_link(self.places.part(base, part)) if set(given) == {"paged"} else ""
 
+    def title(self, number: int) -> str:
+        """A post's title as HTML. One without words has its date, so that links to it can be seen."""
+        post = self.store.posts[number]
+        return post.title if plain(post.title) else self.day(post.date)
+
     def plain_title(self, number: int) -> str:
-        """A title as plain text."""
-        title = self.store.posts[number].title
-        return unescape(re.sub(r"<[^<>]*>", "", title)).strip() or str(number)
+        return plain(self.title(number))
+
+
+def plain(html: str) -> str:
+    return unescape(re.sub(r"<[^<>]*>", "", html)).strip()

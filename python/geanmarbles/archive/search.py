@@ -1,9 +1,8 @@
 """The search of an archive: a page that lists every post and page, an index of words, and a script that joins them.
 
-No server has a part in it, and nothing of another host: the script reads
-the few files of the index that have the words that were asked for, and hides what of the list hasn't all of them. A
-word is found by its beginning, in small or capital letters, with or without accents. Without JavaScript the list is
-shown whole.
+No server has a part in it, and nothing of another host: the script reads the few files of the index that have the words
+that were asked for, and hides what of the list hasn't all of them. A word is found by its beginning, in small or
+capital letters, with or without accents. Without JavaScript the list is shown whole.
 """
 
 import json
@@ -150,8 +149,8 @@ def index_of(notes: IO[bytes]) -> Iterator[str]:
 def sorted_notes(notes: IO[bytes]) -> Iterator[tuple[str, str]]:
     """The words of notes in order, each with its numbers as they came, between commas.
 
-    So many notes are put in order at a time, and then merged: a word comes once for each time that it was among them.
-    """
+    So many notes are put in order at a time, and then merged: a word comes once for each time that it was
+    among them."""
     runs: list[IO[bytes]] = []
     notes.seek(0)
     while lines := [*islice(notes, SORTED)]:

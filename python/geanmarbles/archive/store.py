@@ -1,7 +1,7 @@
 """The posts and settings of a site in a file, for scripts that write its pages elsewhere.
 
-The site is read by `site --export`, line by line. Its posts are put into a
-temporary database and their contents into a temporary file, so memory doesn't grow with them.
+The site is read by `site --export`, line by line. Its posts are put into a temporary database and their contents into a
+temporary file, so memory doesn't grow with them.
 """
 
 import json
@@ -11,7 +11,8 @@ from collections.abc import Iterable, Iterator
 from dataclasses import dataclass
 from typing import IO, Any
 
-from geanmarbles.client.program import LINES, LINE_BYTES, Ended, NoReply, Program, Reply, pipe
+from geanmarbles.client.program import LINES, LINE_BYTES, Program, pipe
+from geanmarbles.client.replies import Ended, NoReply, Reply
 from geanmarbles.disk_tables import Disk, DiskDict
 
 # How many lines before a program's last one the next takes its place.
@@ -62,8 +63,7 @@ class Texts:
 class Store:
     """What a site holds that some edits make of an empty one: its posts by ID, and the lines that make all else of it.
 
-    The edits are those that an export has, or all that were done.
-    """
+    The edits are those that an export has, or all that were done."""
 
     def __init__(self, lines: Iterable[bytes], disk: Disk | None = None) -> None:
         self.disk = disk or Disk()
@@ -157,22 +157,22 @@ def line_of(command: dict[str, Any]) -> bytes:
     return json.dumps(command, ensure_ascii=False, separators=(",", ":")).encode()
 
 
-def read_store(program: str, database: str, disk: Disk | None = None) -> Store:
+def read_store(program: list[str], database: str, disk: Disk | None = None) -> Store:
     """Reads the site in a file, which no program may serve meanwhile."""
-    words = [program, "--database", database, "--must-exist", "--export"]
+    words = [*program, "--database", database, "--must-exist", "--export"]
     with subprocess.Popen(words, stdin=subprocess.DEVNULL, stdout=subprocess.PIPE, stderr=subprocess.PIPE) as ran:
         store = Store((it.rstrip(b"\n") for it in pipe(ran.stdout)), disk)
         said = pipe(ran.stderr).read().decode(errors="replace").strip()
     if ran.returncode:
-        raise NotRead(said.partition("\n")[0] or f"{program} --export ended with status {ran.returncode}")
+        raise NotRead(said.partition("\n")[0] or f"{program[0]} --export ended with status {ran.returncode}")
     return store
 
 
 class Printer:
     """The program over the site in the file: it prints a post's or a page's page as whoever serves the file does."""
 
-    def __init__(self, program: str, database: str) -> None:
-        self.program = Program(program, "--database", database, "--must-exist")
+    def __init__(self, program: list[str], database: str) -> None:
+        self.program = Program(*program, "--database", database, "--must-exist")
 
     def __enter__(self) -> "Printer":
         return self
@@ -191,11 +191,10 @@ class Printer:
 class Lister:
     """A program in memory that has the site's settings, and for each page that it prints the posts of that page alone.
 
-    So it prints any list of posts with the site's own templates and plugins, and stays as small as one page.
-    """
+    So it prints any list of posts with the site's own templates and plugins, and stays as small as one page."""
 
-    def __init__(self, program: str, store: Store) -> None:
-        self.path, self.store = program, store
+    def __init__(self, program: list[str], store: Store) -> None:
+        self.words, self.store = program, store
         # What makes it print lists by a template of archives, or nothing yet.
         self.listing_lines: list[bytes] = []
         self.program: Program | None = None
@@ -210,7 +209,7 @@ class Lister:
 
     def begin(self) -> None:
         self.__exit__()
-        self.program = Program(self.path)
+        self.program = Program(*self.words)
         for line in self.store.settings:
             self.must([line])
         self.must(self.listing_lines)

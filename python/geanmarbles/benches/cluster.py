@@ -1,6 +1,6 @@
 """Measures a site on several machines: pages by nodes, edits by clients, delays between nodes, and starts.
 
-    bench/cluster/run [--smoke] [--svg FILE] [--edits N] [PROGRAM]
+    bench/cluster/run [--smoke] [--edits N] [PROGRAM]
 
 Three members of etcd, the nodes and the clients are all on this machine, so they share its processors; beside each rate
 is what a page or an edit takes of a processor at the node, at its program and at etcd. The starts are over N edits,
@@ -25,7 +25,6 @@ from pathlib import Path
 from typing import Self
 
 from geanmarbles.benches.asking import edit_line
-from geanmarbles.benches.drawn import Lines, draw
 from geanmarbles.benches.measured import Bench, parser_of
 from geanmarbles.checks.cluster.clients import Answer, joined, line_of
 from geanmarbles.checks.cluster.etcd import Place, after, b64
@@ -118,28 +117,24 @@ def store(node: Node, lines: Sequence[bytes]) -> Answer:
     return answer
 
 
-def show_pages(cluster: Cluster, sizes: Sizes) -> Lines:
+def show_pages(cluster: Cluster, sizes: Sizes) -> None:
     """Pages a second by nodes, and what one takes."""
     store(cluster.nodes[0], [edit_line(at, "pages") for at in range(POSTS)])
     cluster.settle()
     print("pages          a second    node, µs    program, µs   of a processor for each page")
-    points: list[tuple[float, float]] = []
     for count in sizes.nodes:
         nodes = cluster.nodes[:count]
         with Taken(cluster, nodes) as taken:
             rate = asked("pages", sizes.seconds, READERS * count, [POSTS], targets_of(nodes))
         each = rate * sizes.seconds
-        points.append((count, rate))
         name = f"{count} node{'s' * (count > 1)}"
         figures = f"{taken.node / each * 1e6:>11,.0f} {taken.program / each * 1e6:>14,.0f}"
         print(f"{name:<12} {rate:>10,.0f} {figures}", flush=True)
-    return Lines("Pages by nodes, on one machine", "nodes", "pages a second", {"pages": points})
 
 
-def show_edits(cluster: Cluster, sizes: Sizes) -> Lines:
+def show_edits(cluster: Cluster, sizes: Sizes) -> None:
     """Edits a second by clients, and what one takes."""
     print("\nedits                     a second    at a node, µs   at etcd, µs   of a processor for each edit, of all")
-    points: list[tuple[float, float]] = []
     nodes = cluster.nodes[:3]
     cases = [(count, 1) for count in sizes.writers] + [(1, TOGETHER)]
     for count, lines in cases:
@@ -147,11 +142,9 @@ def show_edits(cluster: Cluster, sizes: Sizes) -> Lines:
             name = f"w{count}x{lines}"
             rate = asked("edits", sizes.seconds, count, [lines, TOKEN, name], targets_of(nodes))
         each = max(1, rate * sizes.seconds)
-        points += [(count, rate)] * (lines == 1)
         what = f"{count} client{'s' * (count > 1)}" + f", {lines} in a request" * (lines > 1)
         figures = f"{taken.node / each * 1e6:>14,.0f} {taken.member / each * 1e6:>13,.0f}"
         print(f"{what:<25} {rate:>8,.0f} {figures}", flush=True)
-    return Lines("Edits by clients, at three nodes", "clients", "edits a second", {"edits": points})
 
 
 def show_delays(cluster: Cluster, sizes: Sizes) -> None:
@@ -290,9 +283,9 @@ def main() -> None:
     signal.signal(signal.SIGTERM, lambda *_: sys.exit("bench/cluster/run: ended by a signal"))
     bench, sizes = Bench(given), Sizes(given.smoke, given.edits)
     with Cluster(bench.program, count=max(sizes.nodes), options=NEVER) as cluster:
-        panels = [show_pages(cluster, sizes), show_edits(cluster, sizes)]
+        show_pages(cluster, sizes)
+        show_edits(cluster, sizes)
         show_delays(cluster, sizes)
         show_traffic(cluster)
         show_idle(cluster, sizes)
     show_starts(bench.program, sizes)
-    draw(bench.svg, panels)

@@ -1,6 +1,6 @@
 """Times starts of sites in a file, and edits that are committed one by one and in a pipe.
 
-    bench/database/run [--smoke] [--million] [--svg FILE] [PROGRAM]
+    bench/database/run [--smoke] [--million] [PROGRAM]
 
 The starts are over histories of no edit, 10,000 edits and, with --million, 1,000,000, of up to 1,000 posts; each is
 timed once more after --compact. Printed are the size of both files, what a start takes of a processor, and the
@@ -21,7 +21,6 @@ from collections.abc import Callable, Iterable
 from pathlib import Path
 from typing import IO
 
-from geanmarbles.benches.drawn import Lines, draw
 from geanmarbles.benches.measured import Bench, Run, Spent, parser_of
 from geanmarbles.client.exchanges import Exchange, done, joined, put
 from geanmarbles.client.program import pipe
@@ -96,20 +95,17 @@ def megabytes(file: Path) -> float:
     return (file.stat().st_size + (log.stat().st_size if log.exists() else 0)) / 1e6
 
 
-def show_starts(files: Files, sizes: Iterable[int]) -> Lines:
-    """A row for each history, as it is and after --compact, and the panel of them."""
+def show_starts(files: Files, sizes: Iterable[int]) -> None:
+    """A row for each history, as it is and after --compact."""
     print("history                           files, MB   start, ms   peak, MB")
-    families: dict[str, list[tuple[float, float]]] = {"a start": [], "after --compact": []}
     for count in sizes:
         file = files.made(count)
-        for name, family in zip(("", ", after --compact"), families.values()):
+        for name in ("", ", after --compact"):
             if name:
                 files.compact(file)
             taken = files.start(file)
-            family.append((max(count, 1), taken.seconds))
             figures = f"{megabytes(file):>9.1f} {taken.seconds * 1e3:>11.1f} {taken.kilobytes / 1024:>10.1f}"
             print(f"{f'{count:,} edits{name}':<33} {figures}", flush=True)
-    return Lines("Starts over a history", "edits", "seconds of a processor", families)
 
 
 def show_published(files: Files, sizes: Iterable[int]) -> None:
@@ -196,7 +192,6 @@ def main() -> None:
     sizes = SMALL if bench.smoke else (*SIZES, MILLION) if given.million else SIZES
     with tempfile.TemporaryDirectory() as folder:
         files = Files(bench, Path(folder))
-        panel = show_starts(files, sizes)
+        show_starts(files, sizes)
         show_published(files, FEW_DRAFTS if bench.smoke else DRAFTS)
         show_edits(files, FEW if bench.smoke else WAITED, 10 * FEW if bench.smoke else PIPED)
-    draw(bench.svg, [panel])

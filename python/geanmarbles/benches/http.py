@@ -1,6 +1,6 @@
 """Times pages over HTTP: by examples/serve, by the servers in Python, and as a file by nginx.
 
-    bench/http/run [--smoke] [--svg FILE] [PROGRAM]
+    bench/http/run [--smoke] [PROGRAM]
 
 Clients ask for the front of the bakery, each for one page after another, over connections that stay if the server keeps
 them. Printed is, for 1, 16 and 256 connections, what a page takes of a processor at the server and at its program, and
@@ -19,7 +19,6 @@ from collections.abc import Iterator, Sequence
 from pathlib import Path
 from typing import NamedTuple
 
-from geanmarbles.benches.drawn import Lines, draw
 from geanmarbles.benches.measured import Bench, parser_of
 from geanmarbles.checks.cluster.faults import children_of
 from geanmarbles.checks.cluster.nodes import Cluster
@@ -201,8 +200,6 @@ def servers(program: str) -> Iterator[list[Server]]:
 def main() -> None:
     bench = Bench(parser_of(__doc__).parse_args())
     counts, pages, turns = (SMALL, SMALL_PAGES, 1) if bench.smoke else (CONNECTIONS, PAGES, TURNS)
-    taken: dict[str, list[tuple[int, float]]] = {}
-    waited: dict[str, list[tuple[int, float]]] = {}
     print("                     connections   µs of a processor: server  program   by the clock, ms: half  99 in 100")
     with servers(bench.program) as compared:
         for count in counts:
@@ -214,12 +211,5 @@ def main() -> None:
                     figures[server.name].append(figures_of(server, count, max(count, pages)))
             for name, of in figures.items():
                 it = best(of)
-                taken.setdefault(name, []).append((count, it.server + it.program))
-                waited.setdefault(name, []).append((count, it.median))
                 cells = f"{it.server * 1e6:25.1f}{it.program * 1e6:9.1f}{it.median * 1e3:24.2f}{it.slow * 1e3:11.2f}"
                 print(f"{name:<20}{count:>12}{cells}", flush=True)
-    plots = [
-        Lines("A page's time of a processor", "connections", "seconds, server and program", taken),
-        Lines("A page by the clock", "connections", "seconds, half of them at most", waited),
-    ]
-    draw(bench.svg, plots)

@@ -1,30 +1,46 @@
 """Counts the instructions that pages, passes and loads take, by valgrind's callgrind.
 
-    bench/instructions/run [--smoke] [--svg FILE] [--only WORD] [PROGRAM]
+    bench/instructions/run [--smoke] [--only WORD] [PROGRAM]
 
-A row for each page, pass and load; with --only for those whose names have WORD. What one request takes is the
+A row for each pass, load, edit and page; with --only for those whose names have WORD. What one request takes is the
 difference between a run with many of them and one with a single one, so what is made once isn't counted, nor are the
 commands between the requests. Counts are the same in each run, whatever else the machine does. crates/test_bench makes
-the passes, and the loads: each is that of a page which finds its load kept. bench/README.md says what else can follow.
+the passes, and the loads: each is that of a page which finds its load kept. The edits are of sites of several sizes,
+each of another post. bench/README.md says what else can follow.
 """
 
 import shutil
 import sys
-from collections.abc import Iterator
+from collections.abc import Callable, Iterator
 from itertools import islice
 from typing import NamedTuple
 
-from geanmarbles.benches.drawn import Bars, draw
+from geanmarbles.benches.cases import content
 from geanmarbles.benches.measured import Bench, counted, parser_of
-from geanmarbles.client.exchanges import ARTICLE, CHANGE, SHOWN, UNSEEN, Exchange, activate, done, get, joined, put
+from geanmarbles.client.exchanges import (
+    ARTICLE,
+    CHANGE,
+    NOTHING,
+    SHOWN,
+    UNSEEN,
+    Exchange,
+    activate,
+    dated,
+    done,
+    get,
+    joined,
+    put,
+)
 from geanmarbles.output import quiet_output
 from geanmarbles.paths import BUILT_PASSES
 
 POSTS, SHORTCODES, CALLBACKS, LETTERS = 100, 1_000, 1_000, 500_000
 # Of how many active plugins the callbacks are that are loaded.
 PLUGINS = (4, 16, 63)
-# How many rows are enough to see that the script works: passes, loads, a page, and one after a change.
-FEW_ROWS = 8
+# How many posts and options sites have whose edits are counted, how long contents are, and how many edits are made.
+STORED, OPTIONS, CONTENTS, EDITS = (1_000, 4_000, 16_000), (10, 1_000, 10_000), (1_000, 64_000, 512_000), 9
+# How many rows are enough to see that the script works: passes, loads, edits, a page, and one after a change.
+FEW_ROWS = 10
 # A post that is shown is edited, and stays as it is.
 EDIT = done("edit", id=1, title="")
 
@@ -101,12 +117,76 @@ def of_work(work: Work, callbacks: int, times: int) -> float:
     return (ended - begun) / times
 
 
+# A site, and edits of it.
+Edited = tuple[Exchange, list[Exchange]]
+
+
+def edits(posts: int) -> Iterator[tuple[str, Edited]]:
+    """Edits of each kind in a site of that many posts, in the middle of all."""
+    stored = joined(dated(number, content(number)) for number in range(1, posts + 1))
+    first = (posts - EDITS) // 2 + 1
+
+    def each(cmd: str, **keys: object) -> Edited:
+        return stored, [done(cmd, id=it, **keys) for it in range(first, first + EDITS)]
+
+    def new(date: str) -> Edited:
+        return stored, [put(posts + 1 + it, date=date) for it in range(EDITS)]
+
+    yield "a title", each("edit", title="Another title")
+    yield "a content", each("edit", content="Another content.")
+    yield "a status", each("edit", status="draft")
+    yield "a date", each("edit", date="2101-01-01 00:00:00")
+    yield "a post that is deleted", each("delete")
+    yield "a new post of the newest date", new("2101-01-01 00:00:00")
+    yield "a new post of the oldest date", new("1999-01-01 00:00:00")
+
+
+def beside_contents(letters: int) -> Edited:
+    """Edits of titles beside contents of this many bytes."""
+    posts = range(1, EDITS + 1)
+    return joined(put(it, "x" * letters) for it in posts), [done("edit", id=it, title="T") for it in posts]
+
+
+def among_options(options: int) -> Edited:
+    """Options that are set among this many, each with the front after it."""
+    before = joined(done("option", name=f"option_{it:05}", value="x") for it in range(options))
+    each = (done("option", name=f"option_{it:05}", value=f"{it}") + get("/", NOTHING) for it in range(EDITS))
+    return before + get("/", NOTHING), list(each)
+
+
+def all_edits(smoke: bool) -> Iterator[tuple[str, Callable[[], Edited]]]:
+    if smoke:
+        yield "a title, 20 posts", lambda: dict(edits(20))["a title"]
+        yield "an option, and the front, among 10", lambda: among_options(10)
+        return
+    for name in dict(edits(EDITS)):
+        for posts in STORED:
+            yield f"{name}, {posts:,} posts", lambda: dict(edits(posts))[name]
+    for letters in CONTENTS:
+        yield f"a title beside contents of {letters:,} bytes", lambda: beside_contents(letters)
+    for options in OPTIONS:
+        yield f"an option, and the front, among {options:,}", lambda: among_options(options)
+
+
+def of_edits(bench: Bench, edited: Edited) -> float:
+    """The instructions of one of some edits."""
+    site, changes = edited
+    one, all_of = site + changes[0], site + joined(changes)
+    (begun, _), (ended, written) = (counted(bench.words, it.lines.encode()) for it in (one, all_of))
+    if written.decode() != all_of.replies:
+        sys.exit(f"{bench.program} replied wrongly")
+    return (ended - begun) / (len(changes) - 1)
+
+
 def rows(bench: Bench, word: str) -> Iterator[tuple[str, float, int, str]]:
     """For each row its name, what it counts, of how many parts that consists and what they are."""
     callbacks = 10 if bench.smoke else CALLBACKS
     for work in works(callbacks):
         if word in work.name:
             yield work.name, of_work(work, callbacks, 1 if bench.smoke else 20), work.parts, work.part
+    for name, made in all_edits(bench.smoke):
+        if word in name:
+            yield name, of_edits(bench, made()), 1, "edit"
     for page in pages(bench.smoke):
         if word in page.name:
             yield page.name, of_page(bench, page, 1 if bench.smoke else page.times), page.parts, page.part
@@ -122,9 +202,6 @@ def main() -> None:
     if not BUILT_PASSES.is_file():
         sys.exit(f"{BUILT_PASSES} isn't built: run `rt run` in its crate's folder once")
     bench = Bench(given)
-    bars: dict[str, list[float]] = {}
     print(f"{'work':<70} {'instructions':>12}   of a")
     for name, count, parts, part in islice(rows(bench, given.only), FEW_ROWS if bench.smoke else None):
         print(f"{name:<70} {count / parts:>12,.0f}   {part}", flush=True)
-        bars[f"{name}, a {part}"] = [count / parts]
-    draw(bench.svg, [Bars("What pages, passes and loads take", "instructions", (), bars)])

@@ -14,7 +14,6 @@ import sys
 import tempfile
 import time
 from collections.abc import Iterable, Sequence
-from pathlib import Path
 from typing import NamedTuple
 
 from geanmarbles.repository import shipped
@@ -58,7 +57,6 @@ def parser_of(about: str | None) -> Parser:
     """The parser of the command line that all scripts have; a script's docstring says what it is about."""
     parser = Parser(description=(about or "").splitlines()[0])
     parser.add_argument("--smoke", action="store_true", help="run small sizes once, to see that the script works")
-    parser.add_argument("--svg", type=Path, metavar="FILE", help="draw the tables into FILE too")
     program = "the program, crates/site/out/site if it is left out"
     parser.add_argument("program", nargs="?", default=str(shipped.program()), metavar="PROGRAM", help=program)
     return parser
@@ -79,8 +77,7 @@ def ended(child: subprocess.Popen[bytes], program: str) -> Spent:
     """Waits for a child to end, and returns its processor seconds and its peak memory in kilobytes.
 
     The peak is read while it runs, so it is 0 if the child ends within a millisecond or so: the system's own figure
-    counts what Python had before the program took the process over.
-    """
+    counts what Python had before the program took the process over."""
     peak, pid = 0, 0
     while not pid:
         peak = max(peak, peak_of(child.pid, program))
@@ -125,7 +122,7 @@ class Bench:
     """What the command line of a script says, and the runs that are made for it."""
 
     def __init__(self, given: argparse.Namespace) -> None:
-        self.smoke, self.svg, self.program = given.smoke, given.svg, given.program
+        self.smoke, self.program = given.smoke, given.program
         self.words = (given.program, "--calls", "100000")
         if not os.access(self.program, os.X_OK):
             sys.exit(f"{self.program} isn't built: run ./site once, or give another program")

@@ -19,7 +19,8 @@ from typing import NamedTuple, NoReturn
 
 from geanmarbles.benches.measured import difference
 from geanmarbles.client.exchanges import Exchange, apart
-from geanmarbles.client.program import Ended, NoReply, Program, Reply, pipe
+from geanmarbles.client.program import Program, pipe
+from geanmarbles.client.replies import Ended, NoReply, Reply
 
 # A batch lasts for BATCH seconds. A program is asked for SECONDS in all, and for at least FEWEST batches, but not for
 # more than PATIENCE if they take so long.

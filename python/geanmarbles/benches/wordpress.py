@@ -1,6 +1,6 @@
 """Times the program beside WordPress's own functions, doing the same work on the same machine in the same run.
 
-    bench/wordpress/run [--wordpress DIR] [--smoke] [--svg FILE] [PROGRAM]
+    bench/wordpress/run [--wordpress DIR] [--smoke] [PROGRAM]
 
 DIR is the folder with WordPress's wp-includes; if it is left out, /usr/share/wordpress. PHP's command `php` with its
 opcache and a WordPress are needed, of Debian for instance the packages `php-cli`, `php-opcache` and `wordpress`. This
@@ -12,9 +12,9 @@ script installs nothing:
 All are asked by the same lines of JSON over a pipe, in turn: the program; PHP without its opcode cache, with opcache
 and its tracing JIT, and with a page cache; and a loop that makes no page, so that the pipe's share is known. Pages are
 timed by the clock, from the line to the last byte of the reply, each by a line of its own; a table has what each takes
-of a processor, and the last one pages that the same line asks for again.
-If the pages differ, the row says so. The passes over 1 to 1,000 callbacks are timed apart: those of crates/test_bench,
-if it is built, as bench/hooks does, and a loop within PHP.
+of a processor, and the last one pages that the same line asks for again. If the pages differ, the row says so. The
+passes over 1 to 1,000 callbacks are timed apart: those of crates/test_bench, if it is built, as bench/cases does, and a
+loop within PHP.
 
 WordPress does more for a page than what is timed here; README.md says what.
 """
@@ -28,7 +28,6 @@ from collections.abc import Callable, Iterable, Iterator, Sequence
 from pathlib import Path
 from typing import NamedTuple
 
-from geanmarbles.benches.drawn import Bars, Lines, draw
 from geanmarbles.benches.measured import Bench, parser_of
 from geanmarbles.benches.piped import SECONDS, Asked, Figure, Piped, figures_of, request_of
 from geanmarbles.client.exchanges import ARTICLE, CHANGE, WORDS, Exchange, activate, done, get, joined, line, put
@@ -110,7 +109,7 @@ class Comparison:
         for words in self.words[1:]:
             with Piped(words) as php:
                 reply = php.ask(line("jit").encode().strip()).text()
-            wanted = f"ok {words == self.with_jit:d}"
+            wanted = f"ok {2 if words == self.with_jit else 1}"
             if reply != wanted:
                 said = "isn't on; is there opcache (Debian's php-opcache)?" if words == self.with_jit else "is on"
                 sys.exit(f"{' '.join(words)}: PHP's JIT {said}")
@@ -136,10 +135,9 @@ class Comparison:
             figures = figures_of(turns, self.seconds)
         return Timed(figures, here, there)
 
-    def pages(self, title: str, cases: Iterable[Page]) -> dict[str, list[float]]:
-        """Prints a row for each case, and returns its milliseconds by the clock by its title."""
+    def pages(self, title: str, cases: Iterable[Page]) -> None:
+        """Prints a row for each case."""
         print_head(title, *NAMES, *RATIOS, "Remark")
-        milliseconds: dict[str, list[float]] = {}
         for page in cases:
             figures, here, there = self.timed(page)
             clock = [it.clock for it in figures]
@@ -148,9 +146,7 @@ class Comparison:
             else:
                 note = page.why if min(clock[1:3]) < clock[0] else ""
             print_row(page.title, clock, note)
-            milliseconds[page.title] = [it * 1e3 for it in clock]
             self.processor.append((page.title, [it.processor for it in figures]))
-        return milliseconds
 
     def asked_again(self, cases: Iterable[Page]) -> None:
         """Prints a row for each case without a change: what the same line takes that came before."""
@@ -231,22 +227,13 @@ def hostile_texts(smoke: bool) -> Iterator[Page]:
     yield Page("the same text, after an edit of its title", active + put(1, text(count)), "/?p=1", EDIT, TABLES)
 
 
-def bars(compared: Comparison, title: str, cases: Iterable[Page]) -> Bars:
-    return Bars(title, "milliseconds", NAMES, compared.pages(title, cases))
+def bold_pages(counts: Sequence[int]) -> Iterator[Page]:
+    for count in counts:
+        yield Page(f"`[b]x[/b]`, {count:,} times", activate("bold") + put(1, "[b]x[/b]" * count), "/?p=1")
 
 
-def bold_pages(compared: Comparison, counts: Sequence[int]) -> Lines:
-    text = "`[b]x[/b]`"
-    sites = ((count, activate("bold") + put(1, "[b]x[/b]" * count)) for count in counts)
-    cases = (Page(f"{text}, {count:,} times", site, "/?p=1") for count, site in sites)
-    figures = compared.pages(f"A page of {text}", cases).values()
-    families = {name: list(zip(counts, of)) for name, of in zip(NAMES, zip(*figures))}
-    return Lines(f"A page of {text}", "shortcodes", "milliseconds", families)
-
-
-def passes(bench: Bench, compared: Comparison) -> Lines:
+def passes(bench: Bench, compared: Comparison) -> None:
     print_head("A pass of a filter, callbacks that give the value back", *NAMES[:3], *RATIOS[:2], "Remark")
-    families: dict[str, list[tuple[float, float]]] = {}
     with Piped(compared.plain) as plain, Piped(compared.with_jit) as with_jit:
         for spread, title in ((False, "at one priority"), (True, "each at its own priority")):
             for count in (1, 10) if bench.smoke else (1, 10, 100, 1_000):
@@ -255,27 +242,21 @@ def passes(bench: Bench, compared: Comparison) -> Lines:
                 seconds = [bench.costs([bench.passes(count, spread)])[0].seconds, *there]
                 each = ", ".join(f"{it / count * 1e9:.0f}" for it in seconds)
                 print_row(f"{count:,} callback{'s' * (count > 1)}, {title}", seconds, f"{each} ns a callback")
-                for name, took in zip(NAMES, seconds):
-                    families.setdefault(f"{name}, {title}", []).append((count, took * 1e6))
-    return Lines("A pass of a filter", "callbacks", "microseconds", families)
 
 
 def compare(bench: Bench, wordpress: Path) -> None:
     compared = Comparison(bench, wordpress)
     compared.check_jit()
-    panels: list[Lines | Bars] = [
-        bars(compared, "A page of one post", single_posts()),
-        bars(compared, "A page of many posts", lists_of_posts()),
-        bold_pages(compared, (100,) if bench.smoke else (100, 1_000, 10_000, 60_000)),
-        bars(compared, "A page of a hostile text", hostile_texts(bench.smoke)),
-    ]
+    compared.pages("A page of one post", single_posts())
+    compared.pages("A page of many posts", lists_of_posts())
+    compared.pages("A page of `[b]x[/b]`", bold_pages((100,) if bench.smoke else (100, 1_000, 10_000, 60_000)))
+    compared.pages("A page of a hostile text", hostile_texts(bench.smoke))
     if os.access(BUILT_PASSES, os.X_OK):
-        panels.append(passes(bench, compared))
+        passes(bench, compared)
     else:
         print(f"\n{BUILT_PASSES.name} isn't built (`rt run` in its folder), so passes aren't timed.")
     compared.print_processor()
     compared.asked_again([*single_posts(), *lists_of_posts()])
-    draw(bench.svg, panels)
 
 
 @quiet_output()

@@ -9,17 +9,16 @@ either than counts.txt beside this script says; --record writes that file anew. 
 is named, so that it can be recorded. With --only those are counted, and recorded, whose names have WORD. Without
 valgrind nothing is counted, which is said.
 
-Among the requests are fronts that are found anew, of posts that were read before; a site in a file: edits
-of which many come in one read and so in one commit, as many as fill a read, and edits that a start carries out; pages
-that are watched by a log, also by one that can't be written, and a page by single turns; large pages and texts; every
-plugin of `press`; and a site of 10,000 options. Lines that ask for one page differ, so that each is printed, but for
-two requests whose pages are kept.
+Among the requests are fronts that are found anew, of posts that were read before; a site in a file: edits of which many
+come in one read and so in one commit, as many as fill a read, and edits that a start carries out; pages that are
+watched by a log, also by one that can't be written, and a page by single turns; large pages and texts; and a site of
+10,000 options. Lines that ask for one page differ, so that each is printed, but for two requests whose pages are kept.
 
 `test_bench` adds 1,000 callbacks at one priority: that takes what its run takes more than one without. It loads them as
 a page does that finds its load kept, of 4 plugins and of 63.
 
-A snippet of the program `press`, which is crates/press/out/press, is counted beside a bundled plugin that prints the
-same: it may take twice as many instructions. What takes `press` or `test_bench` is skipped if that isn't built.
+A snippet is counted beside a bundled plugin that prints the same: it may take twice as many instructions. What takes
+`test_bench` is skipped if that isn't built.
 
 The last line is 'N passed, M failed'. The exit status is 0 if nothing failed.
 """
@@ -53,7 +52,7 @@ from geanmarbles.client.exchanges import (
     put,
     shown,
 )
-from geanmarbles.paths import BUILT_PASSES, BUILT_PRESS, TESTS
+from geanmarbles.paths import BUILT_PASSES, TESTS
 
 HERE = TESTS / "cost"
 COUNTS = HERE / "counts.txt"
@@ -71,12 +70,8 @@ LINK = '<a href="/a">Home</a>'
 FIVE = activate("args", "atts", "bold", "marks", "note")
 # What the five plugins make of a post that is empty.
 OF_FIVE = shown("[1:]", "n0X1Y(2 1)")
-# Every plugin of the program `press`, and what they make of such a post.
-EVERY = activate(
-    *("args", "atts", "blocks", "bold", "captions", "deep", "grow", "guard", "marks", "nest", "note"),
-    *("once", "paragraphs", "snippets", "tagmark"),
-)
-OF_EVERY = shown("[1:]", "n0aX1Y11-n0aXY1193244(1 )7-23244(2 1)7")
+# What hands the plugin snippets in.
+SNIPPETS = ("--snippets",)
 
 
 class Place(Enum):
@@ -86,14 +81,13 @@ class Place(Enum):
 
 
 class Request(NamedTuple):
-    """A request: its name, what is sent before it, the exchange that is counted, and the program: its arguments, its
-    crate, where its standard error goes."""
+    """A request: its name, what is sent before it, the exchange that is counted, and the program: its arguments, where
+    its standard error goes."""
 
     name: str
     before: Exchange
     counted: Exchange
     options: tuple[str, ...] = ()
-    program: str = "site"
     errors: str = os.devnull
     # Whether the site is in a file; or the edits are there already, and the start that carries them out is counted.
     place: Place = Place.MEMORY
@@ -170,13 +164,16 @@ def requests() -> Iterator[Request]:
 
 
 def links() -> Iterator[Request]:
-    """Pages of 100 links: by a plugin of the bundle, and by a snippet."""
+    """Pages of 100 links, by a plugin of the bundle and by a snippet; and a page of many callbacks on one hook."""
     site, front = posts(1, '[link href="/a" label="Home"]' * 100, shows=LINK * 100)
-    yield Request("100 links of a bundled plugin", activate("atts") + site, front, program="press")
+    yield Request("100 links of a bundled plugin", activate("atts") + site, front, SNIPPETS)
     site, front = posts(1, '[button href="/a"]Home[/button]' * 100, shows=LINK * 100)
     template = done("option", name="[button]", value='<a href="{{href|#}}">{{content|link}}</a>')
     listed = activate("snippets") + done("option", name="snippets", value="[button]")
-    yield Request("100 links of a snippet", listed + template + site, front, program="press")
+    yield Request("100 links of a snippet", listed + template + site, front, SNIPPETS)
+    hooks = done("option", name="snippets", value=" ".join(f"the_content:{it}" for it in range(100)))
+    site = activate("snippets") + hooks + put(1, LETTERS)
+    yield Request("100 filters of a text of 50,000 letters", site, get(body=shown(LETTERS)), SNIPPETS)
 
 
 def stored_requests() -> Iterator[Request]:
@@ -228,14 +225,6 @@ def large_requests() -> Iterator[Request]:
     yield Request("the same after a change of one of them", options, change + get(body=NOTHING))
     changes = joined(done("option", name=f"o{it}", value="v") for it in range(0, 10_000, 100))
     yield Request("the same after changes of 100 of them", options, changes + get(body=NOTHING))
-
-
-def pressed_requests() -> Iterator[Request]:
-    """Many plugins, and many callbacks on one hook."""
-    yield Request("one empty post, every plugin of press active", EVERY + put(1), get(body=OF_EVERY), program="press")
-    hooks = done("option", name="snippets", value=" ".join(f"the_content:{it}" for it in range(100)))
-    site = activate("snippets") + hooks + put(1, LETTERS)
-    yield Request("100 filters of a text of 50,000 letters", site, get(body=shown(LETTERS)), program="press")
 
 
 def works() -> Iterator[Work]:
@@ -297,7 +286,6 @@ def cost_of(program: str, asked: Request | Work) -> Cost | None:
     if isinstance(asked, Work):
         one, many, times = asked.counted(asked.run), asked.counted(asked.longer), asked.times
     else:
-        program = str(BUILT_PRESS) if asked.program == "press" else program
         one, many = (counted(program, asked, asked.times(it)) for it in (1, 1 + TIMES))
         times = TIMES
     if not one or not many:
@@ -344,10 +332,6 @@ def record(whole: Iterable[Request | Work], costs: Mapping[str, Cost | None]) ->
     COUNTS.write_text(HEAD + "".join(lines), encoding="utf-8")
 
 
-def is_pressed(it: Request | Work) -> bool:
-    return isinstance(it, Request) and it.program == "press"
-
-
 def main() -> int:
     parser = Parser(description="Compares what requests cost with what is recorded.")
     parser.add_argument("--record", action="store_true", help="write counts.txt anew")
@@ -355,16 +339,15 @@ def main() -> int:
     parser.add_argument("program", nargs="?", default=str(shipped.program()), metavar="PROGRAM")
     options = parser.parse_args()
     whole: list[Request | Work] = [*requests(), *links(), *stored_requests(), *watched_requests()]
-    whole += [*large_requests(), *pressed_requests(), *works()]
+    whole += [*large_requests(), *works()]
     asked = [it for it in whole if options.only in it.name]
     fault, named = missing(options.program), len(asked)
     if fault and any(isinstance(it, Request) for it in asked):
         print(f"tests/cost/run: {fault}", file=sys.stderr)
         return 2
-    for program, needed in ((BUILT_PRESS, is_pressed), (BUILT_PASSES, lambda it: isinstance(it, Work))):
-        if missing(program) and any(map(needed, asked)):
-            print(f"skipped: what takes {program.name}: {missing(program)}")
-            asked = [it for it in asked if not needed(it)]
+    if missing(BUILT_PASSES) and any(isinstance(it, Work) for it in asked):
+        print(f"skipped: what takes {BUILT_PASSES.name}: {missing(BUILT_PASSES)}")
+        asked = [it for it in asked if not isinstance(it, Work)]
     if not shutil.which("valgrind"):
         print("tests/cost/run: valgrind isn't on the PATH, so nothing is counted\n0 passed, 0 failed")
         return 0

@@ -188,7 +188,7 @@ def stopped(program: str, script: str) -> None:
 
 
 def published(program: str) -> None:
-    ran = subprocess.run([EXAMPLES / "from_wordpress", "--as-shown", EXPORT], capture_output=True, timeout=SECONDS)
+    ran = subprocess.run([EXAMPLES / "from_wordpress", EXPORT], capture_output=True, timeout=SECONDS)
     lines = ran.stdout.splitlines()
     with Room(program, lines) as room:
         room.run("publish", EXPORT, room.site, room.folder / "archive")
@@ -387,7 +387,6 @@ def cases(program: str) -> Iterator[tuple[str, Callable[[], None]]]:
         "salvage": partial(saved, program),
         "publish": partial(published, program),
         "browse --edits": partial(edited_by_lines, program),
-        "browse --readers": partial(served, program, "browse", signal.SIGTERM, "--readers", "2"),
         "browse --explain": partial(served, program, "browse", signal.SIGTERM, "--explain"),
         "cluster/three and SIGTERM": partial(ends_with_all, program),
         "serve over a path where no site is": partial(wrong_paths_are_told, program),

@@ -1,12 +1,13 @@
 """Runs the program with each of its allocations refused in turn.
 
-    tests/memory/run [--lines FILE --replies FILE] [PROGRAM]
+    tests/memory/run [--snippets] [PROGRAM]
     tests/memory/run --database [PROGRAM]
     tests/memory/run --http [PROGRAM]
 
 PROGRAM is the one that is here, built or shipped, if it is left out. It reads script.jsonl, whose replies are
-script.out, or the lines and replies of other files, and refuse.c, loaded before the C library, refuses one allocation
-of the run: the first in one run, the second in the next, to the last. What must come of it is one of these:
+script.out, or with --snippets, which it is given too, snippets.jsonl and snippets.out; and refuse.c, loaded before the
+C library, refuses one allocation of the run: the first in one run, the second in the next, to the last. What must come
+of it is one of these:
 
 - the program ends with status 1 and `site: out of memory`, the replies so far being those of script.out;
 - the reply to one line is `refused 11 OutOfMemory`, those before it are as in script.out, and those after it as in a
@@ -53,7 +54,7 @@ from collections import Counter
 from collections.abc import Callable, Iterable, Iterator, Sequence
 from concurrent.futures import ThreadPoolExecutor
 from pathlib import Path
-from typing import Any, NamedTuple
+from typing import NamedTuple
 
 from geanmarbles.checks.database.clients import done, get, is_edit, joined, line_of, over, put, replies, run
 from geanmarbles.checks.database.files import check_equal, copied, history, log_of, summary
@@ -65,7 +66,6 @@ from geanmarbles.client.replies import Wrong, shown, whole_replies
 from geanmarbles.paths import TESTS
 
 HERE = TESTS / "memory"
-LINES, REPLIES = HERE / "script.jsonl", HERE / "script.out"
 REFUSED = b"refused 11 OutOfMemory\n"
 SECONDS = 60
 # How many runs over a file are made at once on a processor: they wait for the disk most of their time.
@@ -91,19 +91,17 @@ GROUPS, LENGTH = 10, 15_000
 class Runs:
     """Runs of a program over the script, with the replies that each must write."""
 
-    def __init__(
-        self, program: str, refuser: Path, count_file: Path, lines: Path = LINES, replies: Path = REPLIES
-    ) -> None:
-        self.program = program
+    def __init__(self, words: Sequence[str], refuser: Path, count_file: Path, script: Path) -> None:
+        self.words = words
         self.refuser = refuser
         self.count_file = count_file
-        self.lines = lines.read_bytes().splitlines(keepends=True)
-        self.replies = whole_replies(replies.read_bytes())
+        self.lines = script.read_bytes().splitlines(keepends=True)
+        self.replies = whole_replies(script.with_suffix(".out").read_bytes())
         self.others: dict[int, dict[str, list[bytes]]] = {}
 
     def run(self, lines: Iterable[bytes], **variables: str) -> subprocess.CompletedProcess[bytes]:
         given = {"LD_PRELOAD": str(self.refuser), **variables}
-        return subprocess.run([self.program], input=b"".join(lines), capture_output=True, env=given, timeout=SECONDS)
+        return subprocess.run(self.words, input=b"".join(lines), capture_output=True, env=given, timeout=SECONDS)
 
     def count(self) -> int:
         """How many allocations the whole script makes."""
@@ -146,11 +144,11 @@ class Runs:
         raise Wrong(f"allocation {number}: what follows the refused line {place + 1} isn't as without it")
 
 
-def tried(program: str, lines: Path, replies: Path) -> Counted:
+def tried(words: Sequence[str], script: Path) -> Counted:
     """Refuses each allocation once, and says which lines passed and which were never refused."""
     with tempfile.TemporaryDirectory() as name:
         folder = Path(name)
-        runs = Runs(program, compiled(HERE / "refuse.c", folder), folder / "count", lines, replies)
+        runs = Runs(words, compiled(HERE / "refuse.c", folder), folder / "count", script)
         count = runs.count()
         with ThreadPoolExecutor(lanes()) as pool:
             came = Counter(pool.map(runs.judge, range(1, count + 1)))
@@ -399,9 +397,7 @@ def counted(of: Iterable[tuple[str, bool]]) -> Counted:
 
 def main() -> int:
     parser = parser_of(__doc__)
-    how: dict[str, Any] = {"type": Path, "metavar": "FILE"}
-    parser.add_argument("--lines", default=LINES, help="the lines to read", **how)
-    parser.add_argument("--replies", default=REPLIES, help="the replies to them", **how)
+    parser.add_argument("--snippets", action="store_true", help="read lines for the plugin snippets")
     parser.add_argument("--database", action="store_true", help="serve a site in a file, and judge what it then holds")
     parser.add_argument("--http", action="store_true", help="serve requests of HTTP")
     options = parser.parse_args()
@@ -414,7 +410,9 @@ def main() -> int:
             return tried_over_http(program)
         if options.database:
             return tried_over_a_file(program)
-        return tried(program, options.lines, options.replies)
+        if options.snippets:
+            return tried([program, "--snippets"], HERE / "snippets.jsonl")
+        return tried([program], HERE / "script.jsonl")
 
     counts.judge("each allocation refused in turn", check)
     return counts.end()

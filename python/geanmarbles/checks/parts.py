@@ -12,7 +12,7 @@ from typing import NamedTuple
 
 from geanmarbles.checks.programs import compiler
 from geanmarbles.checks import reach
-from geanmarbles.paths import BUILT_PASSES, BUILT_PRESS, TESTS
+from geanmarbles.paths import BUILT_PASSES, TESTS
 
 PARTS = TESTS / "parts.txt"
 KINDS = {"rows": "rows", "checks": "checks of scripts and program"}
@@ -72,16 +72,13 @@ def h11() -> str | None:
 NEEDS: dict[str, Callable[[], str | None]] = {
     "cc": lambda: None if compiler() else "there is no C compiler on the PATH",
     "git": on_the_path("git"),
-    "press": built(BUILT_PRESS, "the program press"),
     "test_bench": built(BUILT_PASSES, "the program test_bench"),
     "toolchain": built(reach.PROGRAM, "what the toolchain's gate leaves of site"),
     "etcd": on_the_path("etcd", "etcdctl"),
     "php": on_the_path("php"),
     "wordpress": lambda: None if WORDPRESS.is_file() else "there is no WordPress in /usr/share/wordpress",
     "h11": h11,
-    # Varnish compiles what it is told to do.
-    "varnish": on_the_path("varnishd", "gcc"),
-    **{it: on_the_path(it) for it in ("valgrind", "chromium", "nginx", "haproxy", "curl", "wrk")},
+    **{it: on_the_path(it) for it in ("valgrind", "nginx", "haproxy", "curl")},
 }
 
 

@@ -7,10 +7,10 @@ full. tests/parts.txt lists all parts, with what each needs, and tests/README.md
 
 As many parts as there are processors, and one more, run beside one another, those that take longest first; what a part
 says is printed once it has ended. First come those that need Python 3.11 alone, some with git or a C compiler, then
-those over etcd, WordPress, valgrind, Chromium and servers of other people. A part that needs something that isn't here
-is skipped, which one line says, and is counted. In an environment with CI=true that is a failure, unless --may-skip
-names what it needs, or a word of its command, and the reason. A part that ends badly, or doesn't say what it counts, is
-a failure too.
+those over etcd, WordPress, valgrind and servers of other people. A part that needs something that isn't here is
+skipped, which one line says, and is counted. In an environment with CI=true that is a failure, unless --may-skip names
+what it needs, or a word of its command, and the reason. A part that ends badly, or doesn't say what it counts, is a
+failure too.
 
 The program is the current build, or else the one in release/; the first line and the one before the last name it. The
 last line is 'N passed, M failed', with ', K skipped' after it if something was skipped, over the checks of all parts,
@@ -39,7 +39,7 @@ from geanmarbles.arguments import Parser
 from geanmarbles.checks.judging import Counted, counted_in
 from geanmarbles.checks.parts import ALONE, KINDS, Part, all_parts
 from geanmarbles.checks.programs import LANES, missing
-from geanmarbles.paths import BUILT_PRESS, ROOT
+from geanmarbles.paths import ROOT
 
 # How long a part may take, and how long one that is interrupted may take to end what it has started.
 SECONDS, GRACE = 7_200, 10
@@ -68,8 +68,8 @@ class Ended(NamedTuple):
 class Runs:
     """The parts that are running, each in a group of its own."""
 
-    def __init__(self, programs: Mapping[str, Path], lanes: int) -> None:
-        self.places = {f"{{{name}}}": str(path) for name, path in programs.items()}
+    def __init__(self, program: Path, lanes: int) -> None:
+        self.program = str(program)
         # The command `python3` of scripts is the Python that runs this, and no script that looks for one.
         self.room = tempfile.TemporaryDirectory()
         Path(self.room.name, "python3").symlink_to(sys.executable)
@@ -80,7 +80,7 @@ class Runs:
 
     def run(self, part: Part) -> Ended:
         """Runs a part to its end."""
-        words = [self.places.get(it, it) for it in part.words]
+        words = [self.program if it == "{site}" else it for it in part.words]
         begin = time.monotonic()
         with tempfile.TemporaryFile() as out:
             with self.lock:
@@ -247,7 +247,7 @@ def main() -> int:
     tally = Tally(dict(asked.may_skip), os.environ.get("CI") == "true")
     print(told(program), flush=True)
     try:
-        run_all(chosen, tally, Runs({"site": program, "press": BUILT_PRESS}, max(1, processors // together)), together)
+        run_all(chosen, tally, Runs(program, max(1, processors // together)), together)
     except KeyboardInterrupt:
         print("test: interrupted", file=sys.stderr)
         return 128 + signal.SIGINT

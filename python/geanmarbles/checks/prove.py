@@ -4,18 +4,16 @@
     ./prove CRATE ..
 
 On a copy of the checkout's files, so that nothing of out/ is used and work may go on meanwhile, it runs
-  - the toolchain's gate, `rt ci`: every proof from nothing, the edits in must-fail/, the tests, and each program as two
-    compilers build it;
-  - beside it tests/wrong_bodies/run: the other edits that the prover must refuse, and the runner's own test. An edit is
-    tried unless its refusal is recorded in tests/wrong_bodies/refused.txt under the sum that it has now; what the run
-    then saw is put into that file in the checkout, to be committed;
+  - the toolchain's gate, `rt ci`: every proof from nothing, the tests, and each program as two compilers build it;
+  - beside it tests/wrong_bodies/run: the edits that the prover must refuse, and the runner's own test. An edit is tried
+    if it has a line `named:`, or unless its refusal is recorded in tests/wrong_bodies/refused.txt under the sum that it
+    has now; what the run then saw is put into that file in the checkout, to be committed;
   - a comparison of the program that was built with the one that release/ ships, if that is of the same sources: they
     have to be the same to the byte;
-  - and ./test, over the program that was built.
+  - and, once these have ended, ./test, over the program that was built.
 
 What `rt ci` has proved on this machine it doesn't prove again while nothing that it read has changed. With --anew all
-is done again, and every edit is tried. --may-skip is handed on to ./test. The built programs are left in
-crates/*/out/.
+is done again, and every edit is tried. --may-skip is handed on to ./test. The built programs are left in crates/*/out/.
 
 With CRATEs, these and the crates that they stand on are proved, over what earlier checks kept in out/, and their tests
 are run: `./prove shortcode_scan` takes some two minutes.
@@ -192,13 +190,13 @@ def prove_all(asked: argparse.Namespace) -> int:
             kinds.add_part("proofs", "rt ci", status, gate.read_text(encoding="utf-8"))
             with gate.open("a", encoding="utf-8") as log:
                 log.write("rt ci has ended\n")
-            may_skip = [word for it in asked.may_skip for word in ("--may-skip", it)]
-            status = shown([copy / "test", *may_skip], room / "test.log", copy)
-            said = (room / "test.log").read_text(encoding="utf-8")
-            kinds.add_test(status, said)
             self_test.count(kinds)
             wrong_bodies.count(kinds)
         keep_record(copy, record)
+        # Only now, since etcd and what is killed in time want a quiet machine.
+        may_skip = [word for it in asked.may_skip for word in ("--may-skip", it)]
+        status = shown([copy / "test", *may_skip], room / "test.log", copy)
+        kinds.add_test(status, (room / "test.log").read_text(encoding="utf-8"))
         counted, release = compared(copy / "crates" / "site" / "out" / "site")
         kinds.add("release", counted)
         keep_programs(copy, begin)

@@ -2,17 +2,15 @@
 
     tests/rows/run [--only TEXT] [--cache N] [PROGRAM | --unproved]
 
-PROGRAM is the one that is here, built or shipped, if it is left out. With --only, the rows whose name contains TEXT
-are run. With --cache, the rows that give no arguments are run with a cache of N texts: no reply depends on it. With
---unproved the program is run from its sources, before any proof, by up to three `rt try`, each for its share of the
-rows, which takes some minutes; a row is skipped if its output is longer than `rt try` hands on, or if an argument isn't
-a line of UTF-8. It is the first look after a change, and no verdict.
+PROGRAM is the one that is here, built or shipped, if it is left out. With --only, the rows whose name contains TEXT are
+run. With --cache, the rows that give no arguments but --snippets are run with a cache of N texts: no reply depends on
+it. With --unproved the program is run from its sources, before any proof, by up to three `rt try`, each for its share
+of the rows, which takes some minutes; a row is skipped if its output is longer than `rt try` hands on, or if an
+argument isn't a line of UTF-8. It is the first look after a change, and no verdict.
 
 Each FILE.json beside this script is a list of rows, and a row is an object:
 
     name           what the row shows; no two rows share one
-    program        the crate of the program that it runs, if that is another than PROGRAM: crates/NAME/out/NAME; the row
-                   is skipped if that isn't built
     args           the program's arguments, a list of texts without zero bytes
     input          what the program reads from standard input
     status         the exit status that it must end with
@@ -84,7 +82,7 @@ CONTENT_TABLE = re.compile(r"^\| Content \| Printed \|.*\n\|[-|]+\|\n((?:\|.*\n)
 CODE = re.compile(r"`([^`]*)`")
 REQUIRED_KEYS = {"name", "args", "input", "status"}
 OUTPUT_KEYS = {"output", "output_begins", "output_any"}
-KNOWN_KEYS = REQUIRED_KEYS | OUTPUT_KEYS | {"program", "stderr"}
+KNOWN_KEYS = REQUIRED_KEYS | OUTPUT_KEYS | {"stderr"}
 
 
 class BadRows(Exception):
@@ -216,7 +214,7 @@ def read_printed(heading: str, text: str) -> Iterator[Row]:
 
 def read_behaviour() -> list[Named]:
     """A row for each example in a table of the document of rules, as pairs of file name and row."""
-    served = BEHAVIOUR.read_text(encoding="utf-8").partition("\n# Not served yet\n")[0]
+    served = BEHAVIOUR.read_text(encoding="utf-8")
     rows = []
     for section in re.split(r"^#+ +", served, flags=re.M)[1:]:
         heading, _, text = section.partition("\n")
@@ -249,21 +247,20 @@ def difference(what: str, wanted: bytes, came: bytes) -> list[str]:
     ]
 
 
+def is_cached(row: Row) -> bool:
+    """Whether a row's arguments leave the size of the cache open."""
+    return row["args"] in ([], ["--snippets"])
+
+
 def ended_as(status: int) -> str:
     return f"was ended by signal {-status}" if status < 0 else f"ended with status {status}"
-
-
-def program_of(row: Row, program: Path) -> Path:
-    """The program that a row runs."""
-    other: str | None = row.get("program")
-    return CRATES / other / "out" / other if other else program
 
 
 def faults_of(row: Row, program: Path) -> list[str]:
     """Runs one row, and says in lines what was wrong; no line if nothing was."""
     try:
         run = subprocess.run(
-            [str(program_of(row, program)), *arguments_of(row)],
+            [str(program), *arguments_of(row)],
             input=text_of(row["input"]),
             capture_output=True,
             timeout=SECONDS,
@@ -316,7 +313,7 @@ def tried_faults(row: Row, said: str, run: str, status: str, written: bytes) -> 
     return faults
 
 
-def try_rows(rows: Sequence[Named], crate: str) -> list[list[str]]:
+def try_rows(rows: Sequence[Named]) -> list[list[str]]:
     """The faults of each row, by one `rt try` of them all, or what it said if it couldn't run them."""
     with tempfile.TemporaryDirectory(prefix="rows-") as room:
         for number, (_, row) in enumerate(rows):
@@ -326,7 +323,7 @@ def try_rows(rows: Sequence[Named], crate: str) -> list[list[str]]:
             if "output_any" not in row and "stderr" not in row:
                 wanted = text_of(row["output"] if "output" in row else row["output_begins"])
                 Path(room, f"{number}.stdout").write_bytes(wanted)
-        how: dict[str, Any] = {"cwd": CRATES / crate, "stdin": subprocess.DEVNULL}
+        how: dict[str, Any] = {"cwd": CRATES / "site", "stdin": subprocess.DEVNULL}
         words = ["rt", "try", "--cases", room, "--seconds", str(TRY_SECONDS)]
         ran = subprocess.run(words, capture_output=True, **how)
     heads = [(int(head[1]), head.start(), head.end()) for head in re.finditer(rb"^== (\d+)\n", ran.stdout, re.M)]
@@ -346,19 +343,13 @@ def try_rows(rows: Sequence[Named], crate: str) -> list[list[str]]:
 
 
 def try_side_by_side(rows: Sequence[Named]) -> list[list[str]]:
-    """The faults of each row, by as many `rt try` of each program as pay, each with its share of the rows."""
+    """The faults of each row, by as many `rt try` as pay, each with its share of the rows."""
     most = min(LANES, lanes())
-    shares: list[tuple[str, list[int]]] = []
-    for crate in sorted({row.get("program", "site") for _, row in rows}):
-        places = [place for place, (_, row) in enumerate(rows) if row.get("program", "site") == crate]
-        count = max(1, min(most, len(places) // ROWS_A_LANE))
-        shares += [(crate, places[lane::count]) for lane in range(count)]
+    count = max(1, min(most, len(rows) // ROWS_A_LANE))
     found: list[list[str]] = [[]] * len(rows)
     with ThreadPoolExecutor(max_workers=most) as pool:
-        tried = pool.map(lambda share: try_rows([rows[place] for place in share[1]], share[0]), shares)
-        for (_, places), faults in zip(shares, tried):
-            for place, fault in zip(places, faults):
-                found[place] = fault
+        for lane, faults in enumerate(pool.map(try_rows, (rows[lane::count] for lane in range(count)))):
+            found[lane::count] = faults
     return found
 
 
@@ -371,14 +362,10 @@ def run_unproved(rows: Sequence[Named]) -> tuple[list[Named], list[list[str]]]:
     return tried, try_side_by_side(tried)
 
 
-def run_built(rows: Sequence[Named], program: Path) -> tuple[list[Named], list[list[str]]]:
-    """The faults of the rows whose program is there, run against a built program, and those rows."""
-    absent = {row["program"] for _, row in rows if row.get("program") and missing(program_of(row, program))}
-    for name in sorted(absent):
-        print(f"skipped: the rows of {name}: {missing(CRATES / name / 'out' / name)}")
-    ran = [(file, row) for file, row in rows if row.get("program") not in absent]
+def run_built(rows: Sequence[Named], program: Path) -> list[list[str]]:
+    """The faults of the rows, run against a built program."""
     with ThreadPoolExecutor(max_workers=lanes()) as pool:
-        return ran, list(pool.map(lambda pair: faults_of(pair[1], program), ran))
+        return list(pool.map(lambda pair: faults_of(pair[1], program), rows))
 
 
 def report(rows: Sequence[Named], results: Sequence[list[str]]) -> int:
@@ -394,7 +381,7 @@ def report(rows: Sequence[Named], results: Sequence[list[str]]) -> int:
 def read_arguments() -> argparse.Namespace:
     parser = Parser(description="Runs the worked rows against a built program, or from its sources.")
     parser.add_argument("--only", metavar="TEXT", default="", help="run the rows whose name contains TEXT")
-    parser.add_argument("--cache", metavar="N", help="run the rows without arguments with a cache of N texts")
+    parser.add_argument("--cache", metavar="N", help="run the rows that leave it open with a cache of N texts")
     parser.add_argument("--unproved", action="store_true", help="run the program from its sources, before any proof")
     parser.add_argument("program", metavar="PROGRAM", nargs="?", type=Path, default=shipped.program())
     return parser.parse_args()
@@ -407,14 +394,15 @@ def main() -> int:
         rows = read_rows() + read_examples() + read_behaviour()
         rows = [(file, row) for file, row in rows if arguments.only in row["name"]]
         if arguments.cache:
-            rows = [(file, {**row, "args": ["--cache", arguments.cache]}) for file, row in rows if not row["args"]]
+            more = ["--cache", arguments.cache]
+            rows = [(file, {**row, "args": row["args"] + more}) for file, row in rows if is_cached(row)]
         if not rows:
             raise BadRows(f"no row's name contains {arguments.only!r}")
         if not arguments.unproved and missing(program):
             print(f"FAILED: every row: {missing(program)}")
             print(Counted(failed=len(rows)))
             return 1
-        tried, results = run_unproved(rows) if arguments.unproved else run_built(rows, program)
+        tried, results = run_unproved(rows) if arguments.unproved else (rows, run_built(rows, program))
     except BadRows as fault:
         print(f"tests/rows/run: {fault}", file=sys.stderr)
         return 2

@@ -1,7 +1,7 @@
 """Tries the scripts that begin something: what ./site runs, what ./build builds, what ./new-plugin makes, that the
-tutorial shows the examples as they are, that tools/titles finds long titles of commits, what tools/release-program
-ships and refuses, that scripts end quietly once nobody reads their output, and that each script of the repository knows
---help and refuses an argument that it doesn't know, before it does anything.
+tutorial shows the examples as they are, what tools/release-program ships and refuses, that scripts end quietly once
+nobody reads their output, and that each script of the repository knows --help and refuses an argument that it doesn't
+know, before it does anything.
 
     tests/scripts/run [--plain] [NAME ..]
 
@@ -29,13 +29,14 @@ from typing import Any, Self
 from geanmarbles.checks.cluster.processes import wait_for
 from geanmarbles.checks.judging import Skipped, must
 from geanmarbles.checks.runner import main_of
-from geanmarbles.checks.site_script import Checkout, copy_package
+from geanmarbles.checks.site_script import Checkout
 from geanmarbles.paths import ROOT
+from geanmarbles.repository.new_plugin import TEMPLATE
 from geanmarbles.repository.unproved import run_telling
 
 SECONDS = 60
 # The crates that docs/PLUGINS.md goes through.
-TUTORIAL = ["example_exclaim", "example_notices", "example_site", "example_gallery"]
+TUTORIAL = ["example_exclaim", "example_notices", "example_gallery"]
 # What is used of Debian's packages for Python, where it is there.
 PACKAGES = {"h11", "hypothesis", "prometheus_client", "pytest"}
 # What these scripts do takes no argument, or isn't theirs to say.
@@ -46,14 +47,14 @@ def usage_is_as_typed() -> None:
     """a script's usage names it as it was typed: by a path, by a link, and as it is found on the PATH"""
     with tempfile.TemporaryDirectory() as folder:
         link = Path(folder, "link")
-        link.symlink_to(ROOT / "examples" / "pages")
+        link.symlink_to(ROOT / "examples" / "explain")
         env = {**os.environ, "PATH": f"{ROOT / 'examples'}:{os.environ['PATH']}"}
-        found = ROOT / "examples" / "pages"
+        found = ROOT / "examples" / "explain"
         for typed, shown, cwd in (
-            ("examples/pages", "examples/pages", ROOT),
-            ("./pages", "./pages", found.parent),
+            ("examples/explain", "examples/explain", ROOT),
+            ("./explain", "./explain", found.parent),
             (link, link, "/"),
-            ("pages", found, "/"),
+            ("explain", found, "/"),
             ("./link", "./link", folder),
         ):
             how: dict[str, Any] = {"capture_output": True, "text": True, "timeout": SECONDS, "env": env, "cwd": cwd}
@@ -94,7 +95,7 @@ class Plugins(Checkout):
 
     def __enter__(self) -> Self:
         super().__enter__()
-        for crate in ("example_exclaim", "example_notices", "example_site"):
+        for crate in TUTORIAL:
             left = shutil.ignore_patterns("out")
             shutil.copytree(ROOT / "crates" / crate, self.root / "crates" / crate, ignore=left)
         shutil.copy(ROOT / "crates.txt", self.root)
@@ -112,20 +113,24 @@ class Plugins(Checkout):
 
 
 def plugins_are_made() -> None:
-    """./new-plugin makes both crates from either example, and --remove leaves things as they were"""
-    for example, libraries in (("exclaim", ""), ("notices", " shortcode_atts page_escapes")):
+    """./new-plugin makes both crates from each example, and --remove leaves things as they were"""
+    more = " shortcode_atts page_escapes"
+    for example, libraries, edits in (("exclaim", "", 3), ("notices", more, 3), ("gallery", more, 5)):
         with Plugins() as checkout:
             before = (checkout.root / "crates.txt").read_text(encoding="utf-8")
             status, said, errors = checkout.new("--from", example, "big_news")
             must((status, errors) == (0, "") and "crates/big_news_site" in said, f"{example}: {status} {said} {errors}")
             after = (checkout.root / "crates.txt").read_text(encoding="utf-8")
             lines = f"big_news: callback_store hook_changes{libraries} plain_data\n"
-            lines += "big_news_site: site_main big_news callback_store\n"
+            lines += "big_news_site: site_main bundled_plugins big_news callback_store\n"
             must(after == before + lines, f"{example}: crates.txt ends with {after[-200:]}")
             made = checkout.text_of("big_news") + checkout.text_of("big_news_site")
-            must(not re.search(r"(?i)exclaim|notices|PLUGINS\.md", made), f"{example}: a copy speaks of its example")
+            must(
+                not re.search(r"(?i)exclaim|notices|gallery|PLUGINS\.md", made),
+                f"{example}: a copy speaks of its example",
+            )
             must("BigNews.antt" in made and "number_of" in made, f"{example}: the definitions are missing")
-            must(made.count(".edit\n") == 3, f"{example}: the wrong bodies are missing")
+            must(made.count(".edit\n") == edits, f"{example}: the wrong bodies are missing")
             status, said, errors = checkout.new("--remove", "big_news")
             must((status, errors) == (0, "") and "out/removed/big_news.1" in said, f"{status} {said} {errors}")
             must((checkout.root / "crates.txt").read_text(encoding="utf-8") == before, "crates.txt has another text")
@@ -154,7 +159,7 @@ def tutorial_shows_the_examples() -> None:
     """what docs/PLUGINS.md shows of code and definitions is in the examples, word for word"""
     remark = " docs/PLUGINS.md begins with\n//! it, and `./new-plugin` makes a new plugin's crate from it."
     folders = [ROOT / "crates" / name / part for name in TUTORIAL for part in ("src", "specs", "proofs")]
-    files = [it for folder in folders for it in folder.rglob("*") if it.is_file()]
+    files = [TEMPLATE / "main.rt.txt", *(it for folder in folders for it in folder.rglob("*") if it.is_file())]
     shown = "\n".join(it.read_text(encoding="utf-8").replace(remark, "") for it in files)
     text, count = (ROOT / "docs" / "PLUGINS.md").read_text(encoding="utf-8"), 0
     for kind, block in re.findall(r"^```(\w*)\n(.*?)^```", text, re.S | re.M):
@@ -163,38 +168,6 @@ def tutorial_shows_the_examples() -> None:
                 must(part in shown, f"this is in none of {', '.join(TUTORIAL)}: {part[:200]!r}")
                 count += 1
     must(count > 50, f"only {count} parts were looked at")
-
-
-def long_titles_are_found() -> None:
-    """tools/titles finds titles that are too long among the commits that origin doesn't have, or of the last one"""
-    with tempfile.TemporaryDirectory() as folder:
-        here, there = Path(folder, "here"), Path(folder, "there")
-        (here / "tools").mkdir(parents=True)
-        shutil.copy(ROOT / "tools" / "titles", here / "tools")
-        copy_package(here)
-        names = {f"GIT_{who}_{what}": "a" for who in ("AUTHOR", "COMMITTER") for what in ("NAME", "EMAIL")}
-
-        def git(*words: str | Path) -> None:
-            subprocess.run(["git", *words], cwd=here, check=True, capture_output=True, env={**os.environ, **names})
-
-        def titles(status: int, *shown: str) -> None:
-            ran = subprocess.run([here / "tools/titles"], capture_output=True, text=True, timeout=SECONDS)
-            said = [it in ran.stdout for it in shown]
-            must(ran.returncode == status and all(said), f"it ended with {ran.returncode}: {ran.stdout} {ran.stderr}")
-            must(len(ran.stdout.splitlines()) == len(shown), f"it said {ran.stdout}")
-
-        git("init", "-q", "-b", "main")
-        for title, status in (("a" * 73, 1), ("é" * 72, 0)):
-            git("commit", "-q", "--allow-empty", "-m", title)
-            titles(status, *["73 characters"] * status)
-        git("init", "-q", "--bare", there)
-        git("remote", "add", "origin", there)
-        git("push", "-q", "origin", "main")
-        for title in ("b" * 80, "c" * 90, "short"):
-            git("commit", "-q", "--allow-empty", "-m", title)
-        titles(1, "b" * 80, "c" * 90)
-        git("push", "-q", "origin", "main")
-        titles(0)
 
 
 def printed_to_nobody(*words: object) -> tuple[int, str]:
@@ -324,7 +297,6 @@ CHECKS = [
     bad_names_are_refused,
     tutorial_shows_the_examples,
     ends_without_a_reader,
-    long_titles_are_found,
     scripts_know_help,
     packages_stand_on_lower_ones,
     needs_python_alone,

@@ -257,7 +257,7 @@ def check_memory(program: Program) -> None:
                 return self.made.pop(variables["REFUSE_AT"])
             given = {"LD_PRELOAD": str(self.refuser), **variables}
             how: dict[str, Any] = {"capture_output": True, "env": given, "timeout": SECONDS}
-            done = subprocess.run([self.program, "--trace"], input=b"".join(lines), **how)
+            done = subprocess.run(self.words, input=b"".join(lines), **how)
             log, _, last = done.stderr.rpartition(b"site: out of memory\n")
             log = log if done.returncode == 1 else done.stderr
             if done.returncode == 1 and not last:
@@ -275,7 +275,8 @@ def check_memory(program: Program) -> None:
             return super().judge(number)
 
     with tempfile.TemporaryDirectory() as name:
-        runs = Runs(program.path, compiled(HERE.parent / "memory" / "refuse.c", Path(name)), Path(name) / "count")
+        words, refuser = [program.path, "--trace"], compiled(memory.HERE / "refuse.c", Path(name))
+        runs = Runs(words, refuser, Path(name, "count"), memory.HERE / "script.jsonl")
         alone = runs.run(runs.lines)
         whole, count = runs.log_of[id(alone)], runs.count()
         with ThreadPoolExecutor(lanes()) as pool:

@@ -1,7 +1,7 @@
 """What a log of `site --trace` also tells: which texts a filter left as they were, and which shortcodes nobody had.
 
-It says only what follows from the log: nothing of a page whose lines aren't
-all there, and nothing of a text that the log cuts, unless the lines that the program read have it.
+It says only what follows from the log: nothing of a page whose lines aren't all there, and nothing of a text that the
+log cuts, unless the lines that the program read have it.
 """
 
 import re

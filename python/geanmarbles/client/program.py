@@ -13,10 +13,8 @@ A script uses it so, with the folder `python` of the checkout on its path:
 """
 
 import argparse
-import io
 import json
 import os
-import re
 import select
 import signal
 import subprocess
@@ -24,65 +22,15 @@ import sys
 import time
 from collections.abc import Sequence
 from pathlib import Path
-from typing import IO, NamedTuple, Self
+from typing import IO, Any, Self
 
+from geanmarbles.client.replies import Ended, NoReply, Reply, read_reply
 from geanmarbles.repository import shipped
 
 # How many lines the program reads, and the longest that it reads.
 LINES, LINE_BYTES = 1_000_000, 1_048_576
 # How long a program may take to end by itself. Over a site in a file it then copies FILE-wal into FILE.
 END_SECONDS = 60
-# What the first line of a reply can be (docs/BEHAVIOUR.md).
-HEAD = re.compile(r"ok( \d+)?|refused \d+ \w+|page \d{3} \d+")
-
-
-class Ended(Exception):
-    """The program ended before it had replied."""
-
-
-class NoReply(Exception):
-    """What came isn't a reply, so what runs isn't the program."""
-
-
-class Reply(NamedTuple):
-    """The words of a reply's first line, and the page that follows it if it is one."""
-
-    words: list[str]
-    page: bytes
-
-    def is_page(self) -> bool:
-        return self.words[0] == "page"
-
-    def is_refused(self) -> bool:
-        return self.words[0] == "refused"
-
-    def text(self) -> str:
-        return " ".join(self.words)
-
-
-def read_reply(stream: IO[bytes]) -> Reply:
-    """Reads a reply: one line, and if it is `page STATUS LENGTH`, LENGTH bytes and a newline after it."""
-    head = stream.readline()
-    if not head.endswith(b"\n"):
-        raise Ended
-    words = head.decode(errors="replace").rstrip("\n").split(" ")
-    if not HEAD.fullmatch(" ".join(words)):
-        raise NoReply(head[:60])
-    if words[0] != "page":
-        return Reply(words, b"")
-    length = int(words[2])
-    page = stream.read(length + 1)
-    if len(page) != length + 1:
-        raise Ended
-    return Reply(words, page[:length])
-
-
-def read_replies(output: bytes) -> list[Reply]:
-    """All replies of an output."""
-    stream, replies = io.BytesIO(output), []
-    while stream.tell() < len(output):
-        replies.append(read_reply(stream))
-    return replies
 
 
 def pipe(stream: IO[bytes] | None) -> IO[bytes]:
@@ -100,8 +48,7 @@ class Program:
     """A running program, with some options. It ends by itself with the `with` block that it is made for, so a site in a
     file is then whole in FILE alone.
 
-    `lines` is how many lines it was sent; after 1,000,000 it ends.
-    """
+    `lines` is how many lines it was sent; after 1,000,000 it ends."""
 
     # What becomes of its standard error: it is that of the script.
     errors: int | None = None
@@ -165,8 +112,7 @@ class Program:
     def check(self, seconds: float) -> None:
         """Makes sure that what runs replies to a line as the program does, within some seconds.
 
-        The line is an empty object, which the program refuses; nothing is changed by it.
-        """
+        The line is an empty object, which the program refuses; nothing is changed by it."""
         self.lines += 1
         try:
             self.input.write(b"{}\n")
@@ -194,12 +140,24 @@ def absolute(path: str) -> str:
     return os.path.abspath(path)
 
 
-def add_program_option(parser: argparse._ActionsContainer) -> None:
-    default, what = str(shipped.program()), "the program, `site`: the built one, else the shipped one"
-    parser.add_argument("--program", metavar="PATH", type=absolute, default=default, help=what)
+class Words(argparse.Action):
+    """Keeps the words that start the program: its path, and then its options, in whichever order they are given."""
+
+    def __call__(self, _: object, found: argparse.Namespace, given: object, option: str | None = None) -> None:
+        path, *options = found.program
+        found.program = [given, *options] if self.nargs is None else [path, *self.option_strings]
 
 
-def check_program(path: str, instead: str = "") -> None:
-    """Ends the script if there is no program at a path, and says what can be done instead."""
+def add_program_option(parser: argparse.ArgumentParser) -> None:
+    """Adds the options that say which program runs, as the words that start it."""
+    how: dict[str, Any] = {"dest": "program", "action": Words, "default": [str(shipped.program())]}
+    what = "the program, `site`: the built one, else the shipped one"
+    parser.add_argument("--program", metavar="PATH", type=absolute, help=what, **how)
+    parser.add_argument("--snippets", nargs=0, help="the program's option: hand the plugin `snippets` in too", **how)
+
+
+def check_program(program: list[str], instead: str = "") -> None:
+    """Ends the script if there is no such program, and says what can be done instead."""
+    path = program[0]
     if not os.access(path, os.X_OK) or os.path.isdir(path):
         sys.exit(f"{Path(sys.argv[0]).name}: there is no program at {path}; ./build builds it{instead}")

@@ -1,6 +1,8 @@
-"""What the scripts of this folder know of the program's replies: their forms, and how an output is cut into them."""
+"""What the scripts here know of the program's replies: their forms, and how an output is cut into them."""
 
+import io
 import re
+from typing import IO, NamedTuple
 
 REFUSALS = {
     1: "BadCommand",
@@ -19,12 +21,36 @@ REFUSALS = {
     14: "NoSuchPage",
     15: "TooManyPages",
 }
-HEAD = re.compile(rb"ok(?: ([1-9][0-9]{0,9}))?|refused ([1-9][0-9]?) ([A-Za-z]+)|page (200|404) (0|[1-9][0-9]*)")
+HEAD = re.compile(rb"ok(?: ([1-9][0-9]{0,9}))?|refused ([1-9][0-9]?) ([A-Za-z]+)|page (?:200|404) (0|[1-9][0-9]*)")
 MAX_ID = 2_147_483_647
 
 
 class Wrong(Exception):
     """What a run did that it must not do."""
+
+
+class Ended(Exception):
+    """The program ended before it had replied."""
+
+
+class NoReply(Exception):
+    """What came isn't a reply, so what runs isn't the program."""
+
+
+class Reply(NamedTuple):
+    """The words of a reply's first line, and the page that follows it if it is one."""
+
+    words: list[str]
+    page: bytes
+
+    def is_page(self) -> bool:
+        return self.words[0] == "page"
+
+    def is_refused(self) -> bool:
+        return self.words[0] == "refused"
+
+    def text(self) -> str:
+        return " ".join(self.words)
 
 
 def shown(text: bytes | str, most: int = 120) -> str:
@@ -37,36 +63,40 @@ def refusal_of(reply: bytes) -> int:
     return int(reply.split()[1]) if reply.startswith(b"refused ") else 0
 
 
-def read_reply(output: bytes, at: int) -> bytes | None:
-    """The reply that begins at a place of an output, with its newlines, or None if the output ends before it does."""
-    end = output.find(b"\n", at)
-    if end < 0:
-        return None
-    head = HEAD.fullmatch(output, at, end)
+def read_reply(stream: IO[bytes]) -> Reply:
+    """Reads a reply: one line, and if it is `page STATUS LENGTH`, LENGTH bytes and a newline after it."""
+    line = stream.readline()
+    if not line.endswith(b"\n"):
+        raise Ended
+    head = HEAD.fullmatch(line[:-1])
     if head is None:
-        raise Wrong(f"this is no reply: {shown(output[at:end])}")
-    number, refusal, name, _, size = head.groups()
+        raise NoReply(line[:60])
+    number, refusal, name, size = head.groups()
     if number and int(number) > MAX_ID or refusal and REFUSALS.get(int(refusal)) != name.decode():
-        raise Wrong(f"there is no such reply: {shown(output[at:end])}")
+        raise NoReply(line[:60])
+    words = line[:-1].decode().split(" ")
     if size is None:
-        return output[at : end + 1]
-    whole = output[at : end + 1 + int(size) + 1]
-    if len(whole) < end + 1 + int(size) + 1 - at:
-        return None
-    if not whole.endswith(b"\n"):
-        raise Wrong(f"a page is longer than it says: {shown(whole)}")
-    return whole
+        return Reply(words, b"")
+    page = stream.read(int(size) + 1)
+    if len(page) <= int(size):
+        raise Ended
+    if not page.endswith(b"\n"):
+        raise NoReply(line[:60])
+    return Reply(words, page[:-1])
 
 
 def read_replies(output: bytes) -> tuple[list[bytes], bytes]:
     """The whole replies of an output, each with its newlines, and what follows them."""
-    replies, at = [], 0
-    while at < len(output):
-        reply = read_reply(output, at)
-        if reply is None:
-            break
-        replies.append(reply)
-        at += len(reply)
+    stream, replies, at = io.BytesIO(output), [], 0
+    try:
+        while at < len(output):
+            read_reply(stream)
+            replies.append(output[at : stream.tell()])
+            at = stream.tell()
+    except Ended:
+        pass
+    except NoReply:
+        raise Wrong(f"this is no reply: {shown(output[at:])}") from None
     return replies, output[at:]
 
 

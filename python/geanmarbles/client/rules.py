@@ -17,15 +17,12 @@ from collections.abc import Callable, Iterable, Sequence
 from datetime import datetime
 from typing import Any, NoReturn
 
+from geanmarbles.client.replies import MAX_ID, REFUSALS
+
 # The keys of a command, or of an entry of it; and a reader of a value: of what it is called, and of the number that
 # refuses another form.
 Keys = dict[str, Any]
 Read = Callable[[Any, str, int], Any]
-NAMES = {
-    **{1: "BadCommand", 2: "BadImport", 3: "NoSuchPost", 4: "DuplicateId", 5: "BadDate", 6: "UnknownPlugin"},
-    **{7: "BadTemplate", 8: "TooLarge", 9: "TooManyCalls", 10: "TooDeep", 11: "OutOfMemory", 12: "Store"},
-    **{13: "IdsUsedUp", 14: "NoSuchPage", 15: "TooManyPages"},
-}
 # The plugins of the program `site`.
 PLUGINS = ("args", "atts", "bold", "deep", "grow", "marks", "nest", "note", "once", "tagmark")
 TEMPLATES = ("index", "home", "front-page", "single", "page", "singular", "date", "archive", "404")
@@ -37,7 +34,6 @@ TAGS = (
 KINDS, STATUSES = ("post", "page"), ("publish", "draft")
 SECTIONS = ("posts", "options", "front", "templates", "active")
 # Limits, and what a text is called that has one.
-MAX_ID = 2_147_483_647
 NAME_BYTES = 64
 SIZES = {"title": 65_536, "content": 524_288, "value": 65_536, "path": 8_192}
 POSTS, NODES, TEXT_BYTES = 10_000, 4_096, 262_144
@@ -51,7 +47,7 @@ class Refused(Exception):
     def __init__(self, number: int, why: str) -> None:
         self.number = number
         self.why = why
-        super().__init__(f"refused {number} {NAMES[number]}: {why}")
+        super().__init__(f"refused {number} {REFUSALS[number]}: {why}")
 
 
 def size_of(text: str) -> int:

@@ -16,8 +16,10 @@ CALLBACK = re.compile(r"([^:]{1,64}):([0-9]|[1-9][0-9])\Z")
 FILTERS = ("the_title", "the_content", "do_shortcode_tag")
 # An option's name has at most this many bytes.
 NAME_BYTES = 64
-# Elements whose text is no markup, and attributes whose values are programs, styles or pages of their own.
+# Elements whose text is no markup, what makes the end of a script unsure, and attributes whose values are programs,
+# styles or pages of their own.
 RAW = ("script", "style")
+ESCAPE = "<!--"
 PROGRAMS = re.compile(r"on|style\Z|srcdoc\Z")
 # Attributes whose value is an address.
 ADDRESSES = ("href", "src", "action", "formaction", "data", "poster", "background", "cite")
@@ -37,11 +39,10 @@ class Place(NamedTuple):
     """Where in markup a text ends: a kind of place, and what is known there.
 
     The kinds are those of crates/snippets/specs/Places: between, opened, end opened, declared, ending, comment, name,
-    inside, attribute, equals, bare, quoted, raw. `word` is the name of the tag, or the element whose text is no markup;
-    `attribute` the name of the attribute; `seen` the quote, the dashes after `<!` or in a comment, or the end of a
-    script so far; `begins` whether all that a quoted value has is what values printed, and `filled` whether there is
-    one.
-    """
+    inside, attribute, equals, bare, quoted, raw, nowhere. `word` is the name of the tag, or the element whose text is
+    no markup; `attribute` the name of the attribute; `seen` the quote, the dashes after `<!` or in a comment, or so far
+    the end of a script or a `<!--` in it; `begins` whether all that a quoted value has is what values printed, and
+    `filled` whether there is one."""
 
     kind: str = "between"
     word: str = ""
@@ -99,8 +100,8 @@ def after_letter(place: Place, letter: str) -> Place:
     if kind == "comment":
         seen = (place.seen + "-")[:2] if letter == "-" else ""
         return Place() if letter == ">" and place.seen == "--" else Place("comment", seen=seen)
-    if kind == "raw":
-        return after_raw(place, letter)
+    if kind in ("raw", "nowhere"):
+        return after_raw(place, letter) if kind == "raw" else place
     if kind == "quoted":
         return Place("inside", word) if letter == place.seen else place._replace(begins=False)
     if letter == ">":
@@ -134,7 +135,11 @@ def after_raw(place: Place, letter: str) -> Place:
     if place.seen == end and letter in BLANKS + "/>":
         return Place() if letter == ">" else Place("inside", "/" + place.word)
     seen = place.seen + letter.lower()
-    return place._replace(seen=seen if end.startswith(seen) else "<" if letter == "<" else "")
+    is_script = place.word == "script"
+    if is_script and seen == ESCAPE:
+        return Place("nowhere")
+    is_begun = end.startswith(seen) or is_script and ESCAPE.startswith(seen)
+    return place._replace(seen=seen if is_begun else "<" if letter == "<" else "")
 
 
 def after_in_tag(place: Place, letter: str) -> Place:
@@ -166,6 +171,8 @@ def names_place(place: Place) -> str:
     """A place in words."""
     if place.kind == "raw":
         return f"in a {place.word}"
+    if place.kind == "nowhere":
+        return f"after a `{ESCAPE}` in a script"
     if place.kind in ("declared", "ending"):
         return "in a doctype or a bogus comment"
     if place.kind == "comment":

@@ -8,7 +8,8 @@ import threading
 from collections.abc import Callable
 
 from geanmarbles.client.log import Page, Told, told_by
-from geanmarbles.client.program import Program, Reply, pipe
+from geanmarbles.client.program import Program, pipe
+from geanmarbles.client.replies import Reply
 
 # How long to wait for a line of the log. It is written before the reply, so it is there, unless memory ran out for it.
 SECONDS = 2

@@ -1,8 +1,7 @@
 """A client of etcd: the JSON gateway of its v3 API over HTTP or HTTPS, with several endpoints.
 
-A call goes to one endpoint, and to the next one if that doesn't answer,
-until its time is over; so the same call may be carried out twice, and whoever makes one sees to it that the second
-changes nothing. Keys and values are bytes.
+A call goes to one endpoint, and to the next one if that doesn't answer, until its time is over; so the same call may be
+carried out twice, and whoever makes one sees to it that the second changes nothing. Keys and values are bytes.
 
 Every answer names the cluster, and one to a read or a transaction its revision, which never becomes smaller. They are
 compared with what was seen before the call was sent: another cluster, or a smaller revision, is WentBack, at this call

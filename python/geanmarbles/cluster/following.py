@@ -1,8 +1,8 @@
 """The edits of a history as they come, in order and without a gap.
 
-Edits come from a watch of etcd, which tells what was made from a revision
-on, each once and in the order of revisions. A watch that ends is begun anew after the last edit that came. If etcd has
-dropped what lies between, the edits that are still there are read instead.
+Edits come from a watch of etcd, which tells what was made from a revision on, each once and in the order of revisions.
+A watch that ends is begun anew after the last edit that came. If etcd has dropped what lies between, the edits that are
+still there are read instead.
 """
 
 import http.client
@@ -29,8 +29,7 @@ class Following:
     """The edits of a history after one of them, until it is closed.
 
     `reached` says which edit this node has come to before, so that none of its programs goes on with a history that
-    hasn't that edit.
-    """
+    hasn't that edit."""
 
     def __init__(self, history: History, last: Last, reached: Callable[[], Last]) -> None:
         self.history, self.last, self.reached = history, last, reached

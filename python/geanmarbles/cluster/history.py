@@ -54,8 +54,8 @@ class Last:
 class Front(NamedTuple):
     """The edits of a history up to some place: the last of them, and the digest of their lines if it is known.
 
-    It is SHA-256 of the digest before the last edit and then that edit's line; that of no edit is SHA-256 of nothing.
-    """
+    It is SHA-256 of the digest before the last edit and then that edit's line; that of no edit is SHA-256 of
+    nothing."""
 
     last: Last
     digest: bytes | None
@@ -251,8 +251,7 @@ class History:
     def append(self, request: Request, number: int, last: Last, seconds: float) -> Made:
         """Makes a line of a request an edit, unless it is one, in a history that has an edit `last`.
 
-        Raises OtherBody if the request is another than before, and WentBack.
-        """
+        Raises OtherBody if the request is another than before, and WentBack."""
         keys, name, line = self.keys, request.id_of(number), request.lines[number - 1]
         names = (keys.edit(name), keys.done(name))
         writes = [put(names[0], line), put(keys.last, name.encode())]

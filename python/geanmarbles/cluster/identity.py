@@ -1,7 +1,7 @@
 """Which program gives a site's lines their meaning.
 
-A program's identity is the first line of a file that it makes: its plugins,
-and the version of what lines mean. The history of a site belongs to one identity, which the first node notes in etcd.
+A program's identity is the first line of a file that it makes: its plugins, and the version of what lines mean. The
+history of a site belongs to one identity, which the first node notes in etcd.
 """
 
 import sqlite3
@@ -19,24 +19,24 @@ class NotTold(Exception):
     """Why a program's identity isn't known."""
 
 
-def identity_of(path: str) -> bytes:
-    """The identity of a program."""
+def identity_of(program: list[str]) -> bytes:
+    """The identity of a program, which some words start."""
     with tempfile.TemporaryDirectory() as folder:
         file = Path(folder, "site.db")
-        words = [path, "--database", str(file)]
+        words = [*program, "--database", str(file)]
         try:
             ran = subprocess.run(words, stdin=subprocess.DEVNULL, stdout=subprocess.DEVNULL, timeout=SECONDS)
         except (OSError, subprocess.TimeoutExpired) as fault:
-            raise NotTold(f"{path}: {fault}") from None
+            raise NotTold(f"{program[0]}: {fault}") from None
         if ran.returncode:
-            raise NotTold(f"{path} --database ended with status {ran.returncode}")
+            raise NotTold(f"{program[0]} --database ended with status {ran.returncode}")
         try:
             database = sqlite3.connect(file)
             identity: str
             [identity] = database.execute("SELECT line FROM command WHERE number = 1").fetchone()
             database.close()
         except (sqlite3.Error, TypeError) as fault:
-            raise NotTold(f"{path} --database has made no site: {fault}") from None
+            raise NotTold(f"{program[0]} --database has made no site: {fault}") from None
     return identity.encode()
 
 

@@ -1,9 +1,9 @@
 """Serves one site on several machines: a node, which runs the program over a history of edits that etcd holds.
 
-    cluster/node --etcd URL[,URL..] [--listen HOST:PORT] [--program PATH] [--name PREFIX] [--token-file FILE]
-                 [--tokens FILE] [--etcd-ca FILE] [--etcd-cert FILE] [--etcd-key FILE] [--etcd-user NAME]
-                 [--etcd-password-file FILE] [--lines N] [--snapshot-every N] [--remember SECONDS] [--max-age SECONDS]
-                 [--calls N] [--cache N] [--log-requests] [--metrics HOST:PORT] [--export]
+    cluster/node --etcd URL[,URL..] [--listen HOST:PORT] [--program PATH] [--snippets] [--name PREFIX]
+                 [--token-file FILE] [--tokens FILE] [--etcd-ca FILE] [--etcd-cert FILE] [--etcd-key FILE]
+                 [--etcd-user NAME] [--etcd-password-file FILE] [--lines N] [--snapshot-every N] [--remember SECONDS]
+                 [--max-age SECONDS] [--calls N] [--cache N] [--log-requests] [--metrics HOST:PORT] [--export]
 
 Any number of nodes serve the site. Each runs a program of its own over the same history, so all give the same pages.
 Once it listens, the node writes `serving http://HOST:PORT/` to standard output; it serves once it has carried out
@@ -36,7 +36,7 @@ import signal
 import socket
 import ssl
 import sys
-from collections.abc import Callable, Sequence
+from collections.abc import Callable
 from pathlib import Path
 from typing import Any, NoReturn
 from urllib.parse import urlsplit
@@ -188,7 +188,7 @@ def allow_connections() -> None:
     resource.setrlimit(resource.RLIMIT_NOFILE, (FILES if most == resource.RLIM_INFINITY else min(FILES, most), most))
 
 
-def sum_of(path: str, options: Sequence[str]) -> str:
+def sum_of(path: str, *options: str) -> str:
     """What tells a program with its options from others: they may print other pages of one history."""
     with open(path, "rb") as program:
         found = hashlib.file_digest(program, "sha256")
@@ -198,11 +198,10 @@ def sum_of(path: str, options: Sequence[str]) -> str:
 
 def node_of(arguments: argparse.Namespace, history: History, identity: bytes) -> Node:
     given = {"--calls": arguments.calls, "--cache": arguments.cache}
-    options = [word for name, number in given.items() if number for word in (name, str(number))]
+    words = [*arguments.program, *(word for name, it in given.items() if it for word in (name, str(it)))]
     due = min(arguments.snapshot_every, arguments.lines // 4)
     made = Snapshots(arguments.program, due, arguments.remember)
-    made_by = sum_of(arguments.program, options)
-    return Node(history, identity, lambda: begin_program(arguments.program, options), arguments.lines, made, made_by)
+    return Node(history, identity, lambda: begin_program(words), arguments.lines, made, sum_of(*words))
 
 
 def handed_over() -> socket.socket | None:

@@ -8,7 +8,7 @@ import time
 from collections.abc import Callable
 from typing import NoReturn
 
-from geanmarbles.client.program import Reply
+from geanmarbles.client.replies import Reply
 from geanmarbles.cluster.commands import carry_out, check_ready, name_of, request_of
 from geanmarbles.cluster.etcd import Refused, Unreachable, WentBack, reason_of
 from geanmarbles.cluster.replica import Fault

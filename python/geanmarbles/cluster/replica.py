@@ -1,10 +1,9 @@
 """A program that has carried out the history up to some edit, and goes on with it as edits come.
 
-A replica is made from the newest snapshot and the edits after it. What its
-program does is a function of these lines, but for four things that end a replica for good, so that the next one takes
-its place: the program refuses an edit because memory ran out (11) or by its database (12), it ends, or it has had its
-lines. The last of these are kept for pages: a replica without lines for edits goes on with the pages that it has, until
-the next one has come as far.
+A replica is made from the newest snapshot and the edits after it. What its program does is a function of these lines,
+but for four things that end a replica for good, so that the next one takes its place: the program refuses an edit
+because memory ran out (11) or by its database (12), it ends, or it has had its lines. The last of these are kept for
+pages: a replica without lines for edits goes on with the pages that it has, until the next one has come as far.
 
 A page has a limit of time of its own. If the program hasn't begun to reply by then, its client is told so; the reply is
 read all the same when it comes, before anything else is asked.
@@ -18,7 +17,8 @@ import traceback
 from collections.abc import Callable, Sequence
 from typing import Self
 
-from geanmarbles.client.program import LINE_BYTES, Ended, NoReply, Program, Reply, get_line, read_reply
+from geanmarbles.client.program import LINE_BYTES, Program, get_line
+from geanmarbles.client.replies import Ended, NoReply, Reply, read_reply
 from geanmarbles.cluster import snapshots
 from geanmarbles.cluster.etcd import Refused, Unreachable, WentBack, reason_of
 from geanmarbles.cluster.following import Following
@@ -325,9 +325,9 @@ class Replica:
             self.following.kick(2)
 
 
-def begin_program(path: str, options: Sequence[str]) -> Program:
+def begin_program(words: Sequence[str]) -> Program:
     """Starts a program, and makes sure that it is one."""
-    program = Program(path, *options)
+    program = Program(*words)
     try:
         program.check(FIRST_SECONDS)
     except BaseException:

@@ -9,7 +9,8 @@ import traceback
 from collections.abc import Callable
 from typing import NamedTuple
 
-from geanmarbles.client.program import Ended, NoReply, Program, Reply
+from geanmarbles.client.program import Program
+from geanmarbles.client.replies import Ended, NoReply, Reply
 from geanmarbles.cluster.etcd import Refused, Unreachable, WentBack, reason_of, text_of
 from geanmarbles.cluster.history import NO_EDIT, NONE, Front, Gap, Head, History, Last
 from geanmarbles.cluster.identity import claimed
@@ -79,7 +80,7 @@ class Snapshots(NamedTuple):
     """The program that makes snapshots, after how many edits one is due, and for how many seconds the requests of its
     edits are known."""
 
-    path: str
+    program: list[str]
     due: int
     remember: int
 

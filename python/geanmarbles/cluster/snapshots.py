@@ -1,10 +1,10 @@
 """Snapshots: what the history up to some edit makes, as lines that a program is given in place of it.
 
-A snapshot is made from the history alone: a program of its own carries out
-the last snapshot and the edits after it in a file, `--compact` makes a short history of it, and `--export` prints its
-lines. They go to etcd in parts; then each edit that they have gets a key `done` with its place and reply; then the head
-is written, which makes this the newest snapshot; and only then are the edits' own keys deleted. So at every moment each
-edit is in the newest snapshot or has its key, and each that may be asked for again has its key or its `done`.
+A snapshot is made from the history alone: a program of its own carries out the last snapshot and the edits after it in
+a file, `--compact` makes a short history of it, and `--export` prints its lines. They go to etcd in parts; then each
+edit that they have gets a key `done` with its place and reply; then the head is written, which makes this the newest
+snapshot; and only then are the edits' own keys deleted. So at every moment each edit is in the newest snapshot or has
+its key, and each that may be asked for again has its key or its `done`.
 
 One node at a time does this: it holds the key `maker` by a lease, and each of its writes is a transaction that compares
 this key. A node that loses the lease, as by being stopped, writes no more.
@@ -20,7 +20,8 @@ from contextlib import suppress
 from pathlib import Path
 from typing import Self
 
-from geanmarbles.client.program import LINES, Program, Reply
+from geanmarbles.client.program import LINES, Program
+from geanmarbles.client.replies import Reply
 from geanmarbles.cluster.etcd import Json, Refused, Unreachable, WentBack, decoded, encoded, end_of
 from geanmarbles.cluster.following import Following
 from geanmarbles.cluster.history import (
@@ -131,13 +132,14 @@ class Turn:
 class Rebuilt:
     """A site in a file, in a folder that is gone after the `with` block, made by lines."""
 
-    def __init__(self, path: str) -> None:
-        self.path = path
+    def __init__(self, words: list[str]) -> None:
+        """`words` start a program."""
+        self.words = words
 
     def __enter__(self) -> Self:
         self.folder = tempfile.TemporaryDirectory()
         self.file = str(Path(self.folder.name, "site.db"))
-        self.program = Program(self.path, "--database", self.file)
+        self.program = Program(*self.words, "--database", self.file)
         return self
 
     def __exit__(self, *_: object) -> None:
@@ -150,7 +152,7 @@ class Rebuilt:
         for first in range(0, len(lines), TOGETHER):
             if self.program.lines > MANY:
                 self.end()
-                self.program = Program(self.path, "--database", self.file)
+                self.program = Program(*self.words, "--database", self.file)
             replies += self.program.ask_all(lines[first : first + TOGETHER])
         for reply in replies:
             if reply.is_refused() and reply.words[1] in ("11", "12"):
@@ -167,7 +169,7 @@ class Rebuilt:
         before it puts them in the place of the others."""
         self.end()
         for option in ("--compact", "--export"):
-            words = [self.path, "--database", self.file, option]
+            words = [*self.words, "--database", self.file, option]
             ran = subprocess.run(words, stdin=subprocess.DEVNULL, stdout=subprocess.PIPE, timeout=EXPORT_SECONDS)
             if ran.returncode:
                 raise NotMade(f"{option} has ended with status {ran.returncode}")
@@ -198,13 +200,13 @@ def front_of(head: Head | None) -> Front:
     return Front(head.last, head.digest or bytes.fromhex(head.sum)) if head else NO_EDIT
 
 
-def rebuilt(history: History, path: str) -> tuple[bytes, Front, Head | None, list[Noted]]:
+def rebuilt(history: History, program: list[str]) -> tuple[bytes, Front, Head | None, list[Noted]]:
     """What the history makes up to its last edit: the lines, the edits up to there, the snapshot that it began with,
     and of each edit after that its ID, and what is noted of it."""
     (head, lines), goal = newest(history), history.last()
     front = front_of(head)
     edits: list[Noted] = []
-    with Rebuilt(path) as site:
+    with Rebuilt(program) as site:
         if any(it.is_refused() for it in site.told(lines)):
             raise NotMade("a line of the snapshot before is refused")
         for batch in edits_up_to(history, front.last, goal):
@@ -216,11 +218,11 @@ def rebuilt(history: History, path: str) -> tuple[bytes, Front, Head | None, lis
         return site.exported(), front, head, edits
 
 
-def make(history: History, path: str, remember: int) -> tuple[Last, int]:
+def make(history: History, program: list[str], remember: int) -> tuple[Last, int]:
     """Makes a snapshot of the whole history. Raises OtherMaker, NotMade, or what a call of etcd raises."""
     with Turn(history) as turn:
         tidy(turn, history.head())
-        text, (last, digest), head, edits = rebuilt(history, path)
+        text, (last, digest), head, edits = rebuilt(history, program)
         assert digest is not None
         folder = f"{last.place}-{turn.revision}"
         parts = [text[first : first + PART_BYTES] for first in range(0, len(text), PART_BYTES)]

@@ -1,7 +1,7 @@
 """Serves a site to a browser on this machine.
 
-    examples/browse [--program PATH | --unproved] [--explain] [--port N] [--database FILE] [--readers N] [--edits]
-                    [--token-file FILE] [--lines N] [FILE]
+    examples/browse [--program PATH] [--snippets] [--explain] [--port N] [--database FILE] [--edits] [--token-file FILE]
+                    [--lines N] [FILE]
 
 FILE is a command file, examples/bakery.jsonl of this repository if it and --database are left out. A program reads it
 first; none of its lines may be refused. Then the site is at the address that standard output names, on 127.0.0.1 alone,
@@ -22,20 +22,12 @@ one a line, with `Authorization: Bearer TOKEN`, and the response their replies, 
 (docs/CLUSTER.md). `GET /history` with the same token is every edit that the site is made of, drafts too, one a line.
 examples/post, history and undo use both. Without --token-file nothing is edited by HTTP.
 
-With --readers N the pages are printed by N more programs, in memory, which are given what the site holds and then each
-edit that was done. They take turns, and all give the same pages. At the end, and after each SIGUSR1, standard error
-says how many pages were served a second.
-
 A program ends after 1,000,000 lines. The next takes its place before that, or before the number of lines that --lines
 names, and also if one ends for another reason; a page that it owed is then printed by the next. At the end of this
 script the program of a site in a file ends by itself, so FILE alone then has every edit.
 
 With --explain each page has below it which callbacks ran for that request, what each received and what it did, as
-examples/explain shows them. The page is otherwise as it is without. It needs the built program.
-
-With --unproved no built program is needed: its sources are compiled, which takes two to five minutes, and the pages of
-FILE's posts, months, parts and links are made beforehand, since such a run hands its output on only at its end. Nothing
-is proved of them, and any other path is answered with 503.
+examples/explain shows them. The page is otherwise as it is without.
 
 What is no page is plain text:
 
@@ -44,16 +36,16 @@ What is no page is plain text:
     401    an edit, or the history, without the token; 411, 413 a body without a length, or too large; 422 an
            Idempotency-Key that came with another body; 504 it isn't known whether an edit was made
     405    another method than GET or HEAD, and than POST where edits are taken
-    414    a request line of more than 65,536 bytes
+    414    a request line of more than 16,384 bytes
     421    a Host that isn't 127.0.0.1, localhost or [::1], so that no other site's page can read this one
-    431    more than 100 headers, or one of more than 65,536 bytes
+    431    more than 100 headers, or more than 16,384 bytes of them
     500    the page is refused
-    503    the page is refused because memory ran out, three programs have ended at it, or it wasn't made beforehand
+    503    the page is refused because memory ran out, or three programs have ended at it
     505    HTTP/2 or later
 
-A connection is closed without an answer if its request hasn't come, or its response hasn't been read, in ten seconds.
-The exit status is 0 after Ctrl-C or SIGTERM, 1 if the site can't be served, or no more since a program ends as soon as
-it is started, and 2 if the arguments are bad.
+A connection is closed without an answer if its request hasn't come in ten seconds, or if in ten seconds less than
+16,384 bytes of its response were read, and not the last. The exit status is 0 after Ctrl-C or SIGTERM, 1 if the site
+can't be served, or no more since a program ends as soon as it is started, and 2 if the arguments are bad.
 """
 
 import argparse
@@ -61,29 +53,17 @@ import contextlib
 import errno
 import os
 import re
-import signal
 import sys
 import threading
-import time
 from collections.abc import Iterator
 from pathlib import Path
-from typing import Any, NamedTuple, Protocol
+from typing import Any, NamedTuple
 
 from geanmarbles.arguments import Parser, count_in
-from geanmarbles.client.program import (
-    LINES,
-    Ended,
-    NoReply,
-    Reply,
-    add_program_option,
-    check_program,
-    end_by_signals,
-    lines_of,
-)
+from geanmarbles.client.program import LINES, add_program_option, check_program, end_by_signals, lines_of
+from geanmarbles.client.replies import Ended, NoReply, Reply
 from geanmarbles.paths import EXAMPLES
-from geanmarbles.repository.unproved import MINUTES, NotRun
 from geanmarbles.supervisor.programs import FIRST_SECONDS, MARGIN, Explained, NotServed, Plain, Site, Unknown
-from geanmarbles.supervisor.recorded import Missing, Recorded
 from geanmarbles.web.edit_bodies import Bad, EditHandler, check_token, lines_of_body
 from geanmarbles.web.edit_requests import COMMAND, HISTORY, Edits, token_of
 from geanmarbles.web.pages import NoPage, PageServer
@@ -94,40 +74,6 @@ ADDRESS = "127.0.0.1"
 END_SECONDS = 2.0
 # The names by which a browser on this machine can mean this machine, with any port or none.
 HERE = re.compile(r"(127\.0\.0\.1|localhost|\[::1\])(:[0-9]*)?", re.I)
-NOT_MADE = (
-    "this page wasn't made beforehand: without a proof there are the pages of the command file's posts, months, parts"
-    " and links alone. The program makes any page"
-)
-
-
-class Pages:
-    """How many pages were served, and when the first was asked for and the last was there."""
-
-    def __init__(self, programs: int) -> None:
-        self.programs, self.count = programs, 0
-        self.first: float | None = None
-        self.last = 0.0
-        self.turn = threading.Lock()
-
-    def served(self, begun: float) -> None:
-        with self.turn:
-            self.count += 1
-            self.first = min(begun, self.first or begun)
-            self.last = time.monotonic()
-
-    def tell(self, *_: object) -> None:
-        seconds = self.last - self.first if self.first is not None else 0.0
-        rate = f", {self.count / seconds:,.0f} a second" if seconds else ""
-        say(f"{self.count:,} pages in {seconds:.1f} s{rate}, by {self.programs} programs")
-
-
-class Served(Protocol):
-    """A site that can be asked for its pages, until it has ended by a fault."""
-
-    fault: Exception | None
-
-    def get(self, path: str) -> Reply:
-        ...
 
 
 class Editing(NamedTuple):
@@ -140,11 +86,10 @@ class Editing(NamedTuple):
 class Server(PageServer):
     """A server of one site on this machine."""
 
-    site: Served
+    site: Site
 
     def __init__(self, port: int) -> None:
         super().__init__((ADDRESS, port), Handler)
-        self.pages = Pages(1)
         self.editing: Editing | None = None
 
     def service_actions(self) -> None:
@@ -212,15 +157,10 @@ class Handler(EditHandler):
             self.respond(outcome.status, "text/plain", told, {"Idempotency-Key": key})
 
     def page_of(self, path: str) -> tuple[Reply, dict[str, str]]:
-        begun = time.monotonic()
         try:
-            reply = self.server.site.get(path)
+            return self.server.site.get(path), {}
         except (Ended, NoReply, NotServed):
             raise NoPage("the program has ended") from None
-        except Missing:
-            raise NoPage(NOT_MADE) from None
-        self.server.pages.served(begun)
-        return reply, {}
 
 
 def feed(site: Site, file: Path, commands: bytes) -> None:
@@ -299,42 +239,27 @@ def serve(arguments: argparse.Namespace) -> None:
     commands = arguments.file.read_bytes() if arguments.file else b""
     token = read_token(arguments.token_file) if arguments.token_file else None
     kind = Explained if arguments.explain else Plain
-    given = (arguments.program, arguments.database, arguments.readers, arguments.lines, kind, token is not None)
-    with opened(arguments.port) as server, begun(given) as site:
+    site = Site(arguments.program, arguments.database, most=arguments.lines, kind=kind, notes_edits=token is not None)
+    with opened(arguments.port) as server, begun(site):
         feed(site, arguments.file, commands)
-        server.site, server.pages = site, Pages(len(site.places()))
+        server.site = site
         server.editing = Editing(token, Edits(site)) if token is not None else None
-        signal.signal(signal.SIGUSR1, server.pages.tell)
         if arguments.edits:
             threading.Thread(target=carry_out_edits, args=[site], daemon=True).start()
-        try:
-            announce(server)
-        finally:
-            if arguments.readers:
-                server.pages.tell()
+        announce(server)
 
 
 @contextlib.contextmanager
-def begun(given: tuple[Any, ...]) -> Iterator[Site]:
-    """A site whose programs run."""
+def begun(site: Site) -> Iterator[None]:
+    """Has a site's programs run until the block ends."""
     try:
-        with Site(*given) as site:
-            yield site
+        with site:
+            yield
     except NoReply as fault:
         said = f"it said {fault.args[0]!r}" if fault.args[0] else f"it said nothing for {FIRST_SECONDS} s"
-        sys.exit(f"browse: {given[0]} doesn't reply to a line as the program does: {said}")
+        sys.exit(f"browse: {site.words[0]} doesn't reply to a line as the program does: {said}")
     except NotServed as fault:
         sys.exit(f"browse: {fault}")
-
-
-def serve_unproved(port: int, file: Path) -> None:
-    """Serves the pages of a command file's site that can be made beforehand."""
-    commands = file.read_bytes()
-    with opened(port) as server:
-        say(f"not proved: the sources are compiled, which takes {MINUTES}, and then the pages are made")
-        server.site = Recorded(file, commands)
-        say(f"{len(server.site.pages)} pages were made; any other path is answered with 503")
-        announce(server)
 
 
 def port_number(text: str) -> int:
@@ -345,24 +270,17 @@ def port_number(text: str) -> int:
 
 def read_arguments() -> argparse.Namespace:
     parser = Parser(description="Serves a site to a browser on this machine.")
-    which = parser.add_mutually_exclusive_group()
-    add_program_option(which)
-    which.add_argument("--unproved", action="store_true", help="compile the sources, and make the pages beforehand")
+    add_program_option(parser)
     parser.add_argument("--explain", action="store_true", help="show below each page which callbacks ran")
     parser.add_argument("--port", metavar="N", type=port_number, default=8080, help="8080 if it is left out")
     parser.add_argument("--database", metavar="FILE", help="serve the site in this file, which lasts")
-    how: dict[str, Any] = {"metavar": "N", "type": count_in(1, 64), "default": 0}
-    parser.add_argument("--readers", help="print pages by N more programs, 1 to 64, in memory", **how)
     parser.add_argument("--edits", action="store_true", help="carry out the lines of standard input meanwhile")
-    how = {"metavar": "FILE", "type": Path}
+    how: dict[str, Any] = {"metavar": "FILE", "type": Path}
     parser.add_argument("--token-file", help="take edits by HTTP from those who have the token in this file", **how)
     how = {"metavar": "N", "type": count_in(4 * MARGIN, LINES), "default": LINES}
     parser.add_argument("--lines", help="replace each program before its line N, 1,000,000 if it is left out", **how)
     parser.add_argument("file", metavar="FILE", nargs="?", type=Path, help="a command file")
     arguments = parser.parse_args()
-    for option in ("explain", "database", "readers", "edits", "token_file"):
-        if arguments.unproved and getattr(arguments, option):
-            parser.error(f"--{option.replace('_', '-')} needs the built program, and --unproved runs none")
     if arguments.file is None and arguments.database is None:
         arguments.file = BAKERY
     return arguments
@@ -372,14 +290,9 @@ def main() -> None:
     arguments = read_arguments()
     end_by_signals()
     try:
-        if arguments.unproved:
-            serve_unproved(arguments.port, arguments.file)
-        else:
-            check_program(arguments.program, ", and --unproved takes none")
-            serve(arguments)
+        check_program(arguments.program)
+        serve(arguments)
     except KeyboardInterrupt:
         pass
-    except NotRun as fault:
-        sys.exit(f"browse: {fault}")
     except OSError as error:
         sys.exit(f"browse: {error}")

@@ -1,30 +1,33 @@
 """Turns WordPress's own export file into commands for the program `site`.
 
-    examples/from_wordpress [--all] [--templates FILE] EXPORT.xml > COMMANDS.jsonl
-    examples/from_wordpress --as-shown [--contact ADDRESS] [--menu NAME] [--posts-page NAME] [--plugin-tags NAMES]
-                            [--files FILE] [--fetch FROM DIR] ..
+    examples/from_wordpress [--all] [--templates FILE] [--contact ADDRESS] [--menu NAME] [--posts-page NAME]
+                            [--posts-per-page N] [--author LOGIN=SLUG ..] [--plugin-tags NAMES] [--files FILE]
+                            [--fetch FROM DIR] EXPORT.xml > COMMANDS.jsonl
     ./site < COMMANDS.jsonl
 
 EXPORT.xml is what Tools > Export of WordPress writes (WXR 1.2). The commands are imports: posts and pages, published
 and drafts, with the site's title and tagline and the templates of FILE, an object of template names and trees. If FILE
-isn't given, it is wordpress-templates.json beside this script. The program limits a line's length and an import's
-posts, so a large site takes several imports.
+isn't given, it is archive-templates.json beside this script. The program limits a line's length and an import's posts,
+so a large site takes several imports.
 
-In the templates a node {"links": "parts"}, {"links": "months"} or {"links": "pages"} becomes a list of links: to the
-parts of the front, ten posts each, to the months that have posts, and to the pages. The program has no tag for them.
+Titles and contents are written as WordPress shows them: with paragraphs, curly quotes, captions, galleries, players,
+and links and files at the site's own paths. Featured images come before the text, tags of page builders are gone with
+what they show kept, and a form becomes a note, or with --contact an address to write to. The front is the page that the
+site had there, and --posts-page names the page that listed the posts. --plugin-tags has the shortcodes, with commas
+between them, that a plugin of the program has, whose texts stay as they are.
 
-With --as-shown titles and contents are written as WordPress shows them, instead of as it stores them: with
-paragraphs, curly quotes, captions, galleries, players, and links and files at the site's own paths. Featured images
-come before the text, tags of page builders are gone with what they show kept, and a form becomes a note, or with
---contact an address to write to. The front is the page that the site had there, --posts-page names the page that
-listed the posts, --plugin-tags has the shortcodes, with commas between them, that a plugin of the program has, whose
-texts stay as they are, and {"links": "menu"} is the site's menu: the main one, or the one that --menu names; if there
-is none, the tree of pages. {"site": "language"} and {"site": "tagline"} are texts of the site. FILE of --files gets a
-line for each file below /wp-content/uploads/ that posts and pages need: in contents, galleries and as featured images.
---fetch copies these from FROM, a copy of wp-content/uploads, as a folder or a zip or tar archive of it, to the same
-paths below DIR, such as DIR/wp-content/uploads/2016/05/a.jpg, and standard error says which of them FROM doesn't have.
-If --templates isn't given, the templates are those of archive-templates.json. examples/publish writes such a site as
-files, and takes uploads from FROM or from DIR.
+N is how many posts a part of a list had, 10 if it isn't known: the option posts_per_page, 1 to 100. SLUG is the name
+that an author's page had in its address, if it isn't made of the login. Neither is in an export.
+
+In the templates a node {"links": NAME} becomes a list of links, for which the program has no tag: `menu` the site's
+menu, the main one, or the one that --menu names, or if there is none the tree of pages; `pages` that tree; `months`
+those that have posts; `parts` those of the front. {"site": "language"} and {"site": "tagline"} are
+texts of the site.
+
+FILE of --files gets a line for each file below /wp-content/uploads/ that posts and pages need: in contents, galleries
+and as featured images. --fetch copies these from FROM, a copy of wp-content/uploads, as a folder or a zip or tar
+archive of it, to the same paths below DIR, such as DIR/wp-content/uploads/2016/05/a.jpg, and standard error says which
+of them FROM doesn't have. examples/publish writes such a site as files, and takes uploads from FROM or from DIR.
 
 Standard error says what is left out and what isn't shown as in WordPress, by kinds, with the first posts of each; with
 --all each item of the export that is concerned has a line there, with its place. docs/FROM-WORDPRESS.md says what is
@@ -38,23 +41,21 @@ import json
 import re
 import sys
 from collections import Counter
-from collections.abc import Iterable, Mapping, Sequence
+from collections.abc import Iterable, Mapping
 from datetime import datetime
-from html import escape, unescape
 from pathlib import Path
-from typing import Any, NamedTuple
+from typing import Any
 from urllib.parse import unquote
 
 from geanmarbles.archive.files import Copies, Noted, copy_uploads
 from geanmarbles.arguments import Parser
 from geanmarbles.output import quiet_output
 from geanmarbles.paths import EXAMPLES
-from geanmarbles.wordpress.archive import SHOWN, Archive, Wishes
-from geanmarbles.wordpress.contents import differences, skips_levels
+from geanmarbles.wordpress.archive import Archive, Wishes
 from geanmarbles.wordpress.export import CARRIED, SITE_OPTIONS, Export, Holder, Refused, read_export, shown
+from geanmarbles.wordpress.items import WholeSite, taking
 
-TEMPLATES = EXAMPLES / "wordpress-templates.json"
-ARCHIVE_TEMPLATES = TEMPLATES.with_name("archive-templates.json")
+TEMPLATES = EXAMPLES / "archive-templates.json"
 TEMPLATE_NAMES = "index home front-page single page singular date archive 404 header footer content".split()
 
 # Limits of the program (docs/BEHAVIOUR.md, Limits).
@@ -64,15 +65,13 @@ TITLE_BYTES = 65_536
 CONTENT_BYTES = 524_288
 OPTION_BYTES = 65_536
 LARGEST_ID = 2_147_483_647
-# How many posts a part of the front or of a month has, if the option posts_per_page isn't set.
-PER_PAGE = 10
+# How many posts a part of a list has if the option posts_per_page isn't set, and at most.
+PER_PAGE, MOST_PER_PAGE = 10, 100
 # The longest list of links. A template has at most 262,144 bytes of text.
 LINKS_BYTES = 50_000
-LINKS = ("parts", "months", "pages")
+LINKS = ("menu", "months", "pages", "parts")
 LINKS_NODE = re.compile(rb'\{"links":("[^"]*"|[^}]*)\}')
 SITE_NODE = re.compile(rb'\{"site":("[^"]*"|[^}]*)\}')
-# What else there is with --as-shown.
-ARCHIVE_LINKS = ("menu",)
 # An entry of an import, what of it isn't shown as in WordPress, and why an item isn't carried over: a word and a
 # reason.
 Entry = dict[str, Any]
@@ -82,19 +81,8 @@ Against = tuple[str, str]
 NAMED = 3
 
 
-class Post(NamedTuple):
-    """A post or page that is carried over."""
-
-    entry: dict[str, Any]
-    order: int
-
-    def is_published(self, kind: str) -> bool:
-        return (self.entry["kind"], self.entry["status"]) == (kind, "publish")
-
-
-def read_templates(path: Path, links: Sequence[str]) -> dict[str, Any]:
-    """Reads a file of templates, whose lists of links have one of these names. Their trees are for the program to
-    judge."""
+def read_templates(path: Path) -> dict[str, Any]:
+    """Reads a file of templates. Their trees are for the program to judge."""
     try:
         templates = json.loads(path.read_text(encoding="utf-8"))
         compact(templates)
@@ -110,8 +98,8 @@ def read_templates(path: Path, links: Sequence[str]) -> dict[str, Any]:
         if not isinstance(tree, list):
             raise Refused(f"{path}: the template {name} is no list of nodes")
     for node in LINKS_NODE.finditer(compact(templates)):
-        if node[1].decode().strip('"') not in links:
-            raise Refused(f"{path}: there are no links {node[1].decode()}: those are {', '.join(links)}")
+        if node[1].decode().strip('"') not in LINKS:
+            raise Refused(f"{path}: there are no links {node[1].decode()}: those are {', '.join(LINKS)}")
     if len(import_line({"templates": templates}, [])) > LINE_BYTES:
         raise Refused(f"{path}: these templates are longer than a line's {LINE_BYTES:,} bytes")
     return templates
@@ -182,8 +170,6 @@ def plural(count: int, what: str) -> str:
     odd = {
         "category": "categories",
         "text outside its elements": "texts outside their elements",
-        "embedded address": "embedded addresses",
-        "content without paragraphs": "contents without paragraphs",
         "image of another host": "images of another host",
         "file of another host": "files of another host",
         "link that leads nowhere": "links that lead nowhere",
@@ -227,7 +213,7 @@ class Report:
         self.controls = Group()
         # Contents with a heading that skips a level, which stays as it is.
         self.skipping = Group()
-        self.control_count = 0
+        self.control_count = self.mended = 0
         self.unlinked: Counter[str] = Counter()
         self.told: list[str] = []
 
@@ -242,19 +228,17 @@ class Report:
         self.left_out.setdefault(word, Group()).add(item.line, item.called())
         self.say_each(item.line, f"{item.called()} is left out: {reason}")
 
-    def carry(self, item: Holder, entry: Entry, left: Left | None = None) -> None:
-        """Counts an item that is carried over, of which `left` isn't as in WordPress if it is known already."""
+    def carry(self, item: Holder, entry: Entry, left: Left) -> None:
+        """Counts an item that is carried over, of which `left` isn't as in WordPress."""
         self.carried[("draft " if entry["status"] == "draft" else "") + entry["kind"]] += 1
-        lost = item.lost()
-        self.lose(item.line, item.called(), lost if left is None else without_shown(lost))
-        if left is not None and skips_levels(entry["content"]):
+        self.lose(item.line, item.called(), item.lost())
+        if skips_levels(entry["content"]):
             self.skipping.add(item.line, item.called())
             self.say_each(item.line, f"{item.called()} has a heading that skips a level")
-        found = differences(entry["content"]) if left is None else left
-        for kind, names in found.items():
+        for kind, names in left.items():
             self.differing.setdefault(kind, Group()).add(item.line, item.called(), names)
-        if found:
-            said = ", ".join(self.kind_of(kind, names) for kind, names in found.items())
+        if left:
+            said = ", ".join(self.kind_of(kind, names) for kind, names in left.items())
             self.say_each(item.line, f"{item.called()} isn't shown as in WordPress: {said}")
 
     def lose(self, line: int, what: str, lost: Counter[str]) -> None:
@@ -292,8 +276,24 @@ class Report:
         menu = f"the menu {archive.menu_name!r}" if archive.menu_name else "the tree of pages, since there is no menu"
         self.told.append(f"the links at the top of each page are {menu}")
         options = archive.options()
-        if options and "page_for_posts" not in options:
+        if "page_on_front" in options and "page_for_posts" not in options:
             self.told.append("the front is a page, and none is known that lists the posts: --posts-page NAME names it")
+        self.tell_addresses(archive)
+
+    def tell_addresses(self, archive: Archive) -> None:
+        """Says which addresses depend on what isn't in an export."""
+        number = archive.per_page()
+        if number and not archive.wishes.per_page:
+            guess = f"a template of the site has {number}: --posts-per-page N says otherwise"
+            self.told.append(f"how many posts a part of a list had isn't in an export, but {guess}")
+        elif not number and self.carried["post"] > 1:
+            told = f"how many posts a part of a list had isn't in an export, and {PER_PAGE} are taken"
+            lost = "parts such as /page/2/ have other posts, and the last may be missing"
+            self.told.append(f"{told}: --posts-per-page N says it, or {lost}")
+        logins = (it for it in archive.site.authors if it not in archive.wishes.authors)
+        if odd := [f"{archive.places.author(it)} of {it!r}" for it in logins if archive.places.author_slug(it) != it]:
+            told = "addresses of authors that are made of logins, and may have been others"
+            self.told.append(f"{told}: {Noted(odd)}: --author LOGIN=SLUG says them")
 
     def tell_fetched(self, source: Path, copies: Copies, missing: list[str]) -> None:
         """Says which files were fetched, and which weren't."""
@@ -308,6 +308,8 @@ class Report:
         """Says what was counted; what is carried over comes last."""
         if self.control_count:
             self.say(self.controls.line, f"{self.spaces(self.control_count)}: in {self.controls.items()}")
+        if self.mended:
+            self.say(0, f"{self.mended:,} &, which WordPress hadn't escaped, became &amp;")
         reasons = ", ".join(f"{it.count:,} for the {word}" for word, it in self.left_out.items())
         total = sum(it.count for it in self.left_out.values())
         self.say(0, f"left out whole: {total:,}{f' ({reasons})' if reasons else ''}")
@@ -329,15 +331,10 @@ class Report:
         self.say(0, f"carried over: {listed(self.carried) or 'nothing'}, in {count:,} line{'' if count == 1 else 's'}")
 
 
-def without_shown(lost: Counter[str]) -> Counter[str]:
-    """What is left out of an item whose texts are as WordPress shows them."""
-    return Counter({what: count for what, count in lost.items() if what not in SHOWN})
-
-
-def order_of(item: Holder) -> int:
-    """A page's place in WordPress's own list of pages."""
-    order = item.texts.get("wp:menu_order", "").strip()
-    return int(order) if re.fullmatch("-?[0-9]{1,9}", order) else 0
+def skips_levels(content: str) -> bool:
+    """Whether a heading of a content is more than one level below the one before it; the title's is the first."""
+    levels = [1, *(int(it) for it in re.findall(r"<h([1-6])\b", content, re.I))]
+    return any(below > above + 1 for above, below in zip(levels, levels[1:]))
 
 
 def carried_numbers(export: Export) -> set[int]:
@@ -349,21 +346,16 @@ def carried_numbers(export: Export) -> set[int]:
     return set(taken)
 
 
-def carried_posts(export: Export, report: Report, archive: Archive | None = None) -> tuple[list[Post], list[bytes]]:
-    """Each post and page that can be carried over, and its JSON; all others are reported."""
-    posts: list[Post] = []
+def carried_posts(export: Export, report: Report, archive: Archive) -> list[bytes]:
+    """The JSON of each post and page that can be carried over; all others are reported."""
     entries: list[bytes] = []
     taken: dict[int, int] = {}
     room = LINE_BYTES - len(import_line({}, []))
     for item in export.items:
-        against, left = reason_against(item, taken), None
-        kept, entry = {}, b""
-        if not against:
-            kept = entry_of(item)
-            if archive:
-                kept, left = archive.entry(kept)
-                against = reason_of_size(kept["title"], kept["content"])
-            entry = compact(kept)
+        against = reason_against(item, taken)
+        kept, left = archive.entry(entry_of(item)) if not against else ({}, {})
+        entry = compact(kept)
+        against = against or reason_of_size(kept["title"], kept["content"])
         if not against and len(entry) > room:
             against = "size", f"its command would be longer than a line's {LINE_BYTES:,} bytes"
         if against:
@@ -372,58 +364,28 @@ def carried_posts(export: Export, report: Report, archive: Archive | None = None
             taken[int(item.texts["wp:post_id"])] = item.line
             entries.append(entry)
             report.carry(item, kept, left)
-            # The links need no content.
-            posts.append(Post({**kept, "content": ""}, order_of(item)))
-    return posts, entries
+    return entries
 
 
-def link(path: str, text: object) -> str:
-    return f'<a href="{escape(path)}">{text}</a>'
-
-
-def links_to_parts(posts: Sequence[Post]) -> list[str]:
-    """A list item for each part of the front, if there are several."""
-    count = -(-sum(it.is_published("post") for it in posts) // PER_PAGE)
+def links_to_parts(posts: int, per_page: int) -> list[str]:
+    """A list item for each part of a front of some posts, if there are several."""
+    count = -(-posts // per_page)
     paths = ["/", *(f"/?paged={part}" for part in range(2, count + 1))]
-    return [link(path, part) for part, path in enumerate(paths, 1)] if count > 1 else []
+    return [f'<a href="{path}">{part}</a>' for part, path in enumerate(paths, 1)] if count > 1 else []
 
 
-def links_to_months(posts: Sequence[Post]) -> list[str]:
-    """A list item for each month with posts, the newest first, with links to its further parts."""
-    months = Counter(it.entry["date"][:7] for it in posts if it.is_published("post"))
-    items = []
-    for month, count in sorted(months.items(), reverse=True):
-        path = f"/?m={month.replace('-', '')}"
-        parts = [link(f"{path}&paged={part}", part) for part in range(2, -(-count // PER_PAGE) + 1)]
-        items.append(" ".join([link(path, month), *parts]))
-    return items
-
-
-def plain(title: str) -> str:
-    """A title as a link's text: without tags, its entities spared."""
-    return escape(unescape(re.sub(r"<[^<>]*>", "", title)), quote=False).strip()
-
-
-def links_to_pages(posts: Sequence[Post]) -> list[str]:
-    """A list item for each published page, in WordPress's order: by their order, then by title."""
-    pages = [it for it in posts if it.is_published("page")]
-    pages.sort(key=lambda it: (it.order, it.entry["title"].lower(), it.entry["id"]))
-    return [link(f"/?page_id={it.entry['id']}", plain(it.entry["title"]) or it.entry["id"]) for it in pages]
-
-
-def with_links(line: bytes, posts: Sequence[Post], report: Report, archive: Archive | None = None) -> bytes:
+def with_links(line: bytes, report: Report, archive: Archive) -> bytes:
     """An import whose nodes of links, and of the site's texts, became texts."""
-    made = {"parts": links_to_parts, "months": links_to_months, "pages": links_to_pages}
-    lists = archive.lists if archive else {}
-    for name, text in archive.settings().items() if archive else ():
+    for name, text in archive.settings().items():
         line = line.replace(compact({"site": name}), compact(text))
-    if archive and (unknown := SITE_NODE.search(line)):
+    if unknown := SITE_NODE.search(line):
         raise Refused(f"the templates: there is no text {unknown[1].decode()} of the site")
-    for name in dict.fromkeys((*made, *lists)):
+    lists = {**archive.lists, "parts": links_to_parts(report.carried["post"], archive.per_page() or PER_PAGE)}
+    for name in LINKS:
         node = compact({"links": name})
         if node not in line:
             continue
-        text, items = "", lists[name] if name in lists else made[name](posts)
+        text, items = "", lists[name]
         for number, item in enumerate(items):
             if size(text) + size(item) > LINKS_BYTES:
                 report.unlinked[name] = len(items) - number
@@ -433,7 +395,7 @@ def with_links(line: bytes, posts: Sequence[Post], report: Report, archive: Arch
     return line
 
 
-def site_options(site: Holder, report: Report, is_shown: bool = False) -> dict[str, str]:
+def site_options(site: Holder, report: Report) -> dict[str, str]:
     """The options that the site's own texts become; one that is too long is reported."""
     options = {}
     for name, option in SITE_OPTIONS.items():
@@ -442,7 +404,7 @@ def site_options(site: Holder, report: Report, is_shown: bool = False) -> dict[s
             site.counts[f"{option} of more than {OPTION_BYTES:,} bytes"] += 1
         elif text:
             options[option] = text
-    report.lose(site.line, "the site", without_shown(site.lost()) if is_shown else site.lost())
+    report.lose(site.line, "the site", site.lost())
     return options
 
 
@@ -482,36 +444,40 @@ def tag_names(text: str) -> frozenset[str]:
     return frozenset(names)
 
 
+def per_page(text: str) -> int:
+    if not re.fullmatch("[1-9][0-9]{0,2}", text) or int(text) > MOST_PER_PAGE:
+        raise argparse.ArgumentTypeError(f"a number from 1 to {MOST_PER_PAGE}, not {text}")
+    return int(text)
+
+
+def author(text: str) -> tuple[str, str]:
+    """A login and the name of its author's page."""
+    login, _, slug = text.rpartition("=")
+    if not login or not re.fullmatch(r"[\w%-]+", slug):
+        raise argparse.ArgumentTypeError(f"a login, = and what the address of its author's page ends with, not {text}")
+    return login, slug
+
+
 def read_arguments() -> argparse.Namespace:
     parser = Parser(description="Turns WordPress's export file into commands for the program site.")
     parser.add_argument("--all", action="store_true", help="name each item that is left out or shown otherwise")
-    parser.add_argument("--templates", metavar="FILE", type=Path, help="the templates, in JSON")
-    parser.add_argument("--as-shown", action="store_true", help="write texts as WordPress shows them, for an archive")
-    how: dict[str, Any] = {"metavar": "ADDRESS", "default": ""}
-    parser.add_argument("--contact", help="with --as-shown: an address to write to, in place of forms", **how)
-    parser.add_argument("--menu", metavar="NAME", default="", help="with --as-shown: the menu to show")
-    parser.add_argument("--posts-page", metavar="NAME", default="", help="with --as-shown: the page that lists posts")
+    templates = "the templates, in JSON, archive-templates.json if it is left out"
+    parser.add_argument("--templates", metavar="FILE", type=Path, default=TEMPLATES, help=templates)
+    contact = "an address to write to, in place of forms"
+    parser.add_argument("--contact", metavar="ADDRESS", default="", help=contact)
+    parser.add_argument("--menu", metavar="NAME", default="", help="the menu to show")
+    parser.add_argument("--posts-page", metavar="NAME", default="", help="the page that lists posts")
+    how: dict[str, Any] = {"metavar": "N", "type": per_page, "default": 0}
+    parser.add_argument("--posts-per-page", help="how many posts a part of a list had", **how)
+    how = {"metavar": "LOGIN=SLUG", "type": author, "action": "append", "default": []}
+    parser.add_argument("--author", help="what the address of an author's page ends with", **how)
     how = {"metavar": "NAMES", "type": tag_names, "default": frozenset()}
-    parser.add_argument("--plugin-tags", help="with --as-shown: shortcodes that a plugin of the program has", **how)
-    parser.add_argument("--files", metavar="FILE", type=Path, help="with --as-shown: write which uploads are needed")
+    parser.add_argument("--plugin-tags", help="shortcodes that a plugin of the program has", **how)
+    parser.add_argument("--files", metavar="FILE", type=Path, help="write which uploads are needed")
     how = {"metavar": ("FROM", "DIR"), "nargs": 2, "type": Path}
-    parser.add_argument("--fetch", help="with --as-shown: copy the needed uploads from a copy of them to DIR", **how)
+    parser.add_argument("--fetch", help="copy the needed uploads from a copy of them to DIR", **how)
     parser.add_argument("export", metavar="EXPORT.xml", type=Path, help="what Tools > Export of WordPress writes")
-    arguments = parser.parse_args()
-    for option in ("contact", "menu", "posts_page", "plugin_tags", "files", "fetch"):
-        if getattr(arguments, option) and not arguments.as_shown:
-            parser.error(f"--{option.replace('_', '-')} needs --as-shown")
-    if arguments.templates is None:
-        arguments.templates = ARCHIVE_TEMPLATES if arguments.as_shown else TEMPLATES
-    return arguments
-
-
-def archive_of(arguments: argparse.Namespace, export: Export) -> Archive | None:
-    """The archive that an export becomes, if one is asked for."""
-    if not arguments.as_shown:
-        return None
-    wishes = Wishes(arguments.contact, arguments.menu, arguments.posts_page, arguments.plugin_tags)
-    return Archive(arguments.export, carried_numbers(export), wishes)
+    return parser.parse_args()
 
 
 def fetch(source: Path, folder: Path, archive: Archive, report: Report) -> None:
@@ -526,21 +492,25 @@ def fetch(source: Path, folder: Path, archive: Archive, report: Report) -> None:
 
 def converted(arguments: argparse.Namespace, report: Report) -> list[bytes]:
     """The imports of an export."""
-    templates = read_templates(arguments.templates, (*LINKS, *(ARCHIVE_LINKS if arguments.as_shown else ())))
-    export, controls = read_export(arguments.export)
+    templates = read_templates(arguments.templates)
+    site = WholeSite()
+    export, controls = read_export(arguments.export, taking(site, False))
     report.replace_controls(controls, export.site)
-    options = site_options(export.site, report, arguments.as_shown)
-    archive = archive_of(arguments, export)
-    posts, entries = carried_posts(export, report, archive)
+    report.mended = export.mended
+    options = site_options(export.site, report)
+    texts = arguments.contact, arguments.menu, arguments.posts_page
+    wishes = Wishes(*texts, arguments.plugin_tags, arguments.posts_per_page, dict(arguments.author))
+    site.must_have_address(arguments.export)
+    archive = Archive(site, carried_numbers(export), wishes)
+    entries = carried_posts(export, report, archive)
     if not entries:
         return []
-    if archive:
-        options |= archive.options()
-        report.tell_archive(archive, arguments.files)
-    head = with_links(import_head({"options": options, "templates": templates}), posts, report, archive)
+    report.tell_archive(archive, arguments.files)
+    head = import_head({"options": options | archive.options(), "templates": templates})
+    head = with_links(head, report, archive)
     if len(import_line(head, [])) > LINE_BYTES:
         raise Refused(f"{arguments.templates}: these templates and their links are longer than {LINE_BYTES:,} bytes")
-    if archive and arguments.fetch:
+    if arguments.fetch:
         source, folder = arguments.fetch
         fetch(source, folder, archive, report)
     return import_lines(head, entries)

@@ -1,6 +1,6 @@
 """Shows each version that a post or page of a site has had.
 
-    examples/history [--program PATH] [--difference] SITE.db ID
+    examples/history [--program PATH] [--snippets] [--difference] SITE.db ID
     examples/history [--token-file FILE] [--difference] ADDRESS ID
 
 A line is printed for each edit that made or changed it: the edit's number in the history, what kind of edit it was,

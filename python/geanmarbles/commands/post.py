@@ -1,9 +1,9 @@
 """Lists, reads and writes the posts and pages of a site in a file, each as a file with a head.
 
-    examples/post [--program PATH] [--token-file FILE] SITE list [WORD ..]
-    examples/post [--program PATH] [--token-file FILE] SITE get ID > FILE
-    examples/post [--program PATH] [--token-file FILE] SITE set ID FILE
-    examples/post [--program PATH] [--token-file FILE] SITE new FILE
+    examples/post [--program PATH] [--snippets] [--token-file FILE] SITE list [WORD ..]
+    examples/post [--program PATH] [--snippets] [--token-file FILE] SITE get ID > FILE
+    examples/post [--program PATH] [--snippets] [--token-file FILE] SITE set ID FILE
+    examples/post [--program PATH] [--snippets] [--token-file FILE] SITE new FILE
 
 `list` prints the ID, kind, status, date and title of each post and page, the newest first, or of those whose title or
 content has every WORD. `get` prints one: a head of lines `title: ..`, `date: ..` and `status: ..`, a blank line, and

@@ -1,19 +1,18 @@
 """Writes a site that came from WordPress as files for any web server, at the addresses that it had there.
 
-    examples/publish [--program PATH] [--uploads FROM] [--address URL] [--date-format FORMAT] [--category-base NAME]
-                     [--tag-base NAME] [--check] EXPORT.xml SITE.db DIR
+    examples/publish [--program PATH] [--snippets] [--uploads FROM] [--address URL] [--date-format FORMAT]
+                     [--category-base NAME] [--tag-base NAME] [--check] EXPORT.xml SITE.db DIR
 
-SITE.db is the site in a file that `examples/from_wordpress --as-shown EXPORT.xml` and the program have made, with all
-edits since. EXPORT.xml is the same export: it has the old addresses, and what the program doesn't keep, such as
-terms, authors, comments and excerpts.
+SITE.db is the site in a file that `examples/from_wordpress EXPORT.xml` and the program have made, with all edits since,
+by --snippets if it was begun with that option. EXPORT.xml is the same export: it has the old addresses, and what the
+program doesn't keep, such as terms, authors, comments and excerpts.
 
 DIR/public is what a web server serves. Each page in it is printed by the program, over the site's own templates and
 plugins: posts and pages at their permalinks, divided posts in their parts, the list of all posts, lists by category,
 tag, author, year, month and day, and 404.html. Dates, terms, comments, neighbours, canonical links, descriptions and
 titles of lists are put into the printed pages, and a form that leads to a search, which needs no server. Beside them
-are feeds, sitemap.xml and robots.txt. DIR/nginx.conf and
-DIR/Caddyfile serve the folder, and send on addresses that moved, such as /?p=7; public/.htaccess and
-public/_redirects do the same on Apache and Netlify.
+are feeds, sitemap.xml and robots.txt. DIR/nginx.conf serves the folder, and sends on addresses that moved, such as
+/?p=7; .htaccess files and _redirects in DIR/public do the same on Apache and Netlify.
 
 FROM is a copy of wp-content/uploads, a folder or a zip or tar archive of it; what the pages and attachments need is
 copied. URL is where the archive will be, if it isn't where the old site was: such as https://www.example.org, with
@@ -44,7 +43,8 @@ from geanmarbles.archive.pages import Pages
 from geanmarbles.archive.plan import Plan, Settings
 from geanmarbles.archive.store import Lister, NotRead, Printer, read_store
 from geanmarbles.arguments import Parser
-from geanmarbles.client.program import Ended, NoReply, add_program_option, check_program, end_by_signals
+from geanmarbles.client.program import add_program_option, check_program, end_by_signals
+from geanmarbles.client.replies import Ended, NoReply
 from geanmarbles.disk_tables import Disk, DiskSet
 from geanmarbles.wordpress.addresses import Bases
 from geanmarbles.wordpress.export import Refused
@@ -156,7 +156,7 @@ def published(arguments: argparse.Namespace) -> bool:
     tell_missing(plan, pages, files, lacking)
     is_well = follow_links(plan, moved, files) if arguments.check else True
     say(
-        f"{pages.count:,} pages, {feeds.count:,} feeds and {moved.count():,} moved addresses in {files.root}: "
+        f"{pages.count:,} pages, {feeds.count:,} feeds and {len(moved.table):,} moved addresses in {files.root}: "
         f"{files.written:,} files written, {files.unchanged:,} unchanged, {files.removed:,} removed, "
         f"in {time.monotonic() - begun:.1f} s"
     )

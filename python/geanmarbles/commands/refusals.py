@@ -1,6 +1,6 @@
 """Says why lines of a command file are refused, by the rules of docs/BEHAVIOUR.md.
 
-    examples/refusals [--plugin NAME ..] [--after FILE ..] [--notes] FILE [REPLIES]
+    examples/refusals [--snippets] [--plugin NAME ..] [--after FILE ..] [--notes] FILE [REPLIES]
 
 For each refused line of FILE, standard output gets its number, the refusal and the reason: which key, which section and
 entry of an import, which node of a template's tree. Entries of lists are counted from 0:
@@ -27,7 +27,7 @@ The site is empty at first. --after names a command file that was carried out be
 several, in their order: what they refuse is left out, and each is a run of the program of its own, after which no page
 is open. For a site in a file, the file is what the program writes of it before the edits of FILE:
 
-    crates/site/out/site --database SITE.db --export > SITE.jsonl
+    ./site --database SITE.db --export > SITE.jsonl
     examples/refusals --after SITE.jsonl FILE
 
 With --notes it also says which keys and options of a line nothing reads, and the nearest name that is read. The program
@@ -36,9 +36,9 @@ examples/publish read:
 
     3: note: titel: nothing reads this key; the nearest that is read is title
 
-The plugins are those of the program `site`; --plugin names those of another program in place of them. A line that the
-program would end at, since it is over 1,048,576 bytes or comes after 1,000,000 others, is shown, and what follows isn't
-looked at.
+The plugins are those of the program `site`, or with --snippets of `site --snippets`; --plugin names those of another
+program in place of them. A line that the program would end at, since it is over 1,048,576 bytes or comes after
+1,000,000 others, is shown, and what follows isn't looked at.
 
 The exit status is 0 if FILE was read, 1 if it can't be read or REPLIES isn't what the rules say, and 2 if the arguments
 are bad.
@@ -50,7 +50,8 @@ from collections.abc import Iterable, Sequence
 from typing import Any
 
 from geanmarbles.arguments import Parser
-from geanmarbles.client.program import Ended, NoReply, Reply, lines_of, read_replies
+from geanmarbles.client.program import lines_of
+from geanmarbles.client.replies import Wrong, refusal_of, whole_replies
 from geanmarbles.client.rules import LINES, LINE_BYTES, PLUGINS, Refused, Site, read_command
 from geanmarbles.client.unread import notes
 from geanmarbles.output import quiet_output
@@ -76,7 +77,7 @@ class Other(Exception):
 class Reading:
     """A command file that is gone through, with the program's replies if there are any."""
 
-    def __init__(self, site: Site, replies: list[Reply] | None) -> None:
+    def __init__(self, site: Site, replies: list[bytes] | None) -> None:
         self.site = site
         self.replies = replies
         # The lines with `begin` or `turns` of which it isn't known whether they are refused.
@@ -85,7 +86,7 @@ class Reading:
     def refusal(self, number: int, line: bytes) -> Refused | None:
         """The refusal of a line, counted from 1, or None."""
         reply = self.replies[number - 1] if self.replies is not None else None
-        told = int(reply.words[1]) if reply is not None and reply.is_refused() else 0
+        told = refusal_of(reply) if reply is not None else 0
         if told in TOLD:
             self.follow_told(line, told)
             return Refused(told, TOLD[told])
@@ -98,7 +99,8 @@ class Reading:
             if keys["cmd"] in OF_PAGES:
                 found = self.follow(number, keys, reply, told)
         if reply is not None and told != (found.number if found else 0):
-            raise Other(f"{number}: the program replied `{reply.text()}`; by the rules: {found or 'done'}")
+            said = reply.partition(b"\n")[0].decode()
+            raise Other(f"{number}: the program replied `{said}`; by the rules: {found or 'done'}")
         return found
 
     def follow_told(self, line: bytes, told: int) -> None:
@@ -114,7 +116,7 @@ class Reading:
             else:
                 self.site.open.discard(keys.get("page", 0))
 
-    def follow(self, number: int, keys: dict[str, Any], reply: Reply | None, told: int) -> Refused | None:
+    def follow(self, number: int, keys: dict[str, Any], reply: bytes | None, told: int) -> Refused | None:
         """What `begin` and `turns` have done to the open pages; the result is a refusal that only the reply tells."""
         if self.site.open is None:
             if reply is None:
@@ -123,7 +125,7 @@ class Reading:
         if keys["cmd"] == "turns" and keys["page"] in self.site.open:
             if reply is None:
                 self.site.open = None
-            elif reply.is_page():
+            elif reply.startswith(b"page "):
                 self.site.open.discard(keys["page"])
         return None
 
@@ -169,7 +171,7 @@ def noted(line: bytes) -> list[str]:
         return []
 
 
-def explain(lines: Iterable[bytes], site: Site, replies: list[Reply] | None, has_notes: bool = False) -> bool:
+def explain(lines: Iterable[bytes], site: Site, replies: list[bytes] | None, has_notes: bool = False) -> bool:
     """Prints what is refused, and says whether all replies are what the rules say."""
     reading, is_well = Reading(site, replies), True
     for number, line in enumerate(lines, 1):
@@ -209,6 +211,7 @@ def read_arguments() -> argparse.Namespace:
         "help": "a plugin of the program, in place of those of `site`",
     }
     parser.add_argument("--plugin", **how)
+    parser.add_argument("--snippets", action="store_true", help="the plugins of `site --snippets`")
     how = {"metavar": "FILE", "action": "append", "default": [], "help": "a command file that was carried out before"}
     parser.add_argument("--after", **how)
     parser.add_argument("--notes", action="store_true", help="say which keys and options nothing reads")
@@ -226,11 +229,12 @@ def main() -> int:
         sys.exit("refusals: standard input can't be several of the files")
     try:
         lines = lines_of(read_bytes(arguments.file))
-        replies = read_replies(read_bytes(arguments.replies)) if arguments.replies is not None else None
-        site = site_after(arguments.after, arguments.plugin or PLUGINS)
+        replies = whole_replies(read_bytes(arguments.replies)) if arguments.replies is not None else None
+        plugins = [*(arguments.plugin or PLUGINS), *(["snippets"] if arguments.snippets else [])]
+        site = site_after(arguments.after, plugins)
         is_well = explain(lines, site, replies, arguments.notes)
         sys.stdout.flush()
-    except (Ended, NoReply):
+    except Wrong:
         sys.exit(f"refusals: {arguments.replies} isn't what the program writes")
     except BrokenPipeError:
         # That of standard output, which `quiet_output` ends the script for.

@@ -1,6 +1,6 @@
 """Serves a site to browsers.
 
-    examples/serve [--program PATH] [--database FILE [--new]] [--token-file FILE] [--address ADDRESS]
+    examples/serve [--program PATH] [--snippets] [--database FILE [--new]] [--token-file FILE] [--address ADDRESS]
                    [--port N | --unix PATH] [--connections N] [--seconds N] [--idle N] [FILE]
 
 The program speaks HTTP itself (docs/BEHAVIOUR.md, Over HTTP). This script takes the connections of clients and moves
@@ -9,7 +9,8 @@ their bytes to it and back, without a look at one; it starts the program, and th
 FILE is a command file, examples/bakery.jsonl of this repository if it and --database are left out; none of its lines
 may be refused. With --database the site is the one in that file, which lasts, and the lines of a command file are edits
 of it that stay. If the file isn't there or is empty, a site is made in it with --new alone. Without --database the site
-is in a file that is removed at the end. With --token-file whoever has the token in that file may edit the site.
+is in a file that is removed at the end. With --snippets the program has the plugin `snippets` too; a site that was
+begun with it is served with it. With --token-file whoever has the token in that file may edit the site.
 
 Clients find it at the address that standard output names: 127.0.0.1 and port 8080 if no other is given; port 0 means
 any free one. With --unix it is a socket at PATH, and if systemd hands sockets over (LISTEN_FDS) it is those. Which name
@@ -41,16 +42,8 @@ from collections.abc import Iterator
 from pathlib import Path
 
 from geanmarbles.arguments import Parser, count_in
-from geanmarbles.client.program import (
-    Ended,
-    NoReply,
-    Program,
-    absolute,
-    add_program_option,
-    check_program,
-    end_by_signals,
-    lines_of,
-)
+from geanmarbles.client.program import Program, absolute, add_program_option, check_program, end_by_signals, lines_of
+from geanmarbles.client.replies import Ended, NoReply
 from geanmarbles.paths import EXAMPLES
 from geanmarbles.pump.listening import at_path, at_port, handed_over, name_of
 from geanmarbles.pump.moving import Limits
@@ -69,7 +62,7 @@ def say(what: str) -> None:
 
 def feed(words: list[str], file: Path) -> None:
     """Has a program carry out a command file, and ends the script at the first line that it refuses."""
-    lines, program = lines_of(file.read_bytes()), words[0]
+    lines = lines_of(file.read_bytes())
     try:
         with Program(*words) as site:
             site.check(FIRST_SECONDS)
@@ -80,7 +73,7 @@ def feed(words: list[str], file: Path) -> None:
     except Ended:
         sys.exit(f"serve: the program ended before it had replied to {file}")
     except NoReply:
-        sys.exit(f"serve: {program} doesn't reply to a line as the program does")
+        sys.exit(f"serve: {words[0]} doesn't reply to a line as the program does")
 
 
 @contextlib.contextmanager
@@ -90,7 +83,7 @@ def database_of(arguments: argparse.Namespace) -> Iterator[str]:
         database = arguments.database or str(Path(folder, "site.db"))
         if arguments.file:
             is_new = arguments.new or not arguments.database
-            feed([arguments.program, "--database", database, *([] if is_new else [MUST_EXIST])], arguments.file)
+            feed([*arguments.program, "--database", database, *([] if is_new else [MUST_EXIST])], arguments.file)
         yield database
 
 
@@ -116,7 +109,7 @@ def sockets_of(arguments: argparse.Namespace) -> Iterator[list[socket.socket]]:
 
 def serve(arguments: argparse.Namespace) -> None:
     with sockets_of(arguments) as sockets, database_of(arguments) as database:
-        first = [arguments.program, "--http", "--framed", "--database", database]
+        first = [*arguments.program, "--http", "--framed", "--database", database]
         if arguments.token_file:
             first += ["--token-file", arguments.token_file]
         later = [*first, MUST_EXIST]

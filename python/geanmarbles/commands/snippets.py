@@ -12,7 +12,7 @@ line:
 
 For a site in a file, the file is what the program writes of it:
 
-    crates/press/out/press --database SITE.db --export | examples/snippets
+    ./site --snippets --database SITE.db --export | examples/snippets
 
 No program runs, and none is needed. What a content has is not looked at. The exit status is 0 if there is nothing to
 say, 1 if there is or a file can't be read, and 2 if the arguments are bad.

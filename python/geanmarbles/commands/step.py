@@ -1,6 +1,6 @@
 """Steps through a page of a site, one callback at a time.
 
-    examples/step [--program PATH] [--calls N] FILE PATH
+    examples/step [--program PATH] [--snippets] [--calls N] FILE PATH
 
 FILE is a command file, as examples/bakery.jsonl of this repository, and none of its lines may be refused. The page of
 PATH, as `/?p=1`, is then opened by `begin`, and nothing of it has run. At the prompt:
@@ -26,7 +26,8 @@ from pathlib import Path
 
 from geanmarbles.arguments import Parser
 from geanmarbles.client.log import Run, Teller, Told
-from geanmarbles.client.program import Ended, Reply, add_program_option, check_program, lines_of
+from geanmarbles.client.program import add_program_option, check_program, lines_of
+from geanmarbles.client.replies import Ended, Reply
 from geanmarbles.client.watched import Watched
 from geanmarbles.output import quiet_output
 
@@ -145,7 +146,7 @@ def main() -> None:
     check_program(arguments.program)
     options = ["--calls", arguments.calls] if arguments.calls else []
     try:
-        with Watched(arguments.program, *options) as program:
+        with Watched(*arguments.program, *options) as program:
             feed(program, arguments.file)
             stepper = Stepper(program, opened(program, arguments.path))
             print(f"the page of {arguments.path} is open, and nothing of it has run")

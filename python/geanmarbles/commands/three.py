@@ -1,6 +1,6 @@
 """Starts three etcd and three nodes of one site on this machine, to look at: a page in a browser at each of the nodes.
 
-    examples/cluster/three [--program PATH] [--port N] [--folder FOLDER] [FILE]
+    examples/cluster/three [--program PATH] [--snippets] [--port N] [--folder FOLDER] [FILE]
 
 The nodes listen on 127.0.0.1, at port N and the next two, 8081 if it is left out; etcd takes the ports from N + 100 and
 N + 200 on. A new site gets the edits of FILE, examples/bakery.jsonl of this repository if it is left out. Standard
@@ -85,7 +85,7 @@ class Process:
 class Cluster:
     """Three etcd and three nodes, until the `with` block ends."""
 
-    def __init__(self, program: str, port: int, folder: Path) -> None:
+    def __init__(self, program: list[str], port: int, folder: Path) -> None:
         self.program, self.port, self.folder = program, port, folder
         self.token = folder / "token"
         self.processes: list[Process] = []
@@ -123,7 +123,7 @@ class Cluster:
     def node_words(self, number: int) -> list[str]:
         urls = ",".join(f"http://{ADDRESS}:{self.port + 100 + it}" for it in range(COUNT))
         words = [str(ROOT / "cluster" / "node"), "--etcd", urls, "--listen", f"{ADDRESS}:{self.port + number}"]
-        return [*words, "--program", self.program, "--token-file", str(self.token)]
+        return [*words, "--program", *self.program, "--token-file", str(self.token)]
 
     def ask(
         self, number: int, method: str, path: str, body: bytes | None = None, headers: dict[str, str] | None = None

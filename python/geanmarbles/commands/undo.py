@@ -1,7 +1,7 @@
 """Writes a site without its last edits into a new file.
 
-    examples/undo [--program PATH] SITE.db NEW.db [N]
-    examples/undo [--program PATH] [--token-file FILE] ADDRESS NEW.db [N]
+    examples/undo [--program PATH] [--snippets] SITE.db NEW.db [N]
+    examples/undo [--program PATH] [--snippets] [--token-file FILE] ADDRESS NEW.db [N]
 
 The program carries out all edits of the site but the last N, the last one if N is left out, over NEW.db, which may not
 be there yet, and isn't there if this fails. Standard output has the edits that were left out, the newest first.

@@ -9,9 +9,8 @@ from pathlib import Path
 
 from geanmarbles.paths import ROOT
 
-# The folders of a crate that a proof reads, and those of its edits.
+# The folders of a crate that a proof reads.
 SOURCES = ("src", "specs", "proofs")
-EDITS = ("must-fail", "wrong-bodies")
 
 
 def read_crates() -> dict[str, list[str]]:

@@ -14,7 +14,6 @@ BEGIN, END = "<!-- made by tools/index: {} -->", "<!-- end -->"
 HEAD = "| Crate | What it is for | Depends on | What is proved of it |"
 WIDTH = 100
 LINK = re.compile(r"\]\(([^()\s]+)\)")
-SENTENCE = re.compile(r".*?[.:;](?=\s|$)", re.S)
 
 
 def listed() -> dict[str, list[str]]:

@@ -1,18 +1,18 @@
-"""Makes what is made of the sources: docs/INDEX.md, docs/THEOREM.md, and a part of docs/ARCHITECTURE.md.
+"""Makes what is made of the sources: docs/THEOREM.md, and a part of docs/ARCHITECTURE.md; and prints an index.
 
     tools/index [--print | --check]
-
-INDEX leads from each rule of docs/BEHAVIOUR.md to its definition, the contracts that carry it, and the wrong bodies
-that break it. A rule is a section that ends with a line in small print, whose links name the definitions. What carries
-a definition, and which wrong bodies break it, is in the tables of the crates' README.md and DESIGN.md.
 
 THEOREM has the clause of the headline, and each definition that it rests on, as in the crates' specs/.
 
 ARCHITECTURE has the floors of the crates, by crates.txt, and a table of what each crate's README.md says of it.
 
-Without an option the files are written, and those that had another text are named. With --print the pages are written
-to standard output instead, and with --check those that aren't up to date are named, with status 1; tests/links/run
-fails then.
+Without an option the files are written, and those that had another text are named. With --check those that aren't up to
+date are named, with status 1; tests/links/run fails then.
+
+With --print an index is written to standard output, as Markdown whose links are relative to docs/. It leads from each
+rule of docs/BEHAVIOUR.md to its definition, the contracts that carry it, and the wrong bodies that break it. A rule is
+a section that ends with a line in small print, whose links name the definitions. What carries a definition, and which
+wrong bodies break it, is in the tables of the crates' README.md and DESIGN.md.
 """
 
 import argparse
@@ -28,7 +28,6 @@ from geanmarbles.output import quiet_output
 from geanmarbles.paths import CRATES, DOCS, ROOT
 from geanmarbles.repository import floors, theorem
 
-INDEX = DOCS / "INDEX.md"
 HEAD = "| Definition | The rule it states | File | Carried by | Wrong bodies refused |"
 SMALL_PRINT = re.compile(r"<sub>Source: .*? · Proved: (.*?) by .*?</sub>")
 DEFINED = re.compile(r"\[`([\w:]+)`\]\(\.\./(crates/[\w/]+/specs/\w+\.antt)\)")
@@ -43,10 +42,10 @@ CRATES_HEAD = "| Crate | Definition | Carried by | Wrong bodies refused |"
 INTRODUCTION = """# Index
 
 From each rule to its definition, the functions whose contracts carry it, with the clauses, and wrong bodies: edits of
-such functions after which a goal isn't proved any more ([what that shows](PROOFS.md#wrong-bodies)). `tools/index` makes
-this page from [BEHAVIOUR](BEHAVIOUR.md) and from the tables of definitions in the crates; `tests/links/run` fails if it
-isn't up to date. What the tables say of each definition in words is in the `DESIGN.md` or `README.md` of its crate. A °
-is at functions, and at wrong bodies of functions, for programs of one's own.
+such functions after which a goal isn't proved any more ([what that shows](PROOFS.md#wrong-bodies)), made from
+[BEHAVIOUR](BEHAVIOUR.md) and from the tables of definitions in the crates. What the tables say of each definition in
+words is in the `DESIGN.md` or `README.md` of its crate. A ° is at functions, and at wrong bodies of functions, for
+programs of one's own.
 """
 
 
@@ -121,11 +120,8 @@ def edits(row: Definition) -> str:
         crate, said = (other[1], other[2]) if other else (row.crate, part)
 
         def link(match: re.Match[str], crate: str = crate) -> str:
-            for folder in ("must-fail", "wrong-bodies"):
-                path = CRATES / crate / folder / f"{match[1]}.edit"
-                if path.is_file():
-                    return linked(match[1], path)
-            return match[0]
+            path = CRATES / crate / "wrong-bodies" / f"{match[1]}.edit"
+            return linked(match[1], path) if path.is_file() else match[0]
 
         parts.append(QUOTED.sub(link, said.strip()))
     return "; ".join(it for it in parts if it)
@@ -180,7 +176,7 @@ def by_rule(rows: list[Definition], found: Mapping[tuple[str, str], Path]) -> tu
     return lines, cited
 
 
-def page_text() -> str:
+def index_text() -> str:
     found, rows = sources(), definitions()
     lines, cited = by_rule(rows, found)
     lines = [INTRODUCTION, "## By rule", "", RULES_HEAD, "|---|---|---|---|", *lines]
@@ -195,7 +191,7 @@ def page_text() -> str:
 
 def pages() -> dict[Path, str]:
     """The pages that are made, each with the text that it should have now."""
-    return {INDEX: page_text(), theorem.PAGE: theorem.page_text(), floors.PAGE: floors.page_text()}
+    return {theorem.PAGE: theorem.page_text(), floors.PAGE: floors.page_text()}
 
 
 def stale() -> dict[Path, str]:
@@ -207,11 +203,11 @@ def stale() -> dict[Path, str]:
 def main() -> int:
     parser = Parser(description=__doc__, formatter_class=argparse.RawDescriptionHelpFormatter)
     how = parser.add_mutually_exclusive_group()
-    how.add_argument("--print", action="store_true", help="write the pages to standard output")
+    how.add_argument("--print", action="store_true", help="write an index of rules to standard output")
     how.add_argument("--check", action="store_true", help="name the pages that aren't up to date")
     asked = parser.parse_args()
     if asked.print:
-        sys.stdout.write("".join(pages().values()))
+        sys.stdout.write(index_text())
         return 0
     other = stale()
     for page, text in other.items():

@@ -1,13 +1,14 @@
 """Makes a new plugin's crates from an example, or takes them away.
 
-    ./new-plugin [--from exclaim | --from notices] NAME
+    ./new-plugin [--from exclaim | --from notices | --from gallery] NAME
     ./new-plugin --remove NAME
 
 NAME is 1 to 50 lower-case letters, digits and `_`, a letter first. It is no word of Rust or of the definitions'
 language, no crate of this repository or of the toolchain, and no word of the example's code. The script makes
 crates/NAME, a library with the plugin, its definitions and three wrong bodies, and crates/NAME_site, a program that
 serves a site with it, adds both to crates.txt, and says what to do next. The example is `exclaim` if none is given, a
-filter on titles; `notices` has two callbacks, one of them a shortcode's handler with attributes.
+filter on titles; `notices` has two callbacks, one of them a shortcode's handler with attributes; `gallery` has loops,
+with proofs of its own, and an action that prints an option.
 
 With --remove, crates/NAME and crates/NAME_site are moved to out/removed/, and their lines leave crates.txt.
 docs/PLUGINS.md is the tutorial.
@@ -28,8 +29,9 @@ from geanmarbles.paths import CRATES, ROOT
 LIST = ROOT / "crates.txt"
 REFUSED = ROOT / "tests" / "wrong_bodies" / "refused.txt"
 REMOVED = ROOT / "out" / "removed"
-PROGRAM = "example_site"
-SITE_LIBRARIES = "site_main {} callback_store"
+# The program of a plugin, as one for `notices`, with lines that show this at work.
+TEMPLATE = Path(__file__).parent / "plugin_site"
+SITE_LIBRARIES = "site_main bundled_plugins {} callback_store"
 # The words that Rust, the definitions' language and the prover keep for themselves.
 RUST = (
     "abstract alloc as async await become box break const continue core crate do dyn else enum ensures extern false"
@@ -42,15 +44,15 @@ DEFINITIONS = (
     " tcoe then unfold unfoldable unfolding vin vproj with yes"
 )
 KEPT_WORDS = set(f"{RUST} {DEFINITIONS}".split())
-INPUT = """{"cmd":"put","title":"Rain","date":"2024-05-01 10:00:00"}
+INPUT = """{"cmd":"put","title":"Rain","content":"CONTENT","date":"2024-05-01 10:00:00"}
 {"cmd":"activate","plugin":"NAME"}
 {"cmd":"get","path":"/"}
 """
-OUTPUT = """ok 1
-ok
-page 200 14
-<h2>Rain!</h2>
-"""
+# The content of the post in that, and its page.
+SHOWN = {
+    "exclaim": ("", "<h2>Rain!</h2>"),
+    "gallery": ("[NAME ids=7]", '<h2>Rain</h2><div class="NAME"><img src="/media/7.jpg" style="width:33%"></div>'),
+}
 NEXT = """made crates/NAME and crates/NAME_site. Next:
 
     cd crates/NAME_site && rt try < stdin         serves the lines of stdin with it, before any proof
@@ -91,10 +93,13 @@ EXAMPLES = {
             "callback_store hook_changes plain_data",
             [" docs/PLUGINS.md begins with\n//! it, and `./new-plugin` makes a new plugin's crate from it."],
         ),
-        Example(
-            "notices",
-            "callback_store hook_changes shortcode_atts page_escapes plain_data",
-            ["\n//! docs/PLUGINS.md goes through it."],
+        *(
+            Example(
+                name,
+                "callback_store hook_changes shortcode_atts page_escapes plain_data",
+                ["\n//! docs/PLUGINS.md goes through it."],
+            )
+            for name in ("notices", "gallery")
         ),
     )
 }
@@ -150,30 +155,37 @@ def refusal(name: str, example: Example) -> str | None:
     if name in toolchain_crates():
         return f"the toolchain has a crate {name}"
     if {name, title_of(name)} & words_of(example):
-        return f"{name} is a word of the example's code, crates/{example.name}; choose another name"
+        return f"{name} is a word of the example's code, crates/{example.crate}; choose another name"
     return None
 
 
 def make_library(name: str, example: Example) -> None:
     names = [(example.title, title_of(name)), (example.crate, name), (example.name, name)]
     changed = [(it, "") for it in example.remarks] + names
-    for folder in ("src", "specs", "wrong-bodies"):
-        for file in sorted((example.folder / folder).iterdir()):
-            target = CRATES / name / folder / file.name.replace(example.title, title_of(name))
+    for folder in ("src", "specs", "proofs", "wrong-bodies"):
+        for file in sorted(it for it in (example.folder / folder).rglob("*") if it.is_file()):
+            target = (
+                CRATES
+                / name
+                / file.relative_to(example.folder).parent
+                / file.name.replace(example.title, title_of(name))
+            )
             copied(file, target, changed)
 
 
 def make_program(name: str, example: Example) -> None:
     """Makes the program, whose input shows the plugin at work."""
-    site, program = CRATES / f"{name}_site", CRATES / PROGRAM
-    words = [(" docs/PLUGINS.md goes through it.", ""), ("example_notices", name), ("notices", name)]
-    copied(program / "src" / "main.rt", site / "src" / "main.rt", words)
+    site = CRATES / f"{name}_site"
+    words = [("example_notices", name), ("notices", name)]
+    copied(TEMPLATE / "main.rt.txt", site / "src" / "main.rt", words)
     if example.name == "notices":
         for file in ("stdin", "stdout"):
-            copied(program / file, site / file, words)
+            copied(TEMPLATE / f"{file}.txt", site / file, words)
     else:
-        (site / "stdin").write_text(INPUT.replace("NAME", name), encoding="utf-8")
-        (site / "stdout").write_text(OUTPUT, encoding="utf-8")
+        content, page = (it.replace("NAME", name) for it in SHOWN[example.name])
+        given = INPUT.replace("CONTENT", content).replace("NAME", name)
+        (site / "stdin").write_text(given, encoding="utf-8")
+        (site / "stdout").write_text(f"ok 1\nok\npage 200 {len(page)}\n{page}\n", encoding="utf-8")
 
 
 def make(name: str, example: Example) -> None:

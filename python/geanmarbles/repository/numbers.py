@@ -21,5 +21,5 @@ def numbers() -> dict[str, int]:
         "definitions": text_in("*/specs/**/*.antt").count("\n"),
         "proofs": text_in("*/proofs/**/*.antt").count("\n"),
         "functions": len(FUNCTION.findall(text_in("*/src/**/*.rt"))),
-        "wrong bodies": len(list(CRATES.glob("*/wrong-bodies/*.edit")) + list(CRATES.glob("*/must-fail/*.edit"))),
+        "wrong bodies": len(list(CRATES.glob("*/wrong-bodies/*.edit"))),
     }

@@ -11,26 +11,27 @@ from collections.abc import Generator, Iterator
 from pathlib import Path
 from typing import Any
 
-from geanmarbles.client.program import Ended, NoReply, Program
+from geanmarbles.client.program import Program
+from geanmarbles.client.replies import Ended, NoReply
 
 
 class NotKept(Exception):
     """Why a site in a file can't be read or edited."""
 
 
-def check_site(program: str, database: Path) -> None:
+def check_site(program: list[str], database: Path) -> None:
     """Makes sure that a file is a site of the program, and that nothing serves it. The site is then whole in FILE: a
     start without any line copies what an earlier program has left in FILE-wal."""
     if not database.is_file():
         raise NotKept(f"there is no file {database}")
-    words = [program, "--database", str(database), "--must-exist"]
+    words = [*program, "--database", str(database), "--must-exist"]
     how: dict[str, Any] = {"stdin": subprocess.DEVNULL, "stdout": subprocess.DEVNULL, "stderr": subprocess.PIPE}
     ran = subprocess.run(words, check=False, **how)
     if ran.returncode:
         raise NotKept(ran.stderr.decode(errors="replace").strip() or f"the program ended with status {ran.returncode}")
 
 
-def history(program: str, database: Path) -> list[bytes]:
+def history(program: list[str], database: Path) -> list[bytes]:
     """The edits of a site, the oldest first: every line that was done, byte for byte."""
     check_site(program, database)
     with tempfile.TemporaryDirectory() as folder:
@@ -57,11 +58,11 @@ def remove(database: Path) -> None:
         path.unlink(missing_ok=True)
 
 
-def carried_out(program: str, database: Path, lines: list[bytes]) -> Generator[str, None, None]:
+def carried_out(program: list[str], database: Path, lines: list[bytes]) -> Generator[str, None, None]:
     """The replies of the program over a file to some edits, which it carries out one by one. After the last one the
     program has ended, and the site is whole in FILE."""
     try:
-        with Program(program, "--database", str(database)) as site:
+        with Program(*program, "--database", str(database)) as site:
             for line in lines:
                 yield site.ask(line).text()
     except (Ended, NoReply) as error:

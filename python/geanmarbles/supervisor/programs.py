@@ -1,18 +1,15 @@
-"""The programs that serve a site: one that carries out its edits, and readers beside it over the same lines.
+"""The program that serves a site, and the next one for each that ends.
 
 A program ends after 1,000,000 lines. So the next one takes its place some lines before, and so it does if a program has
-ended for another reason: a page that it owed is asked of the next. A site that lasts is in its file, which the program
-that carries out the edits has; all other programs are in memory, and are given the lines that rebuild the site: those
-that `--export` prints, and then each edit that was done.
+ended for another reason: a page that it owed is asked of the next. A site that lasts is in its file; the next program
+of a site in memory is given each edit that was done.
 
 Whoever asks for the edits that a site is made of gets them from here, since nobody else can read a file that a program
 has: they are read from it before a program is started, and each that is done is noted.
 """
 
 import json
-import queue
 import subprocess
-import sys
 import threading
 from collections.abc import Callable, Iterable, Iterator, Sequence
 from contextlib import contextmanager
@@ -20,7 +17,8 @@ from pathlib import Path
 from typing import Self
 
 from geanmarbles.client.log import STYLE, Page, as_html, tree_of
-from geanmarbles.client.program import END_SECONDS, LINES, LINE_BYTES, Ended, NoReply, Program, Reply, get_line
+from geanmarbles.client.program import END_SECONDS, LINES, LINE_BYTES, Program, get_line
+from geanmarbles.client.replies import Ended, NoReply, Reply
 from geanmarbles.client.watched import Watched
 from geanmarbles.supervisor.kept import NotKept, history
 
@@ -166,50 +164,41 @@ class Place:
 
 
 class Site:
-    """A site over some programs. It ends with the `with` block that it is made for.
+    """A site over some programs, which `words` start. It ends with the `with` block that it is made for.
 
-    With `database` it is the one in that file, else it is in memory. `readers` programs print its pages, or if there
-    are none the one that carries out the edits. With `notes_edits` it can be asked for its edits.
-    """
+    With `database` it is the one in that file, else it is in memory. With `notes_edits` it can be asked for
+    its edits."""
 
     def __init__(
         self,
-        path: str,
+        words: list[str],
         database: str | None = None,
-        readers: int = 0,
         most: int = LINES,
         kind: type[Plain] = Plain,
         notes_edits: bool = False,
     ) -> None:
-        self.path, self.database, self.kind, self.most = path, database, kind, most
+        self.words, self.database, self.kind, self.most = words, database, kind, most
         # Every edit that the site in a file is made of, if anybody may ask for them.
         self.notes_edits = notes_edits and database is not None
         self.noted: list[bytes] = []
-        # The lines that rebuild the site, if any program needs them.
-        self.is_told = readers > 0 or database is None
+        # The edits that were done to a site in memory.
         self.history: list[bytes] = []
-        self.exported_lines = 0
         self.editing = threading.Lock()
         self.writer = Place(self.started_writer, kind, most)
-        self.readers = [Place(self.started_reader, kind, most) for _ in range(readers)]
-        # The places that print pages, as far as none is busy.
-        self.free: queue.Queue[Place] = queue.Queue()
+        # Held by whoever asks the program for something.
+        self.asking = threading.Lock()
         # Why no program can be started any more.
         self.fault: Exception | None = None
 
     def __enter__(self) -> Self:
         try:
             self.read_again()
-            for place in self.places():
-                self.free.put(place)
         except BaseException:
             self.__exit__()
             raise
         return self
 
     def __exit__(self, *_: object) -> None:
-        for place in self.readers:
-            place.kill()
         if self.database is None:
             self.writer.kill()
         elif self.editing.acquire(timeout=END_SECONDS):
@@ -217,10 +206,6 @@ class Site:
             self.writer.end()
         else:
             self.writer.kill()
-
-    def places(self) -> list[Place]:
-        """The places that print pages."""
-        return self.readers or [self.writer]
 
     def has_ended(self) -> bool:
         return self.fault is not None
@@ -230,33 +215,19 @@ class Site:
         assert self.database is not None
         return self.database
 
-    def exported(self) -> list[bytes]:
-        """The lines that rebuild the site in the file, which no program may have meanwhile."""
-        words = [self.path, "--database", self.file(), "--export"]
-        ran = subprocess.run(words, stdin=subprocess.DEVNULL, capture_output=True)
-        if ran.returncode:
-            sys.stderr.write(ran.stderr.decode(errors="replace"))
-            raise NotServed(f"--database {self.database} --export ended with status {ran.returncode}")
-        return ran.stdout.splitlines()
-
     def edits_in_the_file(self) -> list[bytes]:
         """The edits of the site in the file, which no program may have meanwhile; a file that isn't there has none."""
         try:
-            return history(self.path, Path(self.file())) if Path(self.file()).exists() else []
+            return history(self.words, Path(self.file())) if Path(self.file()).exists() else []
         except NotKept as fault:
             raise NotServed(fault) from None
 
     def started_writer(self) -> Program:
-        if self.database is None:
-            return self.started_reader()
-        return self.started(("--database", self.database), [])
-
-    def started_reader(self) -> Program:
-        return self.started((), self.history)
+        return self.started(("--database", self.database) if self.database else (), self.history)
 
     def started(self, options: Sequence[str], lines: Iterable[bytes]) -> Program:
         """A program that has carried out some lines."""
-        program = self.kind.start(self.path, *options)
+        program = self.kind.start(*self.words, *options)
         try:
             program.check(FIRST_SECONDS)
             for line in lines:
@@ -276,40 +247,33 @@ class Site:
             return list(self.noted if self.notes_edits else self.history)
 
     def read_again(self) -> None:
-        """Starts all programs anew, over what the file has by now."""
+        """Starts the program anew, over what the file has by now."""
         self.writer.end()
         if self.notes_edits:
             self.noted = self.edits_in_the_file()
-        if self.database and self.is_told:
-            self.history = self.exported()
-            self.exported_lines = len(self.history)
-        for place in (self.writer, *self.readers):
-            place.renew()
+        self.writer.renew()
 
     @contextmanager
-    def taken(self, count: int) -> Iterator[list[Place]]:
-        """Some places, which no page is asked of until the block ends. If a program can't be started, the site is
-        gone."""
-        places = [self.free.get() for _ in range(count)]
-        try:
-            yield places
-        except (NoReply, NotServed) as fault:
-            self.fault = fault
-            raise
-        finally:
-            for place in places:
-                self.free.put(place)
+    def taken(self) -> Iterator[Place]:
+        """The program's place, of which nothing else is asked until the block ends. If no program can be started, the
+        site is gone."""
+        with self.asking:
+            try:
+                yield self.writer
+            except (NoReply, NotServed) as fault:
+                self.fault = fault
+                raise
 
     def get(self, path: str) -> Reply:
         """The reply to a request for a path."""
-        with self.taken(1) as [place]:
+        with self.taken() as place:
             return place.get(path)
 
     def edit(self, line: bytes) -> Reply:
         """The reply to a line, which may be any command. Once it is there, all pages are those after the line."""
         if len(line) > LINE_BYTES:
             raise ValueError(f"a line of {len(line)} bytes, and at most {LINE_BYTES} are read")
-        with self.editing, self.taken(0 if self.readers else 1):
+        with self.editing, self.taken():
             return self.carried_out(line)
 
     def carried_out(self, line: bytes) -> Reply:
@@ -317,33 +281,11 @@ class Site:
         try:
             reply = self.writer.carry_out(line)
         except Ended:
-            with self.taken(len(self.readers)):
-                self.read_again()
+            self.read_again()
             raise Unknown from None
         if reply.words[0] == "ok" and is_edit(line):
             if self.notes_edits:
                 self.noted.append(line)
-            if self.is_told:
+            if self.database is None:
                 self.history.append(line)
-                self.tell(line, reply)
         return reply
-
-    def tell(self, line: bytes, reply: Reply) -> None:
-        """Has each reader carry out an edit, all before any of them prints another page."""
-        with self.taken(len(self.readers)):
-            if self.database and len(self.history) > (self.exported_lines + self.most) // 2:
-                # What all edits come to is most often a shorter list.
-                self.read_again()
-                return
-            for place in self.readers:
-                self.tell_one(place, line, reply)
-
-    @staticmethod
-    def tell_one(place: Place, line: bytes, reply: Reply) -> None:
-        """A reader that can't carry out the edit as the writer has is replaced by one that is given all lines."""
-        try:
-            is_done = place.is_ready() and place.carry_out(line) == reply
-        except Ended:
-            is_done = False
-        if not is_done:
-            place.renew()

@@ -1,8 +1,7 @@
 """A site that is served, edited and read through what serves it: a node of a cluster, examples/browse, or for edits
 alone examples/serve.
 
-docs/CLUSTER.md has what a node takes and replies, and web.edit_requests what
-examples/browse takes besides.
+docs/CLUSTER.md has what a node takes and replies, and web.edit_requests what examples/browse takes besides.
 """
 
 import contextlib
@@ -59,7 +58,7 @@ def history_at(address: str, token: str) -> list[bytes]:
         raise NotKept(f"{address}: {getattr(error, 'reason', error) or type(error).__name__}") from None
 
 
-def history_of(program: str, site: str, token_file: Path | None) -> list[bytes]:
+def history_of(program: list[str], site: str, token_file: Path | None) -> list[bytes]:
     """The edits of a site in a file that nothing serves, or of one at an address."""
     if is_address(site):
         return history_at(site, token_in(token_file))

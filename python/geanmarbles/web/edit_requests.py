@@ -1,7 +1,7 @@
 """Edits that come to examples/browse by HTTP: who may make them, what a request may hold, and what became of it.
 
-A request and its response have the form that those of a node of a cluster
-have (docs/CLUSTER.md, Requests), so one client serves both:
+A request and its response have the form that those of a node of a cluster have (docs/CLUSTER.md, Requests), so one
+client serves both:
 
     POST /command    edits, one a line, with Authorization: Bearer TOKEN; the replies, one a line
     GET /history     with the same token, every edit that the site is made of, one a line, as it was given
@@ -16,7 +16,7 @@ from collections import OrderedDict
 from pathlib import Path
 from typing import NamedTuple
 
-from geanmarbles.client.program import NoReply
+from geanmarbles.client.replies import NoReply
 from geanmarbles.supervisor.programs import NotServed, Site, Unknown
 from geanmarbles.web.edit_bodies import Bad, key_of
 

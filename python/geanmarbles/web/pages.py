@@ -32,7 +32,7 @@ from functools import lru_cache
 from http import HTTPStatus
 from typing import Any, Self
 
-from geanmarbles.client.program import Reply
+from geanmarbles.client.replies import Reply
 from geanmarbles.web.heads import BadHead, Fields, Head, head_of
 from geanmarbles.web.streams import Stream
 

@@ -1,8 +1,7 @@
 """The addresses that a WordPress site had: of posts and pages, of lists by term, author and date, of feeds.
 
-Posts and pages have their addresses in the export; those of lists follow
-from them, by the rules that the Permalinks page of WordPress's handbook gives. A path here has its characters, not
-their `%XX`.
+Posts and pages have their addresses in the export; those of lists follow from them, by the rules that the Permalinks
+page of WordPress's handbook gives. A path here has its characters, not their `%XX`.
 """
 
 import re
@@ -10,8 +9,9 @@ import unicodedata
 from collections import Counter
 from functools import lru_cache
 from typing import NamedTuple
-from urllib.parse import quote, unquote, urlsplit
+from urllib.parse import quote, unquote
 
+from geanmarbles.wordpress.harmless import split
 from geanmarbles.wordpress.items import Item, Term, WholeSite, same_address
 
 # The longest name of a file.
@@ -31,7 +31,7 @@ class Places:
 
     def __init__(self, site: WholeSite, bases: Bases = Bases()) -> None:
         self.site = site
-        self.home = unquote(urlsplit(site.address).path).rstrip("/") + "/"
+        self.home = unquote(split(site.address).path).rstrip("/") + "/"
         patterns: Counter[tuple[str, ...]] = Counter()
         with_slash = 0
         for it in site.of_kind("post"):
@@ -57,7 +57,7 @@ class Places:
 
     def own(self, item: Item) -> str:
         """The path that the export gives an item, or an empty text if it has none of its own."""
-        parts = urlsplit(item.link)
+        parts = split(item.link)
         if not item.link or parts.query or not same_address(item.link, self.site.address):
             return ""
         return path_or_none(unquote(parts.path)) or ""
@@ -84,7 +84,7 @@ class Places:
                 made += [] if made[-1:] == ["%category%"] else ["%category%"]
             elif name in known and known[name] not in made:
                 made.append(known[name])
-            elif name == author_slug(item.author):
+            elif name == self.author_slug(item.author):
                 made.append("%author%")
             elif is_last and name.startswith(unquote(item.slug)):
                 made.append("%postname%" + name[len(unquote(item.slug)) :])
@@ -122,7 +122,12 @@ class Places:
         return self.ended(self.tags + names[-1]) if term.domain == "post_tag" else ""
 
     def author(self, login: str) -> str:
-        return self.ended(f"{self.before}author/{author_slug(login)}")
+        return self.ended(f"{self.before}author/{self.author_slug(login)}")
+
+    def author_slug(self, login: str) -> str:
+        """The name of an author's page: the given one, or else what WordPress makes of a login."""
+        made = re.sub(r"[^a-z0-9_-]", "", re.sub(r"[\s.]+", "-", login[:50].lower()))
+        return self.site.author_slugs.get(login, re.sub(r"-+", "-", made).strip("-"))
 
     def date(self, *parts: str) -> str:
         """The path of a year's, a month's or a day's list."""
@@ -143,11 +148,6 @@ class Places:
     @staticmethod
     def feed(path: str) -> str:
         return f"{path.rstrip('/')}/feed" + ("/" if path.endswith("/") else "")
-
-
-def author_slug(login: str) -> str:
-    """The name of an author's page, as WordPress makes it of a login if nobody has given another."""
-    return re.sub(r"-+", "-", re.sub(r"[^a-z0-9_-]", "", re.sub(r"[\s.@]+", "-", login.lower()))).strip("-")
 
 
 def slug_of(title: str) -> str:

@@ -1,18 +1,17 @@
-"""What `from_wordpress --as-shown` adds to an import: texts as WordPress shows them, the front, the menu, the words.
-"""
+"""What an export becomes in an import: texts as WordPress shows them, the front, the menu, the words."""
 
 import re
 from collections import Counter
-from collections.abc import Callable
+from collections.abc import Callable, Mapping
 from datetime import datetime
 from html import escape, unescape
-from pathlib import Path
+from types import MappingProxyType
 from typing import Any, NamedTuple
-from urllib.parse import urlsplit
 
 from geanmarbles.wordpress.addresses import Places
-from geanmarbles.wordpress.harmless import is_harmless
-from geanmarbles.wordpress.items import Item, read_site
+from geanmarbles.wordpress.export import Refused
+from geanmarbles.wordpress.harmless import is_harmless, split
+from geanmarbles.wordpress.items import AUTHOR_SLUGS, Item, WholeSite
 from geanmarbles.wordpress.shown import Notes, Shown, trimmed
 from geanmarbles.wordpress.words import month_and_year, words_of
 
@@ -20,8 +19,6 @@ from geanmarbles.wordpress.words import month_and_year, words_of
 DEPTH = 8
 # What a menu's name has if it is the one that a site shows at the top of its pages.
 MAIN = ("main", "primary", "header", "haupt", "principal", "hoofd", "top")
-# What is left out of a post without this option, and is in its page with it.
-SHOWN = {"featured image", "parent", "order", "language"}
 
 
 # The number, the address and the label of each entry below one, by its number.
@@ -36,35 +33,55 @@ class Wishes(NamedTuple):
     posts_page: str = ""
     # Shortcodes that a plugin of the program has.
     tags: frozenset[str] = frozenset()
+    # How many posts a part of a list has, or 0 if that isn't said, and the names of authors' pages by login.
+    per_page: int = 0
+    authors: Mapping[str, str] = MappingProxyType({})
 
 
 class Archive:
     """An export as an archive: `carried` has the IDs of the posts and pages that are carried over."""
 
-    def __init__(self, path: Path, carried: set[int], wishes: Wishes) -> None:
-        self.site = read_site(path)
+    def __init__(self, site: WholeSite, carried: set[int], wishes: Wishes) -> None:
+        self.site = site
+        if unknown := [it for it in wishes.authors if it not in self.site.authors]:
+            raise Refused(f"--author: the export has no author with the login {unknown[0]!r}")
+        self.site.author_slugs = dict(wishes.authors)
         self.wishes, self.carried = wishes, carried
         self.words = words_of(self.site.language)
         note = self.words["form"] if not wishes.contact else self.words["write"]
         self.places = Places(self.site)
         self.shown = Shown(self.site, carried, self.places, Notes(note, wishes.contact, wishes.tags))
         self.public = {it for it in carried if self.site.items[it].is_public()}
+        # (looked for once, since each link asks for it)
+        self.front = self.site.front()
         self.menu_name = ""
-        # The lists of links that only an archive has: its menu, or if there is none its pages, and its months by name.
-        self.lists = {"menu": self.menu() or self.pages(), "months": self.months()}
+        # The lists of links that templates can have: the menu, or if there is none the pages, and the months by name.
+        pages = self.pages()
+        self.lists = {"menu": self.menu() or pages, "months": self.months(), "pages": pages}
 
     def entry(self, entry: dict[str, Any]) -> tuple[dict[str, Any], dict[str, Counter[str]]]:
         """A post or page with its texts as WordPress shows them, and what of them isn't."""
         content = self.shown.content(entry["id"], entry["content"])
         return {**entry, "title": self.shown.title(entry["title"]), "content": content}, self.shown.left
 
+    def per_page(self) -> int:
+        """How many posts a part of a list has, or 0 if nobody says it. An export doesn't, but perhaps for a
+        template of the site editor: newer versions keep the setting in its list of posts."""
+        templates = "".join(it.content for it in self.site.of_kind("wp_template") if it.status == "publish")
+        lists = (it for it in re.findall(r"<!-- wp:query (\{.*?\}) -->", templates) if '"inherit":true' in it)
+        numbers = (re.search(r'"perPage":([1-9]\d?|100)\b', it) for it in lists)
+        return self.wishes.per_page or next((int(it[1]) for it in numbers if it), 0)
+
     def options(self) -> dict[str, str]:
-        """The options that say what the front shows, and which page lists the posts beside it."""
-        front = self.site.front()
-        if front is None or front.number not in self.public:
-            return {}
-        made = {"show_on_front": "page", "page_on_front": str(front.number)}
-        posts = self.posts_page(front)
+        """The options that say what the front shows, which page lists the posts beside it, and what `publish` has to
+        know of addresses."""
+        slugs = "\n".join(f"{login}={slug}" for login, slug in self.wishes.authors.items())
+        given = {"posts_per_page": str(self.per_page() or ""), AUTHOR_SLUGS: slugs}
+        made = {name: value for name, value in given.items() if value}
+        if self.front is None or self.front.number not in self.public:
+            return made
+        made |= {"show_on_front": "page", "page_on_front": str(self.front.number)}
+        posts = self.posts_page(self.front)
         return {**made, "page_for_posts": str(posts.number)} if posts else made
 
     def posts_page(self, front: Item) -> Item | None:
@@ -73,7 +90,7 @@ class Archive:
         pages = [it for it in self.site.of_kind("page") if it.number in self.public and it is not front]
         if self.wishes.posts_page:
             wanted = trimmed(self.wishes.posts_page)
-            return next((it for it in pages if wanted in (trimmed(it.slug), trimmed(urlsplit(it.link).path))), None)
+            return next((it for it in pages if wanted in (trimmed(it.slug), trimmed(split(it.link).path))), None)
         empty = [it for it in pages if not it.content.strip()]
         return empty[0] if len(empty) == 1 else None
 
@@ -118,8 +135,7 @@ class Archive:
 
     def target(self, item: Item) -> str:
         """The address that the program has for a post or page."""
-        front = self.site.front()
-        if front is not None and item.number == front.number:
+        if self.front is not None and item.number == self.front.number:
             return self.places.home
         return f"/?{'p' if item.kind == 'post' else 'page_id'}={item.number}"
 

@@ -3,6 +3,7 @@
 import re
 from collections.abc import Iterator
 from html import escape, unescape
+from urllib.parse import SplitResult, urlsplit
 
 from geanmarbles.wordpress.texts import TAGS
 
@@ -38,6 +39,14 @@ ALLOWED = {
     "ol": (),
     "li": (),
 }
+
+
+def split(address: str) -> SplitResult:
+    """The parts of an address. One that has none, such as `http://[`, is all path."""
+    try:
+        return urlsplit(address)
+    except ValueError:
+        return SplitResult("", "", address, "", "")
 
 
 def as_read(address: str) -> str | None:

@@ -1,27 +1,23 @@
 """What an export has of a site beside the texts of its posts: addresses, terms, authors, comments, menus, files.
 
-The file is read piece by piece, and what isn't asked for is dropped at
-once. Items and comments are put into a temporary database if there is one: then memory grows with terms and authors
-alone. A document type is refused, as it is when the same file is imported.
+An item is looked at as soon as it has been read. Items and comments are put into a temporary database if there is one:
+then memory grows with terms and authors alone.
 """
 
 import re
-from collections.abc import Callable, Iterator
+from collections.abc import Callable, Iterator, Mapping
 from dataclasses import dataclass, field
 from html import unescape
 from pathlib import Path
 from sys import intern
 from typing import Any
-from urllib.parse import urlsplit
-from xml.parsers import expat
 
 from geanmarbles.disk_tables import Disk, DiskDict
-from geanmarbles.wordpress.export import SPACES, Refused, short
-from geanmarbles.wordpress.harmless import is_harmless
+from geanmarbles.wordpress.export import Element, Reader, Refused
+from geanmarbles.wordpress.harmless import is_harmless, split
 
-PIECE_BYTES = 1 << 16
-# The largest text of an element that is kept: the longest content that the program takes, and some more.
-TEXT_BYTES = 1 << 20
+# The option that has the names of authors' pages: in each line a login, `=` and the name.
+AUTHOR_SLUGS = "author_slugs"
 # The custom fields that are kept; others can be long.
 KEPT_FIELDS = re.compile(
     r"_thumbnail_id|_wp_attachment_(?:metadata|image_alt)|_menu_item_\w+|_wp_old_slug|_yoast_wpseo_metadesc"
@@ -107,10 +103,21 @@ class WholeSite:
     terms: dict[tuple[str, str], Term] = field(default_factory=dict)
     # Display names and numbers, by login.
     authors: dict[str, str] = field(default_factory=dict)
+    # The names of authors' pages, by login, as far as they aren't made of it.
+    author_slugs: dict[str, str] = field(default_factory=dict)
     author_numbers: dict[str, int] = field(default_factory=dict)
 
+    def must_have_address(self, path: Path) -> None:
+        if not split(self.address).netloc:
+            raise Refused(f"{path}: this is no WordPress export: it doesn't say what the site's address is")
+
+    def take_options(self, options: Mapping[str, str]) -> None:
+        """Takes what the import has written into the site's options for the archive that is made of both."""
+        lines = options.get(AUTHOR_SLUGS, "").splitlines()
+        self.author_slugs = {login: slug for login, _, slug in (it.rpartition("=") for it in lines)}
+
     def host(self) -> str:
-        return urlsplit(self.address).netloc.lower().removeprefix("www.")
+        return host_of(self.address)
 
     def of_kind(self, kind: str) -> Iterator[Item]:
         return (it for it in self.items.values() if it.kind == kind)
@@ -129,94 +136,27 @@ class WholeSite:
 
     def front(self) -> Item | None:
         """The page that the site has at its own address, if one is there."""
-        home = urlsplit(self.address).path.strip("/")
-        pages = (it for it in self.of_kind("page") if it.is_public() and it.link)
-        return next(
-            (
-                it
-                for it in pages
-                if same_address(it.link, self.address)
-                and not urlsplit(it.link).query
-                and urlsplit(it.link).path.strip("/") == home
-            ),
-            None,
-        )
+        home = split(self.address).path.strip("/")
+        for it in self.of_kind("page"):
+            at = split(it.link)
+            if it.is_public() and same_address(it.link, self.address) and (at.path.strip("/"), at.query) == (home, ""):
+                return it
+        return None
+
+
+def host_of(address: str) -> str:
+    """The host of an address, without www."""
+    return split(address).netloc.lower().removeprefix("www.")
 
 
 def same_address(one: str, other: str) -> bool:
     """Whether two addresses are of one host, with or without www."""
-    hosts = [urlsplit(it).netloc.lower().removeprefix("www.") for it in (one, other)]
-    return hosts[0] == hosts[1]
+    return host_of(one) == host_of(other)
 
 
 def whole_number(text: str) -> int:
     text = text.strip()
     return int(text) if re.fullmatch(r"-?[0-9]{1,10}", text) else 0
-
-
-class Element:
-    """An element of the channel, or within one: its texts by name, and its children."""
-
-    def __init__(self, name: str, attributes: dict[str, str]) -> None:
-        self.name, self.attributes = name, attributes
-        self.pieces: list[str] = []
-        self.size = 0
-        self.children: list["Element"] = []
-
-    def text(self) -> str:
-        return "".join(self.pieces)
-
-    def first(self, name: str) -> str:
-        return next((it.text() for it in self.children if it.name == name), "")
-
-
-class Reader:
-    """Hands each child of the channel on as soon as it has been read."""
-
-    def __init__(self, take: Callable[[Element], None], dropped: set[str]) -> None:
-        self.take, self.dropped = take, dropped
-        self.open: list[Element] = []
-        self.depth = 0
-        self.parser = expat.ParserCreate(namespace_separator=" ")
-        self.parser.buffer_text = True
-        self.parser.StartDoctypeDeclHandler = self.refuse
-        self.parser.StartElementHandler = self.begin
-        self.parser.EndElementHandler = self.end
-        self.parser.CharacterDataHandler = self.text
-
-    def refuse(self, *_: object) -> None:
-        raise Refused("a document type, which no export has, is refused")
-
-    def begin(self, name: str, attributes: dict[str, str]) -> None:
-        self.depth += 1
-        # The channel's children are at depth 3, what they have at 4, and what a comment or a field has at 5.
-        if 3 <= self.depth <= 5:
-            self.open.append(Element(short(name), attributes))
-
-    def text(self, text: str) -> None:
-        if self.open and len(self.open) == self.depth - 2:
-            at = self.open[-1]
-            if at.name not in self.dropped and at.size + len(text) <= TEXT_BYTES:
-                at.pieces.append(text)
-                at.size += len(text)
-
-    def end(self, _: str) -> None:
-        if 3 <= self.depth <= 5:
-            ended = self.open.pop()
-            if self.open:
-                self.open[-1].children.append(ended)
-            else:
-                self.take(ended)
-        self.depth -= 1
-
-    def read(self, path: Path) -> None:
-        with path.open("rb") as file:
-            head = file.read(4)
-            file.seek(0)
-            is_bytewise = b"\0" not in head
-            while piece := file.read(PIECE_BYTES):
-                self.parser.Parse(piece.translate(SPACES) if is_bytewise else piece, False)
-            self.parser.Parse(b"", True)
 
 
 def comment_of(element: Element) -> Comment | None:
@@ -242,7 +182,7 @@ def comments_of(element: Element) -> list[Comment]:
 
 
 def item_of(element: Element, terms: dict[tuple[str, str], Term]) -> Item:
-    """An item of the channel. Its terms are those of `terms`, which gets those that it hasn't."""
+    """An item of the channel. Its terms are those of `terms`, which gets those that aren't there."""
     of = element.first
     made = Item(
         whole_number(of("wp:post_id")),
@@ -267,7 +207,7 @@ def item_of(element: Element, terms: dict[tuple[str, str], Term]) -> Item:
         if it.name == "category" and it.attributes.get("nicename"):
             # The names of terms are stored as they are printed, with their entities.
             name = it.attributes.get("domain", ""), it.attributes["nicename"]
-            made.terms.append(terms.setdefault(name, Term(0, *name, unescape(it.text()))))
+            made.terms.append(terms.setdefault(name, Term(0, *name, unescape(it.text))))
         elif it.name == "wp:postmeta" and KEPT_FIELDS.fullmatch(key := it.first("wp:meta_key").strip()):
             made.fields.setdefault(key, []).append(it.first("wp:meta_value"))
     return made
@@ -302,13 +242,8 @@ TEXTS = {
 }
 
 
-def read_site(path: Path, disk: Disk | None = None) -> WholeSite:
-    """Reads what an export has of a site: into memory with contents and without comments, or into a database with
-    comments and without contents."""
-    site = WholeSite()
-    if disk is not None:
-        # (comments can be many, and each page asks for those of its post once)
-        site.items, site.comments = DiskDict(disk), DiskDict(disk, at_hand=1)
+def taking(site: WholeSite, has_comments: bool) -> Callable[[Element], None]:
+    """What puts each child of an export's channel into a site, as far as it is looked at here."""
     named: dict[tuple[str, str], Term] = {}
 
     def take(element: Element) -> None:
@@ -317,7 +252,7 @@ def read_site(path: Path, disk: Disk | None = None) -> WholeSite:
             # Of two items with one ID the first that is carried over is meant, as when the export is imported.
             if item.number not in site.items or item.is_carried() and not site.items[item.number].is_carried():
                 site.items[item.number] = item
-                if disk is not None:
+                if has_comments:
                     site.comments[item.number] = comments_of(element)
         elif element.name in TERMS:
             term = term_of(element)
@@ -327,16 +262,17 @@ def read_site(path: Path, disk: Disk | None = None) -> WholeSite:
             site.authors[login] = element.first("wp:author_display_name").strip() or login
             site.author_numbers[login] = whole_number(element.first("wp:author_id"))
         elif element.name in TEXTS:
-            setattr(site, TEXTS[element.name], element.text().strip())
+            setattr(site, TEXTS[element.name], element.text.strip())
 
-    try:
-        Reader(take, {"content:encoded"} if disk is not None else {"wp:comment_content"}).read(path)
-    except expat.ExpatError as error:
-        raise Refused(f"{path}:{error.lineno}:{error.offset + 1}: the XML is at fault: {error}") from error
-    except OSError as error:
-        raise Refused(f"{path}: {error.strerror}") from error
-    if not urlsplit(site.address).netloc:
-        raise Refused(f"{path}: this is no WordPress export: it doesn't say what the site's address is")
+    return take
+
+
+def read_site(path: Path, disk: Disk) -> WholeSite:
+    """Reads what an export has of a site into a database, with comments and without contents."""
+    # (comments can be many, and each page asks for those of its post once)
+    site = WholeSite(items=DiskDict(disk), comments=DiskDict(disk, at_hand=1))
+    Reader(path, taking(site, True), {"content:encoded"}).read()
+    site.must_have_address(path)
     return site
 
 

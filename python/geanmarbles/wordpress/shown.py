@@ -1,8 +1,7 @@
 """Contents as WordPress shows them: captions, galleries, sound, film, builders' tags, blocks, links within the site.
 
-The order is that in which WordPress works: marks for lists and parts,
-blocks, typography and paragraphs, and shortcodes, whose output is held aside meanwhile so that no paragraph breaks
-it.
+The order is that in which WordPress works: marks for lists and parts, blocks, typography and paragraphs, and
+shortcodes, whose output is held aside meanwhile so that no paragraph breaks it.
 """
 
 import json
@@ -12,20 +11,23 @@ from collections import Counter
 from collections.abc import Callable
 from html import escape, unescape
 from typing import NamedTuple
-from urllib.parse import unquote, urlsplit
+from urllib.parse import unquote
 
 from geanmarbles.wordpress.addresses import Places
-from geanmarbles.wordpress.contents import CORE
-from geanmarbles.wordpress.harmless import harmless, is_harmless
-from geanmarbles.wordpress.items import Item, WholeSite, pictures_of
+from geanmarbles.wordpress.harmless import SCHEME, harmless, is_harmless, split
+from geanmarbles.wordpress.items import Item, WholeSite, host_of, pictures_of
 from geanmarbles.wordpress.texts import TAGS, paragraphs, quotes_of, texturize, with_characters
 
+# The shortcodes of WordPress itself; the others are those of plugins.
+CORE = set("audio caption embed gallery playlist video wp_caption".split())
 TOKEN = re.compile(r"(?<!\[)\[(/?)([A-Za-z][\w-]*)([^\[\]]*?)(/?)\](?!\])")
 # A shortcode of WordPress in two brackets, which shows itself.
 ESCAPED = re.compile(r"\[(\[/?(?:" + "|".join(sorted(CORE)) + r")\b[^\[\]]*\])\]")
 ATTRIBUTE = re.compile(r"(?<![\w-])([\w-]+)\s*=\s*(?:\"([^\"]*)\"|'([^']*)'|([^\s'\"]+))")
 PART = "<!--nextpage-->"
 MORE = re.compile(r"<!--more([^<>]*)-->")
+# What WordPress leaves out, on a post's own page, with all that comes before the mark above.
+NO_TEASER = "<!--noteaser-->"
 MARK_BLOCKS = re.compile(r"<!-- /?wp:(?:more|nextpage)\b[^<>]*-->\n?")
 # How deep shortcodes are looked for within shortcodes, and reusable blocks within such blocks.
 DEPTH = 6
@@ -44,6 +46,7 @@ EMPTY_BLOCKS = {"spacer", "separator", "more", "nextpage", "block", "paragraph"}
 LINKED = re.compile(r"\b(href|src|poster|action|srcset|data-src|data-full-url|data-link)(\s*=\s*)(\"[^\"]*\"|'[^']*')")
 # Entities, but for those of the signs that make tags.
 ENTITIES = re.compile(r"&(?!(?:lt|gt|#0*60|#0*62|#x0*3[ce]);)#?\w{1,30};", re.I)
+MAIL = re.compile(r"[^\s@:/?]+@[^\s@:/?]+\.[^\s@:/?]+")
 # How many posts the block of the newest posts shows if it doesn't say.
 LATEST = 5
 # What shows a picture or a file of the site.
@@ -55,31 +58,8 @@ FORMS = set(
     " et_pb_contact_form et_pb_signup".split()
 )
 # What the tags of page builders begin with, and those of them that one has to know by name.
-BUILDERS = (
-    "et_pb_",
-    "vc_",
-    "fusion_",
-    "av_",
-    "cs_",
-    "mk_",
-    "ux_",
-    "tatsu_",
-    "fl_builder_",
-    "cmsms_",
-    "rev_slider",
-    "thb_",
-)
-BUTTONS = {
-    "button",
-    "btn",
-    "vc_btn",
-    "vc_button",
-    "fusion_button",
-    "et_pb_button",
-    "av_button",
-    "su_button",
-    "ux_button",
-}
+BUILDERS = tuple("et_pb_ vc_ fusion_ av_ cs_ mk_ ux_ tatsu_ fl_builder_ cmsms_ rev_slider thb_".split())
+BUTTONS = set("button btn vc_btn vc_button fusion_button et_pb_button av_button su_button ux_button".split())
 # Shortcodes of plugins that show what an address of another host leads to.
 FILMS = set("youtube vimeo dailymotion soundcloud ted spotify instagram twitter facebook googlemaps slideshare".split())
 WEB_ADDRESS = re.compile(r"https?://[^\s\"'<>\[\]]+")
@@ -87,25 +67,7 @@ WEB_ADDRESS = re.compile(r"https?://[^\s\"'<>\[\]]+")
 SOURCES = ("src", "image_url", "image", "img")
 TARGETS = ("button_url", "url", "link", "href")
 LABELS = ("button_text", "text", "label", "title")
-SMILIES = {
-    ":)": "🙂",
-    ":-)": "🙂",
-    ":(": "🙁",
-    ":-(": "🙁",
-    ";)": "😉",
-    ";-)": "😉",
-    ":D": "😀",
-    ":-D": "😀",
-    ":P": "😛",
-    ":-P": "😛",
-    ":o": "😮",
-    ":-o": "😮",
-    "8-)": "😎",
-    ":|": "😐",
-    ":-|": "😐",
-    ":?": "😕",
-    ":-?": "😕",
-}
+SMILIES = dict(zip(":) :-) :( :-( ;) ;-) :D :-D :P :-P :o :-o 8-) :| :-| :? :-?".split(), "🙂🙂🙁🙁😉😉😀😀😛😛😮😮😎😐😐😕😕"))
 SMILEY = re.compile(
     r"(?:(?<=\s)|^)(" + "|".join(sorted((re.escape(it) for it in SMILIES), key=len, reverse=True)) + r")(?=\s|$)"
 )
@@ -158,15 +120,13 @@ class Addresses:
     """Where the addresses of the old site lead to in the program."""
 
     def __init__(self, site: WholeSite, carried: set[int], places: Places) -> None:
-        self.hosts = {urlsplit(it).netloc.lower().removeprefix("www.") for it in (site.address, site.files_address)} - {
-            ""
-        }
-        self.home = urlsplit(site.address).path.rstrip("/") + "/"
+        self.hosts = {host_of(it) for it in (site.address, site.files_address)} - {""}
+        self.home = split(site.address).path.rstrip("/") + "/"
         self.paths: dict[str, str] = {}
         self.files = {it.number: it.file for it in site.of_kind("attachment") if it.file}
         self.kinds = {it: site.items[it].kind for it in carried}
         for item in site.items.values():
-            path = urlsplit(item.link).path
+            path = split(item.link).path
             if item.number in carried and path.strip("/") != self.home.strip("/"):
                 self.paths[trimmed(path)] = f"/?{'p' if item.kind == 'post' else 'page_id'}={item.number}"
             elif item.kind == "attachment" and item.file:
@@ -194,20 +154,12 @@ class Addresses:
     def local(self, address: str) -> str:
         """An address of the site without its host; any other as it is."""
         address = address.strip()
-        parts = urlsplit(address if not address.startswith("//") else "http:" + address)
+        parts = split(address if not address.startswith("//") else "http:" + address)
         if (cached := CACHED.fullmatch(parts.netloc + parts.path)) and cached[1].removeprefix("www.") in self.hosts:
             # A picture of the site that a service of another host hands on at another size.
             return cached[2]
-        if (
-            parts.netloc
-            and parts.netloc.lower().removeprefix("www.") in self.hosts
-            and parts.scheme in ("http", "https")
-        ):
-            return (
-                (parts.path or "/")
-                + (f"?{parts.query}" if parts.query else "")
-                + (f"#{parts.fragment}" if parts.fragment else "")
-            )
+        if parts.scheme in ("http", "https") and parts.netloc.lower().removeprefix("www.") in self.hosts:
+            return parts._replace(scheme="", netloc="", path=parts.path or "/").geturl()
         return address
 
     def link(self, address: str) -> str:
@@ -271,7 +223,9 @@ class Shown:
         """The content of a post or page, with its featured image before it."""
         self.number, self.held, self.left = number, [], {}
         text = text.replace("\r\n", "\n").replace("\x01", "")
-        text = MORE.sub(lambda it: more_mark(number, it[1].strip()), text, count=1)
+        no_teaser = NO_TEASER if NO_TEASER in text else ""
+        text = text.replace(NO_TEASER, "")
+        text = MORE.sub(lambda it: more_mark(number, it[1].strip()) + no_teaser, text, count=1)
         text = MARK_BLOCKS.sub("", text)
         parts = [self.part(it) for it in text.split(PART)]
         shown = self.featured() + f"\n{PART}\n".join(parts)
@@ -285,8 +239,8 @@ class Shown:
     def part(self, text: str) -> str:
         has_blocks = "<!-- wp:" in text
         text = self.without_blocks(text, 0) if has_blocks else text
-        text = EMBED.sub(lambda it: it[1] + self.hold(anchor(it[2])) + it[3], text)
-        text = ADDRESS_LINE.sub(lambda it: self.hold(f"<p>{anchor(it[1])}</p>", not has_blocks), text)
+        text = EMBED.sub(lambda it: it[1] + self.hold(self.anchor(it[2])) + it[3], text)
+        text = ADDRESS_LINE.sub(lambda it: self.hold(f"<p>{self.anchor(it[1])}</p>", not has_blocks), text)
         text = ESCAPED.sub(lambda it: self.hold(it[1]), text)
         text = self.with_codes(text, not has_blocks, 0)
         text = texturize(text, self.quotes)
@@ -384,24 +338,17 @@ class Shown:
 
     def code(self, code: Code) -> str | None:
         """What is shown for one shortcode, or None if its text stays."""
-        makers: dict[str, Callable[[dict[str, str], str], str]] = {
-            "caption": self.caption,
-            "wp_caption": self.caption,
-            "gallery": self.gallery,
-            "audio": self.audio,
-            "video": self.video,
-            "playlist": self.playlist,
-            "embed": self.embed,
-        }
-        if code.name in makers:
+        if code.name in CORE:
+            # (each is the name of a method)
+            make: Callable[[dict[str, str], str], str] = getattr(self, code.name.removeprefix("wp_"))
             # A closing tag of its own closes nothing, and shows nothing.
-            return "" if code.is_end else self.hold(makers[code.name](code.given, code.inner), code.is_block)
+            return "" if code.is_end else self.hold(make(code.given, code.inner), code.is_block)
         if code.name in FORMS:
             if not code.is_end:
                 self.note("form", code.name)
             return "" if code.is_end else self.hold(self.form(), code.is_block)
         if code.name in FILMS and (address := WEB_ADDRESS.search(f"{code.rest} {code.inner}")):
-            return self.hold(f"<p>{anchor(unescape(address[0]))}</p>", code.is_block)
+            return self.hold(f"<p>{self.anchor(address[0])}</p>", code.is_block)
         if code.name in BUTTONS and not code.is_end and (to := one_of(code.given, TARGETS)):
             return self.button(code, to)
         if code.name.startswith(BUILDERS):
@@ -413,7 +360,7 @@ class Shown:
         """A link in the look of a button; a builder's is a paragraph of its own."""
         label = code.inner.strip() or escape(unescape(one_of(code.given, LABELS)), quote=False)
         shown = self.with_codes(label, False, code.depth + 1)
-        html = f'<a class="button" href="{quoted(self.addresses.link(target_of(to)))}">{shown}</a>'
+        html = f'<a class="button" href="{quoted(self.link(target_of(to)))}">{shown}</a>'
         if not code.name.startswith(BUILDERS):
             return html
         return self.hold(f"<p>{texturize(html, self.quotes)}</p>", code.is_block)
@@ -457,7 +404,7 @@ class Shown:
                 # A picture without a text of its own gives its link no name, which those who hear the page need.
                 name = f' aria-label="{escape(named(item))}"' if 'alt=""' in picture else ""
                 picture = f'<a href="{quoted(self.address(item.file))}"{name}>{picture}</a>'
-            text = texturize(item.excerpt.strip(), self.quotes)
+            text = self.with_links(texturize(item.excerpt.strip(), self.quotes))
             caption = f'<figcaption class="wp-caption-text gallery-caption">{text}</figcaption>' if text else ""
             figures.append(f'<figure class="gallery-item"><div class="gallery-icon">{picture}</div>{caption}</figure>')
         if not figures:
@@ -477,14 +424,30 @@ class Shown:
 
     def address(self, address: str) -> str:
         """The address of a file of the site, which is noted as needed."""
-        address = self.addresses.local(address)
-        self.need(address)
-        return address
+        return self.needed(self.addresses.local(address))
 
-    def need(self, address: str) -> None:
-        path = address.partition("?")[0].partition("#")[0]
-        if UPLOADS in path and path.startswith("/") and not path.startswith("//"):
-            self.files.add(path)
+    def needed(self, address: str) -> str:
+        """An address, which is noted if it is that of a file of the site: then its spaces are written as `%20`."""
+        path = address.partition("?")[0].partition("#")[0].replace(" ", "%20")
+        if UPLOADS not in path or not path.startswith("/") or path.startswith("//"):
+            return address
+        self.files.add(path)
+        return address.replace(" ", "%20")
+
+    def link(self, address: str) -> str:
+        """Where a link leads to; it is noted if nothing is there."""
+        to = self.needed(self.addresses.link(address))
+        if to.startswith("/") and not to.startswith("//") and not self.addresses.is_known(to):
+            self.note("link that leads nowhere", to)
+        return to
+
+    def anchor(self, address: str) -> str:
+        """A link to an address that stands for what it leads to: of a post of the site that is its title."""
+        to = self.link(unescape(address))
+        number = re.fullmatch(r"/\?(?:p|page_id)=(\d+)", to)
+        post = self.site.items[int(number[1])] if number else None
+        title = self.title(post.title) if post and post.is_public() else ""
+        return f'<a href="{quoted(to)}">{title or escape(unescape(address), quote=False)}</a>'
 
     def audio(self, given: dict[str, str], _: str) -> str:
         return self.player("audio", given, ("src", "mp3", "m4a", "ogg", "oga", "wav", "flac", "wma"))
@@ -499,7 +462,7 @@ class Shown:
             return ""
         source = unescape(source)
         if kind == "video" and re.match(r"https?://(?:www\.)?(?:youtube\.com|youtu\.be|vimeo\.com)/", source):
-            return f"<p>{anchor(source)}</p>"
+            return f"<p>{self.anchor(source)}</p>"
         shown = given.get("poster", "")
         poster = f' poster="{quoted(self.address(shown))}"' if shown and is_harmless(shown) else ""
         return f'<{kind} controls preload="none"{poster} src="{quoted(self.address(source))}"></{kind}>'
@@ -515,7 +478,7 @@ class Shown:
 
     def embed(self, given: dict[str, str], inner: str) -> str:
         source = unescape(inner.strip() or given.get("src", ""))
-        return f"<p>{anchor(source)}</p>" if re.match(r"https?://[^\s<>\"']+\Z", source) else escape(source)
+        return f"<p>{self.anchor(source)}</p>" if re.match(r"https?://[^\s<>\"']+\Z", source) else escape(source)
 
     def form(self) -> str:
         contact = self.notes.contact
@@ -547,16 +510,11 @@ class Shown:
             listed = [it.strip().partition(" ") for it in value.split(",")]
             shown = ", ".join(f"{self.address(unescape(it[0]))} {it[2]}".strip() for it in listed if it[0])
         elif name in ("href", "action"):
-            shown = self.addresses.link(unescape(value))
-            self.need(shown)
-            if shown.startswith("/") and not shown.startswith("//") and not self.addresses.is_known(shown):
-                self.note("link that leads nowhere", shown)
+            shown = self.link(unescape(value))
         else:
             shown = self.address(unescape(value))
             if name == "src" and re.match(r"(?:https?:)?//", shown):
-                self.note(
-                    "image of another host" if is_picture(shown) else "file of another host", urlsplit(shown).netloc
-                )
+                self.note("image of another host" if is_picture(shown) else "file of another host", split(shown).netloc)
         return f"{name}{found[2]}{mark}{escape(shown)}{mark}"
 
 
@@ -588,10 +546,14 @@ def target_of(given: str) -> str:
 
 
 def social_link(given: str) -> str:
-    to, service = (setting(given, name) for name in ("url", "service"))
+    to, service, label = (setting(given, name) for name in ("url", "service", "label"))
     if not to or not is_harmless(to):
         return ""
-    name = service.capitalize() or urlsplit(to).netloc
+    name = label or service.capitalize() or split(to).netloc or to
+    if MAIL.fullmatch(to):
+        to = f"mailto:{to}"
+    elif not SCHEME.match(to) and not to.startswith(("/", "#")):
+        to = f"https://{to}"
     return f'<li class="wp-social-link"><a href="{quoted(to)}">{escape(name)}</a></li>'
 
 
@@ -604,13 +566,8 @@ def setting(given: str, name: str) -> str:
         return ""
 
 
-def anchor(address: str) -> str:
-    """A link to an address that stands for what it leads to."""
-    return f'<a href="{quoted(address)}">{escape(unescape(address), quote=False)}</a>'
-
-
 def is_picture(address: str) -> bool:
-    return re.search(r"\.(?:jpe?g|png|gif|webp|svg|avif|bmp|ico)\Z", urlsplit(address).path, re.I) is not None
+    return re.search(r"\.(?:jpe?g|png|gif|webp|svg|avif|bmp|ico)\Z", split(address).path, re.I) is not None
 
 
 def outside_of_literals(text: str, change: Callable[[str], str]) -> str:

@@ -1,8 +1,8 @@
 """Texts as WordPress shows them: typographic quotes and dashes in titles and contents, paragraphs in classic contents.
 
-What WordPress does is described in its Code Reference, under
-`wptexturize` and `wpautop`; tests/from_wordpress compares what these functions give with what those give. Each walks
-once over the tags and the texts between them, so its time grows with the length of a text.
+What WordPress does is described in its Code Reference, under `wptexturize` and `wpautop`; tests/from_wordpress compares
+what these functions give with what those give. Each walks once over the tags and the texts between them, so its time
+grows with the length of a text.
 """
 
 import re

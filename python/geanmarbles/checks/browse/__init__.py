@@ -1,1 +1,1 @@
-"""examples/browse and examples/pages, as a browser sees them."""
+"""examples/browse, as a browser sees it."""

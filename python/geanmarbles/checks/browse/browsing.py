@@ -17,8 +17,8 @@ from collections.abc import Mapping
 from pathlib import Path
 from typing import Any, NamedTuple, Self
 
-from geanmarbles.client.program import Reply, pipe, read_reply
-from geanmarbles.client.replies import Wrong
+from geanmarbles.client.program import pipe
+from geanmarbles.client.replies import Reply, Wrong, read_reply
 from geanmarbles.paths import EXAMPLES
 
 SECONDS = 30

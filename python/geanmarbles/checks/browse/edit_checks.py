@@ -93,14 +93,13 @@ def tokens_are_read(program: str) -> None:
 def edits_are_carried_out(program: str) -> None:
     """each line has its reply, all pages are those after it, and the history has what was done, byte for byte"""
     lines = [put_line("T"), b'{"cmd":"edit","id":7}', b' {"cmd": "edit", "id":1, "title":"U"}\r', put_line("V")]
-    for words in ((), ("--readers", "2")):
-        with served(program, *words) as browse:
-            response = edit(browse, b"\n".join(lines))
-            expect_plain(response, 200, b"ok 1\nrefused 3 NoSuchPost\nok\nok 2\n", "the replies")
-            expect({browse.ask("/?p=1").body for _ in range(4)}, {page_of("U")}, "the page after them")
-            done = [lines[0], *lines[2:]]
-            expect(edits_of(browse), done, "the history")
-            expect(browse.ask("/command").status, 404, "the program's page at that path")
+    with served(program) as browse:
+        response = edit(browse, b"\n".join(lines))
+        expect_plain(response, 200, b"ok 1\nrefused 3 NoSuchPost\nok\nok 2\n", "the replies")
+        expect({browse.ask("/?p=1").body for _ in range(4)}, {page_of("U")}, "the page after them")
+        done = [lines[0], *lines[2:]]
+        expect(edits_of(browse), done, "the history")
+        expect(browse.ask("/command").status, 404, "the program's page at that path")
     with tempfile.TemporaryDirectory() as folder:
         token, database = Path(folder, "token"), str(Path(folder, "site.db"))
         token.write_text(TOKEN, encoding="ascii")

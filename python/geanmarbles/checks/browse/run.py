@@ -1,11 +1,10 @@
-"""Serves sites by examples/browse and asks for their pages, and writes pages by examples/pages.
+"""Serves sites by examples/browse and asks for their pages.
 
     tests/browse/run [PROGRAM]
 
-PROGRAM is the one that is here, built or shipped, if it is left out; with --unproved a script takes the place of the
-toolchain's command and runs PROGRAM, so nothing is compiled here. Each check is a function below, named by its first
-line, and fails if something came otherwise than it must. The pages that examples/bakery.out has are what a browser
-must get. The last line is 'N passed, M failed', over the checks. The exit status is 0 if nothing failed.
+PROGRAM is the one that is here, built or shipped, if it is left out. Each check is a function below, named by its first
+line, and fails if something came otherwise than it must. The pages that examples/bakery.out has are what a browser must
+get. The last line is 'N passed, M failed', over the checks. The exit status is 0 if nothing failed.
 """
 
 import contextlib
@@ -28,12 +27,11 @@ from typing import Any
 
 from geanmarbles.checks.browse import edit_checks
 from geanmarbles.checks.browse.browsing import PLAIN, SECONDS, Browse, Response, expect, expect_plain, ran
-from geanmarbles.checks.cluster.processes import wait_for
 from geanmarbles.checks.judging import Counts, must
-from geanmarbles.checks.programs import executable, missing, parser_of, with_toolchain, without_toolchain
+from geanmarbles.checks.programs import executable, missing, parser_of
 from geanmarbles.client.log import printed, read_pages, tree_of
-from geanmarbles.client.program import Reply, lines_of, pipe, read_reply
-from geanmarbles.client.replies import Wrong
+from geanmarbles.client.program import lines_of, pipe
+from geanmarbles.client.replies import Reply, Wrong, read_reply
 from geanmarbles.paths import EXAMPLES
 
 # How long examples/browse waits for a client.
@@ -310,30 +308,6 @@ def other_programs_are_told(_program: str) -> None:
             expect(ran("browse", "--program", path, "--port", "0"), (1, "", told), path)
 
 
-def pages_are_made_beforehand(program: str) -> None:
-    """--unproved serves the pages that a command file names, and says of any other that it has none"""
-    with tempfile.TemporaryDirectory() as folder:
-        env = with_toolchain(folder, program)
-        with Browse(None, "--unproved", env=env) as browse:
-            for path, reply in bakery().items():
-                expect_page(browse.ask(path), reply, path)
-            expect(browse.ask("/?p=5").status, 200, "the status of a post that no line asks for")
-            response = browse.ask("/?p=77")
-            expect((response.status, response.kind), (503, PLAIN), "a path that nothing names")
-            expect(b"wasn't made beforehand" in response.body, True, "what is said of it")
-            expect("not proved" in browse.errors(), True, "standard error says that nothing is proved")
-        runs = Path(folder, "rt.log").read_text(encoding="utf-8").splitlines()
-        expect(len(runs), 1, "how often the sources were compiled")
-        bad = Path(folder, "bad.jsonl")
-        bad.write_bytes(SPIN + b'{"cmd":"activate","plugin":"nope"}\n')
-        came = ran("browse", "--unproved", "--port", "0", bad, env=env)
-        wanted = (1, f"browse: {bad}, line 3: refused 6 UnknownPlugin")
-        expect((came[0], came[2].splitlines()[-1]), wanted, "a refused line")
-    with tempfile.TemporaryDirectory() as folder:
-        came = ran("browse", "--unproved", "--port", "0", env=without_toolchain(folder))
-    expect((came[0], "isn't on the PATH" in came[2]), (1, True), "status and message without the toolchain")
-
-
 def requests_come_in_parallel(program: str) -> None:
     """twenty requests at once, beside a connection that asks for nothing"""
     pages = bakery()
@@ -371,20 +345,12 @@ def refused_lines_are_told(program: str) -> None:
         expect(came, (1, "", f"browse: {commands}, line 3: refused 6 UnknownPlugin\n"), "status and what it wrote")
 
 
-def bad_arguments_are_told(program: str) -> None:
+def bad_arguments_are_told(_program: str) -> None:
     """bad arguments, and a program that isn't built"""
-    both = ["browse", "--unproved", "--program", program]
-    alone = (["--explain"], ["--readers", "1"], ["--edits"], ["--database", "x"], ["--token-file", "x"])
-    counts = (["--readers", "0"], ["--readers", "65"], ["--lines", "39"], ["--lines", "x"])
-    bad = [["browse", "--port", "x"], ["browse", "--port", "65536"], ["browse", "a", "b"], ["pages", "a"], both]
-    bad += [["browse", "--unproved", *words] for words in alone]
-    bad += [["browse", *words] for words in counts]
-    for words in bad:
-        expect(ran(*words)[:2], (2, ""), f"status and standard output of {words}")
-    instead = {"browse": ", and --unproved takes none", "pages": ""}
-    for words in (["browse"], ["pages", str(EXAMPLES / "bakery.jsonl"), "/nonexistent"]):
-        wanted = (1, "", f"{words[0]}: there is no program at /nonexistent; ./build builds it{instead[words[0]]}\n")
-        expect(ran(words[0], "--program", "/nonexistent", *words[1:]), wanted, f"{words[0]} without a program")
+    for words in (["--port", "x"], ["--port", "65536"], ["a", "b"], ["--lines", "39"], ["--lines", "x"]):
+        expect(ran("browse", *words)[:2], (2, ""), f"status and standard output of {words}")
+    wanted = (1, "", "browse: there is no program at /nonexistent; ./build builds it\n")
+    expect(ran("browse", "--program", "/nonexistent"), wanted, "without a program")
 
 
 def is_running(pid: int) -> bool:
@@ -493,49 +459,23 @@ def sites_last(program: str) -> None:
             expect(browse.ask("/").body, page_of("T"), "the front after it")
 
 
-def readers_agree(program: str) -> None:
-    """--readers: each page is one after the last edit, whichever program prints it, also while others ask for pages"""
-    with tempfile.TemporaryDirectory() as folder:
-        path, pids = traced(folder, program)
-        words = ("--database", str(Path(folder, "site.db")), "--readers", "3", "--edits")
-        with Browse(path, *words, given=subprocess.PIPE) as browse, ThreadPoolExecutor(8) as pool:
-            expect(len(pids()), 5, "programs: an export, one with the file and three readers")
-            for number in range(1, 16):
-                asked = [pool.submit(browse.ask, "/?p=1") for _ in range(8)]
-                expect(browse.edit(put_line(f"T{number}")).text(), f"ok {number}", "the reply to an edit")
-                for _ in range(6):
-                    expect(browse.ask(f"/?p={number}").body, page_of(f"T{number}"), f"the page of post {number}")
-                statuses = {it.result().status for it in asked}
-                expect(statuses <= ({404, 200} if number == 1 else {200}), True, f"statuses meanwhile: {statuses}")
-            browse.process.send_signal(signal.SIGUSR1)
-            told = re.compile(r"browse: 2\d\d pages in [\d.]+ s, [\d,]+ a second, by 3 programs\n")
-            wait_for(browse.said, SECONDS, "it says something")
-            expect(bool(told.fullmatch(browse.said())), True, f"what SIGUSR1 has it say: {browse.said()!r}")
-            status, said = browse.interrupted()
-            expect((status, len(told.findall(said))), (0, 2), f"status and report at the end: {said!r}")
-            expect([pid for pid, _ in pids() if is_running(pid)], [], "programs that run afterwards")
-
-
 def lines_are_counted(program: str) -> None:
     """each program is replaced before its last line, amid edits and pages, and no visitor is refused for it"""
     with tempfile.TemporaryDirectory() as folder:
         path, pids = traced(folder, program)
-        ways: list[list[str]] = [["--readers", "2"], []]
-        for count, readers in enumerate(ways):
-            database = str(Path(folder, f"{count}.db"))
-            words = ("--database", database, *readers, "--edits", "--lines", "40")
-            with Browse(path, *words, given=subprocess.PIPE) as browse, ThreadPoolExecutor(4) as pool:
-                before = len(pids())
-                expect(browse.edit(put_line("T")).text(), "ok 1", "the first edit")
-                for number in range(2, 30):
-                    asked = [pool.submit(browse.ask, "/?p=1") for _ in range(4)]
-                    line = json.dumps({"cmd": "edit", "id": 1, "title": f"T{number}"}).encode()
-                    expect(browse.edit(line).text(), "ok", f"edit {number}")
-                    expect({it.result().status for it in asked}, {200}, "statuses of pages")
-                    expect(browse.ask("/?p=1").body, page_of(f"T{number}"), f"the page after edit {number}")
-                expect(len(pids()) - before >= 4, True, f"only {len(pids()) - before} programs were started")
-                status, said = browse.interrupted()
-                expect((status, "refused" in said), (0, False), f"status and standard error: {said!r}")
+        words = ("--database", str(Path(folder, "site.db")), "--edits", "--lines", "40")
+        with Browse(path, *words, given=subprocess.PIPE) as browse, ThreadPoolExecutor(4) as pool:
+            before = len(pids())
+            expect(browse.edit(put_line("T")).text(), "ok 1", "the first edit")
+            for number in range(2, 30):
+                asked = [pool.submit(browse.ask, "/?p=1") for _ in range(4)]
+                line = json.dumps({"cmd": "edit", "id": 1, "title": f"T{number}"}).encode()
+                expect(browse.edit(line).text(), "ok", f"edit {number}")
+                expect({it.result().status for it in asked}, {200}, "statuses of pages")
+                expect(browse.ask("/?p=1").body, page_of(f"T{number}"), f"the page after edit {number}")
+            expect(len(pids()) - before >= 4, True, f"only {len(pids()) - before} programs were started")
+            status, said = browse.interrupted()
+            expect((status, "refused" in said), (0, False), f"status and standard error: {said!r}")
         many = Path(folder, "many.jsonl")
         many.write_bytes(put_line("T") + b"\n")
         with Browse(path, "--lines", "40", many) as browse:
@@ -547,7 +487,7 @@ def lost_replies_are_told(program: str) -> None:
     """if the program ends in an edit, it says that nobody knows whether it was done, and all pages agree afterwards"""
     with tempfile.TemporaryDirectory() as folder:
         path, pids = traced(folder, program)
-        words = ("--database", str(Path(folder, "site.db")), "--readers", "2", "--edits")
+        words = ("--database", str(Path(folder, "site.db")), "--edits")
         with Browse(path, *words, given=subprocess.PIPE) as browse:
             expect(browse.edit(put_line("T")).text(), "ok 1", "the first edit")
             [pid] = [pid for pid, words in pids() if "--database" in words and "--export" not in words]
@@ -560,40 +500,6 @@ def lost_replies_are_told(program: str) -> None:
             expect("line 2: the program ended before it had replied" in browse.said(), True, browse.said())
             expect({browse.ask(f"/?p={last}").body for _ in range(4)}, {page_of("V")}, "the page after it")
             expect(len({browse.ask("/?p=2").body for _ in range(4)}), 1, "how many pages of post 2 there are")
-
-
-def files_of(folder: str | Path) -> dict[str, bytes]:
-    return {path.name: path.read_bytes() for path in Path(folder).iterdir()}
-
-
-def pages_are_written(program: str) -> None:
-    """examples/pages writes each page once, and no file that is there"""
-    with tempfile.TemporaryDirectory() as name:
-        folder = Path(name, "pages")
-        words = ["--program", program, EXAMPLES / "bakery.jsonl", folder]
-        status, said, errors = ran("pages", *words)
-        expect((status, errors), (0, ""), "status and standard error")
-        written, pages = files_of(folder), bakery()
-        expect(sorted(written.values()), sorted(reply.page for reply in pages.values()), "the pages")
-        expect(written.get("5-200-p=4.html"), pages["/?p=4"].page, "the page of line 5")
-        lines = [f"{folder / name}" for name in sorted(written)]
-        expect([line.split()[0] for line in said.splitlines()], lines, "what it said it wrote")
-        min(folder.iterdir()).unlink()
-        kept = files_of(folder)
-        status, said, errors = ran("pages", *words)
-        expect((status, said, files_of(folder)), (1, "", kept), "status, output and files of a second run")
-
-
-def pages_by_turns_are_written(program: str) -> None:
-    """examples/pages names a page by turns after the path of its `begin`"""
-    with tempfile.TemporaryDirectory() as name:
-        status, said, errors = ran("pages", "--program", program, EXAMPLES / "turns.jsonl", name)
-        expect((status, errors), (0, ""), "status and standard error")
-        output = io.BytesIO((EXAMPLES / "turns.out").read_bytes())
-        replies = [read_reply(output) for _ in lines_of((EXAMPLES / "turns.jsonl").read_bytes())]
-        pages = [(number, it) for number, it in enumerate(replies, 1) if it.is_page()]
-        expect(files_of(name), {f"{number}-{it.words[1]}-p=1.html": it.page for number, it in pages}, "the pages")
-        expect(said.count('"/?p=1"'), len(pages), "how often it said the path")
 
 
 CHECKS = [
@@ -612,7 +518,6 @@ CHECKS = [
     stalled_connections_are_closed,
     other_hosts_are_refused,
     other_programs_are_told,
-    pages_are_made_beforehand,
     other_addresses_are_closed,
     taken_ports_are_told,
     refused_lines_are_told,
@@ -621,12 +526,9 @@ CHECKS = [
     ends_are_made_good,
     ends_are_told,
     sites_last,
-    readers_agree,
     lines_are_counted,
     lost_replies_are_told,
     *edit_checks.CHECKS,
-    pages_are_written,
-    pages_by_turns_are_written,
 ]
 
 

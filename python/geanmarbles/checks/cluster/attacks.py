@@ -2,7 +2,7 @@
 
 Each attack is bytes, with the status that has to come. Of one that is refused there is this one response, and the
 connection ends: what follows on it would otherwise be read as a request that nobody has sent. `failures` asks them all
-of a server, a bare node most often, and returns what came otherwise; the self-test has it notice servers that are lax.
+of a server, and returns what came otherwise.
 """
 
 from __future__ import annotations

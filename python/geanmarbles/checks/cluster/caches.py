@@ -4,14 +4,11 @@ before the nodes, which may not break what a read promises."""
 from __future__ import annotations
 
 import argparse
-import http.server
 import re
 import shutil
-import threading
 from collections.abc import Iterator, Sequence
-from contextlib import contextmanager
 from functools import partial
-from typing import Any, Protocol
+from typing import Protocol
 
 from geanmarbles.checks.cluster.clients import DATE, Answer, ask, joined, line_of
 from geanmarbles.checks.cluster.nodes import TOKEN, Cluster, Node
@@ -205,56 +202,6 @@ def behind_varnish(arguments: argparse.Namespace, max_age: int) -> None:
         print(f"caches: pages {told}: of {asked} plain pages Varnish had {hits}", flush=True)
 
 
-class Lax(http.server.BaseHTTPRequestHandler):
-    """A node that says nothing to caches: its revision grows with each edit."""
-
-    protocol_version = "HTTP/1.1"
-    revision = 1
-
-    def tell(self, **headers: str) -> None:
-        body = b"page"
-        self.send_response(200)
-        self.send_header("Content-Length", str(len(body)))
-        self.send_header("X-Site-Revision", str(Lax.revision))
-        for name, value in headers.items():
-            self.send_header(name.replace("_", "-"), value)
-        self.end_headers()
-        self.wfile.write(body)
-
-    def do_GET(self) -> None:
-        self.tell()
-
-    def do_POST(self) -> None:
-        self.rfile.read(int(self.headers["Content-Length"]))
-        Lax.revision += 1
-        self.tell(Set_Cookie=f"site_revision=0.{Lax.revision}")
-
-    def log_message(self, *_: Any) -> None:
-        """Nothing is logged."""
-
-
-@contextmanager
-def lax_node() -> Iterator[int]:
-    """The port of a node that says nothing to caches."""
-    with http.server.ThreadingHTTPServer(("127.0.0.1", 0), Lax) as server:
-        threading.Thread(target=server.serve_forever, daemon=True).start()
-        try:
-            yield server.server_port
-        finally:
-            server.shutdown()
-
-
-def notices_broken_promises(arguments: argparse.Namespace) -> None:
-    """behind the same Varnish a node that says nothing to caches breaks its promises, which is seen"""
-    need_varnish()
-    with Cluster(arguments.program, count=1) as cluster, lax_node() as port, Cache(cluster, port) as cache:
-        try:
-            keeps_promises(cache, plain_may_be_old=True)
-        except Wrong:
-            return
-    raise Wrong("broken promises aren't noticed")
-
-
 def of_tags(arguments: argparse.Namespace) -> Iterator[tuple[str | None, partial[None]]]:
     with Cluster(arguments.program, count=2) as cluster:
         tags = Tags(cluster)
@@ -266,4 +213,3 @@ def cases(arguments: argparse.Namespace) -> Cases:
     yield from of_tags(arguments)
     for max_age in (0, MAX_AGE):
         yield f"behind Varnish, pages kept for {max_age} s", partial(behind_varnish, arguments, max_age)
-    yield notices_broken_promises.__doc__, partial(notices_broken_promises, arguments)

@@ -1,14 +1,9 @@
-"""
+"""Checks what clients saw of a site on several machines against the history of its edits, and names what is wrong.
 
-from __future__ import annotationsChecks what clients saw of a site on several machines against the history of its
-edits, and names what is wrong.
+`violations_of` is given
 
-    tests/cluster/history FILE
-
-FILE has a JSON object with three keys:
-
-- `history`: the edits in the order that the cluster gave them, each as a pair of its revision and its name;
-- `operations`: what clients asked for. Each has `kind`, `start` and `end` (seconds of one clock; the end may be later
+- the history: the edits in the order that the cluster gave them, each as a pair of its revision and its name;
+- operations: what clients asked for. Each has `kind`, `start` and `end` (seconds of one clock; the end may be later
   than the truth, the start may be earlier) and `outcome`: `ok`, `unknown` if no answer came, so it may have happened at
   any time after the start, or `failed` if the answer was that nothing was done. Besides, if known:
   - an `edit`: its `name`, and once it is `ok` the `revision` and the `reply` that it was answered by, and `wanted`, the
@@ -17,10 +12,10 @@ FILE has a JSON object with three keys:
   - a `read`: the `node`, its `promise` (absent, a revision that the node waits for, or `fresh`), and once it is `ok`
     the `revision` and the `page`, and `wanted`, the page of a single program that is given the history up to that
     revision;
-- `pages`: by a node's name, what it has at the end; all nodes, and a single program that is given the history, must
+- pages: by a node's name, what it has at the end; all nodes, and a single program that is given the history, must
   have the same.
 
-It prints a line for each violation, its name first, and ends with status 1 if there is one:
+It names each violation:
 
 - lost: an edit that was acknowledged is not in the history;
 - doubled: an edit is in the history more than once;
@@ -40,15 +35,12 @@ It prints a line for each violation, its name first, and ends with status 1 if t
 - unequal: what nodes have at the end differs.
 """
 
-import argparse
+from __future__ import annotations
+
 import bisect
-import json
 import math
 from collections.abc import Iterable, Iterator, Sequence
-from pathlib import Path
 from typing import Any, NamedTuple
-
-from geanmarbles.arguments import Parser
 
 # What a client has done and seen: an edit or a read.
 Operation = dict[str, Any]
@@ -238,15 +230,3 @@ def unequal(pages: dict[str, str]) -> Iterator[Violation]:
 def violations_of(history: History, operations: list[Operation], pages: dict[str, str]) -> list[Violation]:
     """All violations of a history, of operations and of what the nodes have at the end."""
     return [*Checked(history, operations).violations(), *unequal(pages)]
-
-
-def main() -> int:
-    parser = Parser(description=__doc__, formatter_class=argparse.RawDescriptionHelpFormatter)
-    parser.add_argument("file", metavar="FILE", type=Path, help="a history and what clients saw")
-    given = json.loads(parser.parse_args().file.read_text(encoding="utf-8"))
-    found = violations_of(given["history"], given["operations"], given["pages"])
-    for violation in found:
-        print(violation)
-    edits, operations = len(given["history"]), len(given["operations"])
-    print(f"{edits} edits in the history, {operations} operations: {len(found)} violations")
-    return 1 if found else 0

@@ -14,29 +14,22 @@ import http.client
 import re
 import shutil
 import ssl
-import tempfile
-import threading
 import time
-from collections.abc import Iterator, Sequence
+from collections.abc import Sequence
 from concurrent.futures import ThreadPoolExecutor
-from contextlib import ExitStack, contextmanager
+from contextlib import ExitStack
 from functools import partial
 from pathlib import Path
 from typing import NamedTuple, Self
 
-from geanmarbles.checks.cluster import attacks, planted
 from geanmarbles.checks.cluster.caches import keeps_promises
 from geanmarbles.checks.cluster.clients import DATE, Answer, ask, joined, line_of
 from geanmarbles.checks.cluster.nodes import TOKEN, Cluster, Node
 from geanmarbles.checks.cluster.processes import Process, Processes, free_port, wait_for
-from geanmarbles.checks.cluster.raw import Response, asked
 from geanmarbles.checks.cluster.restarts import AROUND_SECONDS, Everywhere, Manager, Visitors, check_edits, restart
 from geanmarbles.checks.cluster.secured import Certificates
 from geanmarbles.checks.judging import Cases, Skipped, must
-from geanmarbles.client.program import Reply
-from geanmarbles.client.replies import Wrong
 from geanmarbles.paths import EXAMPLES
-from geanmarbles.web.pages import PageServer
 
 SECONDS, READY = 60, 20
 ADDRESS = "127.0.0.1"
@@ -51,8 +44,6 @@ http {{
 """
 # How many requests come at once where limits are tried: more than the file of either proxy allows an address.
 CROWD = 700
-# What HAProxy answers by itself with while it has no node.
-NO_NODE = b"No server is available to handle this request"
 
 
 class Ports(NamedTuple):
@@ -208,70 +199,7 @@ def limits(arguments: argparse.Namespace, name: str) -> None:
             with ThreadPoolExecutor(16) as pool:
                 statuses = [it.status for it in pool.map(lambda _: proxy.get("/"), range(CROWD))]
             must({429} < set(statuses) <= {200, 404, 429}, f"{set(statuses)} came")
-            wait_for(lambda: proxy.get("/").status in attacks.PAGE, SECONDS, "the address is served again", pause=1)
-
-
-class Noting(planted.Strict):
-    """A node that notes what it is asked, as far as the proxy before it hasn't sent that."""
-
-    hidden: list[bytes] = []
-
-    def page_of(self, path: str) -> tuple[Reply, dict[str, str]]:
-        # (HAProxy asks for health by itself.)
-        if "X-Forwarded-For" not in self.headers and path != "/health":
-            Noting.hidden.append(self.line)
-        return super().page_of(path)
-
-
-@contextmanager
-def noting() -> Iterator[int]:
-    """The port of a node that notes what no proxy has sent."""
-    with PageServer((ADDRESS, 0), Noting) as server:
-        thread = threading.Thread(target=server.serve_forever, daemon=True)
-        thread.start()
-        try:
-            yield server.server_port
-        finally:
-            server.end()
-            thread.join()
-
-
-def asked_of_node(address: tuple[str, int], request: bytes) -> tuple[list[Response], bool]:
-    """What comes of a request once the proxy has a node: HAProxy asks each second for its health, and answers by itself
-    while the last such answer was late, as it may be on a machine that has much else to do."""
-    until = time.monotonic() + SECONDS
-    while True:
-        responses, is_closed = asked(address, request)
-        if not any(NO_NODE in it.body for it in responses) or time.monotonic() > until:
-            return responses, is_closed
-        time.sleep(0.2)
-
-
-def hides_nothing(name: str) -> None:
-    """No request that is hidden in another one comes through a proxy, nor another client's answer."""
-    need(name, "openssl")
-    with ExitStack() as stack:
-        folder = stack.enter_context(tempfile.TemporaryDirectory(prefix="site-proxy-"))
-        processes, port = stack.enter_context(Processes(folder)), stack.enter_context(noting())
-        proxy = stack.enter_context(Proxy(name, processes, [port]))
-        Noting.hidden.clear()
-        address = ADDRESS, proxy.ports.plain
-        given = attacks.attacks(planted.TOKEN)
-        victim = b"GET /victim HTTP/1.1\r\nHost: x\r\nConnection: close\r\n\r\n"
-        statuses: dict[int, int] = {}
-        for attack in given:
-            # (nginx answers a line without a version as HTTP/0.9 did: by the page alone.)
-            with contextlib.suppress(OSError, Wrong):
-                responses, _ = asked(address, attack.sent)
-                for response in responses:
-                    statuses[response.status] = statuses.get(response.status, 0) + 1
-            responses, is_closed = asked_of_node(address, victim)
-            came = [(it.status, it.body) for it in responses]
-            must(came == [(200, b"page")] and is_closed, f"after {attack.name!r} another client has {came}")
-        must(not Noting.hidden, f"these came through: {Noting.hidden[:3]}")
-        asked((ADDRESS, port), victim)
-        must(len(Noting.hidden) == 1, "a request that no proxy has sent isn't noticed")
-        print(f"proxies: {len(given)} attacks through {name}: {dict(sorted(statuses.items()))}", flush=True)
+            wait_for(lambda: proxy.get("/").status in (200, 404), SECONDS, "the address is served again", pause=1)
 
 
 def rolls(arguments: argparse.Namespace, name: str, handed: bool) -> None:
@@ -317,7 +245,6 @@ def cases(arguments: argparse.Namespace) -> Cases:
     for name in WORDS:
         yield f"{name} sends on what it is to", partial(serves, arguments, name)
         yield f"{name} limits requests by address", partial(limits, arguments, name)
-        yield f"nothing hidden comes through {name}", partial(hides_nothing, name)
     yield "nodes are started anew behind nginx, by systemd's sockets", partial(rolls, arguments, "nginx", True)
     yield "nodes are started anew behind HAProxy, which asks for their health", partial(
         rolls, arguments, "haproxy", False

@@ -38,8 +38,6 @@ from geanmarbles.web.pages import MOST
 CLIENTS, SECONDS = 12, 30
 # How often a balancer asks for health, and for how long requests come before and after each start.
 HEALTH_SECONDS, AROUND_SECONDS = 0.1, 0.7
-# For how long a node that is to be killed is stopped before.
-STOPPED_SECONDS = 0.3
 # One of so many requests is an edit.
 EDITS = 8
 # How long a node may take to end, with requests under way and without.
@@ -204,28 +202,18 @@ def restart(node: Node, begun: Callable[[], None]) -> float:
     return spent
 
 
-def roll(arguments: argparse.Namespace, kills: bool) -> None:
-    """Starts each node anew in turn under load. If it is killed, requests must be lost, or nobody would see them."""
+def roll(arguments: argparse.Namespace) -> None:
+    """three nodes are started anew in turn under load, and no request is lost"""
     with Cluster(arguments.program) as cluster:
-        with Balancer(cluster.nodes) as balancer, Visitors(f"roll-{kills}", balancer) as visitors:
+        with Balancer(cluster.nodes) as balancer, Visitors("roll", balancer) as visitors:
             for node in cluster.nodes:
                 time.sleep(AROUND_SECONDS)
-                if kills:
-                    # What is asked of it while it is stopped is under way when it is killed.
-                    node.process.stop()
-                    time.sleep(STOPPED_SECONDS)
-                    node.process.kill()
-                    node.start()
-                    node.wait_until_ready()
-                else:
-                    restart(node, node.start)
+                restart(node, node.start)
             time.sleep(AROUND_SECONDS)
-        lost = visitors.lost()
-        must(bool(lost) == kills, f"{'killed' if kills else 'told to end'}, nodes lose {lost} of {visitors.told()}")
+        must(not visitors.lost(), f"nodes lose {visitors.lost()} of {visitors.told()}")
         must(visitors.came()["200"] > 100, f"only {visitors.came()} came")
-        print(f"restarts: three nodes {'killed' if kills else 'started anew'}: {visitors.told()}", flush=True)
-        if not kills:
-            check_edits(cluster, visitors)
+        print(f"restarts: three nodes started anew: {visitors.told()}", flush=True)
+        check_edits(cluster, visitors)
 
 
 def check_edits(cluster: Cluster, visitors: Visitors) -> None:
@@ -411,7 +399,5 @@ def bounds(_: argparse.Namespace) -> None:
 
 
 def cases(arguments: argparse.Namespace) -> Cases:
-    yield "three nodes are started anew in turn under load, and no request is lost", partial(roll, arguments, False)
-    yield "three nodes are killed in turn under load, and lost requests are seen", partial(roll, arguments, True)
-    for judged in (hand_over, ends_slowly, units, bounds):
+    for judged in (roll, hand_over, ends_slowly, units, bounds):
         yield judged.__doc__, partial(judged, arguments)

@@ -1,8 +1,6 @@
 """Runs sites on several machines, with real members of etcd and nodes on loopback, and ends, stops and cuts them.
 
     tests/cluster/run [--rounds N] [--seed N] [--part NAME] [--verbose] [--node NODE] [PROGRAM]
-    tests/cluster/run --self-test
-    tests/cluster/run --planted [PROGRAM]
 
 PROGRAM is the one that is here, built or shipped, if it is left out, and NODE cluster/node. Three members of etcd and
 three nodes are started for each check, or for a few rounds. The parts, three at a time, or one of them with --part:
@@ -32,9 +30,7 @@ three nodes are started for each check, or for a few rounds. The parts, three at
 In each round several clients edit and read at all nodes. Afterwards, all being up again, every edit that was
 acknowledged has to be in the history, once, in an order that fits when it was sent and acknowledged; replies and pages,
 each at its revision, have to be those of a single program that is given the history; reads have to be as new as
-promised; and all nodes have to end with equal pages. history.py is the check, and --self-test its own test, and that
-of the checks of a node's front (planted.py); it needs neither program nor etcd. With --planted nodes with a fault are
-run, which the checks of a node's front have to notice; that takes some minutes (planted_nodes.py).
+promised; and all nodes have to end with equal pages. history.py is the check.
 
 The seed of random rounds is printed, and is another one each time if --seed is left out; the moments at which things
 happen vary all the same. Without etcd nothing is run, which is said. Each process that is started is ended at the end.
@@ -51,7 +47,6 @@ import sys
 import time
 from concurrent.futures import Future, ThreadPoolExecutor, as_completed
 from functools import partial
-from itertools import chain
 from random import SystemRandom
 from typing import Any
 
@@ -63,13 +58,10 @@ from geanmarbles.checks.cluster import (
     loads,
     networks,
     nodes,
-    planted,
-    planted_nodes,
     programs_that_end,
     proxies,
     restarts,
     secured,
-    self_test,
     sight,
     snapshots,
     steady,
@@ -131,11 +123,7 @@ def read_arguments() -> argparse.Namespace:
     parser.add_argument("--seed", metavar="N", type=int, help="the seed of random rounds")
     parser.add_argument("--part", metavar="NAME", choices=PARTS, help=f"one part alone: {', '.join(PARTS)}")
     parser.add_argument("--node", metavar="NODE", type=absolute, default=nodes.NODE, help="another node")
-    parser.add_argument("--self-test", action="store_true", help="see that the checks notice faults")
     parser.add_argument("--verbose", action="store_true", help="tell how long each check takes")
-    parser.add_argument("--planted", action="store_true", help="see that the checks notice nodes with a fault")
-    # One check alone of a part, by what its name has.
-    parser.add_argument("--check", default="", help=argparse.SUPPRESS)
     # The rest of a part that starts this script anew, in namespaces of its own.
     parser.add_argument("--inside", action="store_true", help=argparse.SUPPRESS)
     arguments = parser.parse_args()
@@ -204,9 +192,7 @@ def main() -> int:
     counts, verbose = Counts(), arguments.verbose
     signal.signal(signal.SIGTERM, ended)
     signal.signal(signal.SIGHUP, ended)
-    if arguments.self_test:
-        judge_part(counts, "self-test", chain(self_test.cases(), planted.cases(), planted_nodes.sources()), verbose)
-    elif lacking(arguments):
+    if lacking(arguments):
         print(f"FAILED: {lacking(arguments)}\n0 passed, 1 failed")
         return 1
     elif not shutil.which("etcd") or not shutil.which("etcdctl"):
@@ -214,11 +200,8 @@ def main() -> int:
     else:
         nodes.NODE = arguments.node
         print(f"seed {arguments.seed}", flush=True)
-        if arguments.planted:
-            judge_part(counts, "planted", planted_nodes.cases(arguments), verbose)
-        elif arguments.part:
-            cases = (it for it in PARTS[arguments.part].cases(arguments) if arguments.check in (it[0] or ""))
-            judge_part(counts, arguments.part, cases, verbose)
+        if arguments.part:
+            judge_part(counts, arguments.part, PARTS[arguments.part].cases(arguments), verbose)
         else:
             Parts(arguments).judge(counts)
     return counts.end()

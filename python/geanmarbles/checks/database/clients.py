@@ -12,7 +12,7 @@ from typing import Any, Self
 from geanmarbles.checks import judging
 from geanmarbles.checks.fuzz.values import command_of
 from geanmarbles.client.program import pipe
-from geanmarbles.client.replies import Wrong, read_reply, refusal_of, shown, whole_replies
+from geanmarbles.client.replies import Wrong, read_replies, refusal_of, shown, whole_replies
 from geanmarbles.paths import TESTS
 
 HERE = TESTS / "database"
@@ -96,7 +96,7 @@ class Client:
         pipes: dict[str, Any] = {it: subprocess.PIPE for it in ("stdin", "stdout", "stderr")}
         self.child: subprocess.Popen[bytes] = subprocess.Popen([program, *words], bufsize=0, **pipes, **how)
         self.given, self.told, self.errors = map(pipe, (self.child.stdin, self.child.stdout, self.child.stderr))
-        self.output = b""
+        self.output, self.ready = b"", list[bytes]()
         self.timers: list[threading.Timer] = []
         self.killed_in(SECONDS)
 
@@ -130,15 +130,12 @@ class Client:
 
     def next_reply(self) -> bytes | None:
         """The next whole reply, or None if the program ended before it."""
-        while True:
-            reply = read_reply(self.output, 0)
-            if reply is not None:
-                self.output = self.output[len(reply) :]
-                return reply
+        while not self.ready:
             more = self.told.read(1 << 16)
             if not more:
                 return None
-            self.output += more
+            self.ready, self.output = read_replies(self.output + more)
+        return self.ready.pop(0)
 
     def ask(self, line: bytes) -> bytes | None:
         return self.next_reply() if self.send(line + b"\n") else None

@@ -124,16 +124,16 @@ def without_a_reader(program: str, file: Path) -> None:
         check_all_there(program, own, identity, lines)
 
 
-def wait_for(file: Path, count: int, child: subprocess.Popen[bytes], soon: float) -> None:
+def wait_for(file: Path, count: int, child: subprocess.Popen[bytes]) -> None:
     """Waits until the history has so many lines, while the program goes on."""
-    until = time.monotonic() + soon
+    until = time.monotonic() + SOON
     while (found := len(history(file))) < count:
         if time.monotonic() > until or child.poll() is not None:
             raise Wrong(f"{found} lines are in the file, wanted {count}, and the status is {child.poll()}")
         time.sleep(0.02)
 
 
-def never_read(program: str, file: Path, soon: float = SOON) -> None:
+def never_read(program: str, file: Path) -> None:
     """200 edits in one write, no reply of which is read: all are there while it waits, and after its end"""
     lines = edits(ONE_WRITE)
     for name in ("killed", "goes"):
@@ -144,7 +144,7 @@ def never_read(program: str, file: Path, soon: float = SOON) -> None:
             words = [program, *over(own)]
             with subprocess.Popen(words, stdin=given, stdout=ends[1], stderr=subprocess.PIPE) as child:
                 try:
-                    wait_for(own, 1 + len(lines), child, soon)
+                    wait_for(own, 1 + len(lines), child)
                     if name == "goes":
                         os.close(ends.pop(0))
                         check_end((child.wait(SECONDS), pipe(child.stderr).read()), 1, WRITE_FAILED)

@@ -1,7 +1,6 @@
 """Runs the program with --database, ends it in every way, and reads what is left by SQLite itself.
 
     tests/database/run [--rounds N] [--part NAME ..] [PROGRAM]
-    tests/database/run --self-test [PROGRAM]
 
 PROGRAM is the one that is here, built or shipped, if it is left out. SQLite is that of Python's own module; it always
 reads a copy of FILE and FILE-wal. The parts, in this order, or some of them, each after a --part:
@@ -28,10 +27,13 @@ reads a copy of FILE and FILE-wal. The parts, in this order, or some of them, ea
   at a moment. That isn't the newer one of the two only if both are of one moment, if FILE-wal has no commit, or if its
   last one leaves the database no shorter than FILE and it is of a moment before FILE's, or of another site; how often
   is printed;
-- salvage: examples/salvage over files with a line that was changed, a page that was overwritten, a log that was turned
-  or cut, and over sound ones: a front of the edits is saved, what is left is told, and the files stay as they are;
+- salvage: examples/salvage over files with lines that were changed or are gone, a page that was overwritten, a log that
+  was turned or cut, files that were cut or set to zero, and sound ones: all sound edits are saved, what is left is
+  named, what a start says is told, and the files stay as they are;
 - check: --check and --export tell how many edits a file has, and their digest, as Python's hashlib finds it, and copy
-  nothing into FILE; files that are refused are left as they are; and the mode of new files;
+  nothing into FILE; files that are refused are left as they are; and the mode of new files. examples/backup, 33 times
+  while a client edits: all edits that were replied to before it are there, and the front is the site's after the last
+  of them; so it is if FILE-wal is copied into FILE amid a backup. What it can't copy or a start refuses is no backup;
 - replaced: FILE or FILE-wal is removed or replaced while the program has it: the program ends by name at the next line,
   which isn't carried out;
 - readme: the README's own example, with its `kill -9`;
@@ -40,16 +42,17 @@ reads a copy of FILE and FILE-wal. The parts, in this order, or some of them, ea
   and nothing that wasn't sent; and the next start gives the pages of those lines. In some rounds both files are copied
   while the program is stopped, and the copy is judged so.
 
-A kill doesn't test the disk: the kernel keeps what was written. With --self-test the checks are run over files that
-were doctored, with edits lost, doubled, in another order or changed, and must notice it.
+A kill doesn't test the disk: the kernel keeps what was written.
 
 The last line is 'N passed, M failed', over the checks and rounds, and the exit status is 0 if none failed.
 """
 
 import argparse
 from collections.abc import Callable
+from itertools import chain
 
 from geanmarbles.checks.database import (
+    backups,
     commits,
     damage,
     damage_checked,
@@ -63,7 +66,6 @@ from geanmarbles.checks.database import (
     readme,
     refused,
     replaced,
-    self_test,
 )
 from geanmarbles.checks.judging import Cases, Counts
 from geanmarbles.checks.programs import missing, parser_of
@@ -80,7 +82,7 @@ PARTS: dict[str, Callable[[str], Cases]] = {
     "file": damage.file_cases,
     "mixed": damage_mixed.cases,
     "salvage": damage_salvaged.cases,
-    "check": damage_checked.cases,
+    "check": lambda program: chain(damage_checked.cases(program), backups.cases(program)),
     "replaced": replaced.cases,
     "readme": readme.cases,
     "kills": kills.cases,
@@ -102,7 +104,6 @@ def read_arguments() -> argparse.Namespace:
     parser.add_argument("--rounds", metavar="N", type=int, default=kills.ROUNDS, help="how often the program is killed")
     some = f"some parts alone: {', '.join(PARTS)}"
     parser.add_argument("--part", metavar="NAME", action="append", choices=PARTS, help=some)
-    parser.add_argument("--self-test", action="store_true", help="see that the checks notice files that were doctored")
     return parser.parse_args()
 
 
@@ -111,9 +112,6 @@ def main() -> int:
     if missing(arguments.program):
         print(f"FAILED: {missing(arguments.program)}\n0 passed, 1 failed")
         return 1
-    if arguments.self_test:
-        judge_part(counts, "self-test", self_test.cases(arguments.program))
-    else:
-        for name in arguments.part or PARTS:
-            judge_part(counts, name, cases_of(name, arguments))
+    for name in arguments.part or PARTS:
+        judge_part(counts, name, cases_of(name, arguments))
     return counts.end()

@@ -1,4 +1,4 @@
-"""Checks of `from_wordpress --as-shown` and `publish` against what WordPress itself made of the same sites.
+"""Checks of `from_wordpress` and `publish` against what WordPress itself made of the same sites.
 
 It is a module, and runs nothing by itself. whole/NAME.xml is the export of a site that WordPress's own code has made,
 and whole/NAME.json what WordPress showed of it: the lines of text of each post and page, and each public address.
@@ -26,8 +26,6 @@ from geanmarbles.archive.check import file_of
 from geanmarbles.archive.html import shortened
 from geanmarbles.archive.search import file_number, words_in
 from geanmarbles.checks.cluster.processes import free_port, listens, wait_for
-from geanmarbles.checks.from_wordpress.access_checks import faults_of, faults_of_colours
-from geanmarbles.checks.from_wordpress.browser_checks import browser, check_in_browser
 from geanmarbles.checks.from_wordpress.page_lines import lines_of, outline_of
 from geanmarbles.checks.from_wordpress.text_cases import by_wordpress, cases
 from geanmarbles.checks.judging import Skipped, must
@@ -75,8 +73,8 @@ def shown_lines(title: str, parts: list[str]) -> list[str]:
 
 
 def imported(export: Path, *arguments: str) -> tuple[list[dict[str, Any]], str]:
-    """The commands of an export, and the report: as an archive, if no argument says otherwise."""
-    words = [EXAMPLES / "from_wordpress", *(arguments or ["--as-shown"]), export]
+    """The commands of an export, and the report."""
+    words = [str(EXAMPLES / "from_wordpress"), *arguments, str(export)]
     ran = subprocess.run(words, capture_output=True, timeout=SECONDS, check=False)
     must(ran.returncode == 0, f"from_wordpress ended with status {ran.returncode}: {ran.stderr.decode()[-400:]}")
     return [json.loads(it) for it in ran.stdout.splitlines()], ran.stderr.decode()
@@ -139,7 +137,7 @@ def check_import(site: Recorded) -> None:
     """No draft's text is lost, nothing is made of private posts, and links within the site are the program's own."""
     with tempfile.TemporaryDirectory() as folder:
         listed = Path(folder, "files.txt")
-        commands, report = imported(site.export, "--as-shown", "--files", str(listed))
+        commands, report = imported(site.export, "--files", str(listed))
         files = listed.read_text(encoding="utf-8").splitlines()
     text = json.dumps(commands, ensure_ascii=False)
     public = json.dumps([it for command in commands for it in command["site"]["posts"] if it["status"] == "publish"])
@@ -234,84 +232,6 @@ def check_addresses(program: Path, site: Recorded) -> None:
                 post = parts.path.removesuffix("feed/")
                 is_there = file_of(archive.root, post) or (unquote(post), "") in moved
             must(is_there, f"{address} leads to {to or 'nothing'}, which isn't there")
-
-
-# Pages that are at fault, and words of what must be said of each; `{}` is what a good page has in its middle.
-GOOD_PAGE = (
-    '<html lang="en"><head><title>T</title></head><body><header><nav aria-label="A"></nav></header>'
-    '<main>{}</main><footer><nav aria-label="B"></nav></footer></body></html>'
-)
-FAULTY = [
-    ("<h1>a</h1><h2>b</h2>", ""),
-    ("<article><h1>a</h1><h4>the author's</h4></article><h2>b</h2>", ""),
-    ("<h1>a</h1><h3>b</h3>", "comes after h1"),
-    ("<h2>b</h2><h1>a</h1>", "comes after no heading"),
-    ("<h1>a</h1><h1>b</h1>", "2 headings of the first level"),
-    ("<h1></h1>", "without words"),
-    ("<h1>a</h1><img src=x>", "without alt"),
-    ("<h1>a</h1><a href=x><img alt=''></a>", "a a without a name"),
-    ("<h1>a</h1><a href=x><img alt='b'></a><label>c <input></label><label for=d>e</label><input id=d>", ""),
-    ("<h1>a</h1><input>", "without a label"),
-    ("<h1>a</h1><button> </button>", "a button without a name"),
-    ("<h1>a</h1><nav aria-label=A></nav>", "navigations named"),
-    ("<h1>a</h1><main></main>", "2 main"),
-    ("<h1>a</h1><p id=x></p><p id=x></p>", "of two elements"),
-]
-# Styles that are at fault, and words of what must be said of each.
-STYLE = "body {{ color: #222; background: #fff; }} a {{ color: #04b; }} {}"
-FAINT = [
-    ("", ""),
-    ("p { color: #777; }", "contrast of 4.48"),
-    ("p { color: #767676; }", ""),
-    (".x { background: #333; }", "a link in .x"),
-    (".x { background: #111; color: #fff; } .x a { color: inherit; } .x img { opacity: 0.5; }", ".x has a contrast"),
-]
-
-
-def check_access_itself() -> None:
-    """Pages and styles that are at fault are noticed, and good ones aren't."""
-    for middle, wanted in FAULTY:
-        said = "; ".join(faults_of(GOOD_PAGE.format(middle), "en"))
-        must(wanted in said and bool(said) == bool(wanted), f"{middle!r}: {said!r}")
-    must("its language" in "; ".join(faults_of(GOOD_PAGE.format("<h1>a</h1>"), "fr")), "a language isn't noticed")
-    for more, wanted in FAINT:
-        said = "; ".join(faults_of_colours(f"<style>{STYLE.format(more)}</style>"))
-        must(wanted in said and bool(said) == bool(wanted), f"{more!r}: {said!r}")
-
-
-def language_of(site: Recorded) -> str:
-    return str(re.findall("<language>([^<]*)</language>", site.export.read_text(encoding="utf-8"))[0])
-
-
-def check_access(program: Path, site: Recorded) -> None:
-    """Whoever hears an archive's pages, or sees little, finds their parts: headings, labels, texts for pictures."""
-    language = language_of(site)
-    with Archive(program, site) as archive:
-        archive.publish()
-        pages = {it: it.read_text(encoding="utf-8") for it in archive.root.rglob("*.html")}
-        must(len(pages) > 140, f"there are {len(pages)} pages")
-        for file, page in pages.items():
-            faults = faults_of(page, language)
-            must(not faults, f"{file.relative_to(archive.root)}: {'; '.join(faults)}")
-        faults = faults_of_colours(archive.page("/404.html"))
-        must(not faults, "; ".join(faults))
-
-
-def check_browser(program: Path, site: Recorded) -> None:
-    """In a browser no page is too wide for a phone or a desk, and the search finds what has the words."""
-    with Archive(program, site) as archive:
-        archive.publish()
-        lists = ["/404.html", "/search/", "/page/2/", "/news/", "/news/page/2/", "/2016/", "/author/hannah/"]
-        lists += [f"/{it}/" for kind in ("category", "tag") for it in listed_below(archive.root, kind)]
-        paths = [it["path"] for it in site.posts] + [it for it in lists if file_of(archive.root, it)]
-        words = ("glaz", "FIRING glazes", "recette", "ÉTÉ", "ete", "zzz")
-        asked = {f"/search/?s={quote(it)}": found_by(archive, it) for it in words}
-        must(any(asked.values()) and not asked["/search/?s=zzz"], f"the index finds {asked}")
-        check_in_browser(archive.root, list(dict.fromkeys(paths)), asked)
-
-
-def listed_below(root: Path, kind: str) -> list[str]:
-    return [f"{kind}/{it.name}" for it in sorted((root / kind).iterdir()) if (it / "index.html").is_file()]
 
 
 def found_by(archive: Archive, text: str) -> set[int]:
@@ -452,21 +372,18 @@ def check_menu() -> None:
 
 
 def check_arguments() -> None:
-    """Forms become an address to write to; options that need --as-shown, and unknown texts, are refused."""
-    commands, _ = imported(
-        WHOLE / "pottery.xml", "--as-shown", "--contact", "a&b@mail.example", "--posts-page", "gallery"
-    )
+    """Forms become an address to write to; names that are none, and unknown texts, are refused."""
+    commands, _ = imported(WHOLE / "pottery.xml", "--contact", "a&b@mail.example", "--posts-page", "gallery")
     text = json.dumps(commands)
     must('<a href=\\"mailto:a&amp;b@mail.example\\">a&amp;b@mail.example</a>' in text, "no form became an address")
     must(commands[0]["site"]["options"]["page_for_posts"] == "27", "the page of posts isn't the one that was named")
-    commands, report = imported(WHOLE / "pottery.xml", "--as-shown", "--plugin-tags", "show,Unknown_Thing")
+    commands, report = imported(WHOLE / "pottery.xml", "--plugin-tags", "show,Unknown_Thing")
     must('[unknown_thing a=\\"1\\"]Text within[/unknown_thing]' in json.dumps(commands), "a plugin's tag is changed")
     must("unknown_thing" not in report, "the report says that nobody has a plugin's tag")
     with tempfile.TemporaryDirectory() as folder:
         templates = Path(folder, "templates.json")
         templates.write_text('{"index":[{"site":"no_such_text"}]}', encoding="utf-8")
-        unread = (["--plugin-tags", "x"], ["--as-shown", "--plugin-tags", "a, b"], ["--as-shown", "--plugin-tags", ""])
-        for words in (*unread, ["--contact", "x"], ["--files", "x"], ["--as-shown", "--templates", str(templates)]):
+        for words in (["--plugin-tags", "a, b"], ["--plugin-tags", ""], ["--templates", str(templates)]):
             ran = subprocess.run([EXAMPLES / "from_wordpress", *words, WHOLE / "pottery.xml"], capture_output=True)
             must((ran.returncode, ran.stdout) == (2, b""), f"{words} isn't refused: {ran.stderr[-200:]!r}")
 
@@ -477,7 +394,10 @@ def check_other_templates(program: Path) -> None:
     with Archive(program, site) as archive:
         archive.database.unlink()
         archive.database.with_name("site.db-wal").unlink()
-        commands, _ = imported(site.export, "--templates", str(EXAMPLES / "wordpress-templates.json"))
+        marked = (EXAMPLES / "archive-templates.json").read_text(encoding="utf-8")
+        bare = Path(archive.room.name, "bare.json")
+        bare.write_text(re.sub("<!--/?archive:[a-z]+-->", "", marked), encoding="utf-8")
+        commands, _ = imported(site.export, "--templates", str(bare))
         archive.edit(*commands)
         archive.publish_and_check()
         page = archive.page("/category/pains-brioches/page/2/")
@@ -489,6 +409,44 @@ def check_other_templates(program: Path) -> None:
             must(part in page, f"a list lacks {part!r}")
         page = archive.page("/pains-brioches/le-pain-gris/")
         must('<section class="comments"' in page and 'rel="next"' in page, "a post lacks what follows it")
+
+
+def check_untitled(program: Path) -> None:
+    """A post without a title has its date in the window's title, as its heading and in lists."""
+    with Archive(program, recorded("pottery")) as archive:
+        archive.edit(new_post(""), new_post("<b> </b>"))
+        archive.publish_and_check()
+        lists = re.findall(r'<h2><a href="([^"]*)">February 3, 2024</a></h2>', archive.page("/2024/02/"))
+        must(len(lists) == 2, f"the month has {lists}")
+        for page in map(archive.page, lists):
+            shown = re.findall(r"<title>[^<]*|.*</title>|<h1>.*</h1>", page)
+            wanted = ["<title>February 3, 2024 - Hollow Oak", "<h1>February 3, 2024</h1>"]
+            must(len(shown) == 3 and (shown[0].startswith(wanted[0]), shown[2]) == (True, wanted[1]), f"it has {shown}")
+
+
+def check_frame(program: Path) -> None:
+    """What is around a page is small, whatever the number of posts: years and parts of a list lead to all others."""
+    with Archive(program, recorded("pottery")) as archive:
+        archive.edit(
+            *({**new_post("x"), "date": f"{2000 + it // 12}-{it % 12 + 1:02}-01 00:00:00"} for it in range(200))
+        )
+        archive.edit({"cmd": "option", "name": "posts_per_page", "value": "2"})
+        archive.publish_and_check()
+        pages = {it: archive.page(it) for it in ("/", "/news/page/60/", "/2013/", "/about-us/tom/")}
+        for path, page in pages.items():
+            foot = page.partition("<footer>")[2]
+            must(len(foot) < 2_000 and foot.count("<li>") == 19, f"{path} has the foot {foot[:2_500]}")
+            styles = re.findall('<link rel="stylesheet" href="(/style-[0-9a-f]{8}.css)">', page)
+            must(len(styles) == 1 and "<style" not in page, f"{path} has the styles {styles}")
+            must("body {" in archive.page(styles[0]), f"{path} has another style")
+        months = re.findall(r'<li><a href="(/2013/\d\d/)">', pages["/2013/"])
+        must(months == sorted(months, reverse=True) and len(months) == 12, f"a year has the months {months}")
+        parts = re.findall(
+            r"<li>(?:<[^<>]*>)?(…|\d+)(?:<[^<>]*>)?</li>\n", pages["/news/page/60/"].partition("<footer>")[0]
+        )
+        must(parts == ["1", "…", *(str(it) for it in range(56, 65)), "…", parts[-1]], f"a list has the parts {parts}")
+        marked = {path: re.findall(r'<a href="([^"]*)" aria-current="page">', page) for path, page in pages.items()}
+        must(marked["/"] == ["/"] and marked["/about-us/tom/"] == ["/about-us/tom/"], f"the menus mark {marked}")
 
 
 def check_uploads(program: Path) -> None:
@@ -514,7 +472,7 @@ def check_fetch() -> None:
     export = recorded("fournil").export
     with tempfile.TemporaryDirectory() as room:
         listed, source = Path(room, "files.txt"), Path(room, "wp-content", "uploads")
-        plain = imported(export, "--as-shown", "--files", str(listed))
+        plain = imported(export, "--files", str(listed))
         needed = [unquote(it) for it in listed.read_text(encoding="utf-8").splitlines()]
         lacking, there = needed[0], needed[1:]
         for path in (*there, "/wp-content/uploads/2017/06/other.jpg", "/wp-content/uploads/.env"):
@@ -524,13 +482,13 @@ def check_fetch() -> None:
         packed = [Path(shutil.make_archive(f"{room}/packed", kind, room, "wp-content")) for kind in ("zip", "gztar")]
         for given in (source, *packed):
             folder = Path(room, f"fetched{given.suffix}")
-            commands, report = imported(export, "--as-shown", "--fetch", str(given), str(folder))
+            commands, report = imported(export, "--fetch", str(given), str(folder))
             came = {f"/{it.relative_to(folder).as_posix()}": it.read_text() for it in folder.rglob("*") if it.is_file()}
             must(came == {it: it for it in there}, f"{given}: {sorted(came)} are there")
             must(commands == plain[0], f"{given}: the commands are others")
             must(f": {len(there)} copied, 0 there already\n" in report, f"{given}: {report[-600:]}")
             must(f"1 needed file not found in {given}: {lacking}\n" in report, f"{given}: {report[-600:]}")
-            _, report = imported(export, "--as-shown", "--all", "--fetch", str(given), str(folder))
+            _, report = imported(export, "--all", "--fetch", str(given), str(folder))
             must(f": 0 copied, {len(there)} there already\n" in report, f"{given}, again: {report[-600:]}")
             must(f"{given} doesn't have {lacking}, or " in report, f"{given}: --all doesn't name what lacks")
 
@@ -545,9 +503,9 @@ def check_fetch_faults() -> None:
             file.writestr("uploads/2015/01/pain-3.jpg", b"a picture")
         damaged.write_bytes(damaged.read_bytes().replace(b"a picture", b"A PICTURE"))
         given: list[list[str | Path]] = [
-            ["--as-shown", "--fetch", it, f"{room}/dir"] for it in (other, damaged, Path(room, "nothing"))
+            ["--fetch", it, f"{room}/dir"] for it in (other, damaged, Path(room, "nothing"))
         ]
-        given += [["--as-shown", "--fetch", room], ["--fetch", room, room]]
+        given += [["--fetch", room]]
         for words in given:
             ran = subprocess.run([EXAMPLES / "from_wordpress", *words, export], capture_output=True, check=False)
             must(ran.returncode == 2 and not ran.stdout, f"{words}: status {ran.returncode}, {ran.stderr[-300:]!r}")
@@ -572,7 +530,7 @@ def check_faults(program: Path) -> None:
         must("there is no file" in archive.publish(status=1), "a file that isn't there has no reason")
 
 
-# A configuration of nginx that includes that of an archive.
+# A configuration of each server that has that of an archive, and what starts the server with it.
 NGINX = """daemon off;
 pid {folder}/nginx.pid;
 error_log {folder}/nginx.log;
@@ -588,6 +546,26 @@ http {{
     include {folder}/archive.conf;
 }}
 """
+APACHE = """Listen 127.0.0.1:{port}
+ServerName 127.0.0.1
+PidFile {folder}/apache.pid
+ErrorLog {folder}/apache.log
+DefaultRuntimeDir {folder}
+Mutex file:{folder}
+TypesConfig /dev/null
+AddType text/html html
+AddType text/xml xml
+DocumentRoot {root}
+<Directory {root}>
+    AllowOverride All
+    Options FollowSymLinks
+</Directory>
+"""
+MODULES = "".join(
+    f"LoadModule {it}_module /usr/lib/apache2/modules/mod_{it}.so\n"
+    for it in ("mpm_event", "authz_core", "dir", "autoindex", "mime", "alias", "rewrite")
+)
+SERVERS = {"nginx": (NGINX, "-c"), "apache2": (MODULES + APACHE, "-DFOREGROUND", "-f")}
 
 
 def asked(port: int, path: str) -> tuple[int, str, str]:
@@ -595,33 +573,38 @@ def asked(port: int, path: str) -> tuple[int, str, str]:
     connection = http.client.HTTPConnection("127.0.0.1", port, timeout=SECONDS)
     connection.request("GET", quote(path, safe="/?=&%"))
     reply = connection.getresponse()
-    reply.read()
-    found = reply.status, reply.getheader("Content-Type") or "", reply.getheader("Location") or ""
+    page, to = reply.read(), (reply.getheader("Location") or "").removeprefix(f"http://127.0.0.1:{port}")
     connection.close()
-    return found
+    must(reply.status < 400 or b"<main>" in page, f"{path} gives a page of the server's own")
+    return reply.status, reply.getheader("Content-Type") or "", to
 
 
 @contextlib.contextmanager
-def served(archive: Archive, folder: Path) -> Iterator[int]:
-    """An archive served by nginx with the configuration that was written for it: its port."""
-    port = free_port()
-    text = (archive.folder / "nginx.conf").read_text(encoding="utf-8")
-    (folder / "archive.conf").write_text(text.replace("listen 8080;", f"listen 127.0.0.1:{port};"), encoding="utf-8")
-    (folder / "nginx.conf").write_text(("user root;\n" if os.getuid() == 0 else "") + NGINX.format(folder=folder))
-    with subprocess.Popen([str(nginx()), "-c", folder / "nginx.conf"], stderr=subprocess.PIPE) as server:
-        try:
-            wait_for(lambda: server.poll() is not None or listens(port), SECONDS, "nginx listens")
-            must(server.poll() is None, f"nginx: {server.stderr.read()[-300:] if server.stderr else ''}")
-            yield port
-        finally:
-            server.terminate()
+def served(archive: Archive, server: str) -> Iterator[int]:
+    """An archive served by a server with the configuration that was written for it: its port."""
+    with tempfile.TemporaryDirectory() as folder:
+        port, (text, *words) = free_port(), SERVERS[server]
+        own = (archive.folder / "nginx.conf").read_text(encoding="utf-8")
+        Path(folder, "archive.conf").write_text(own.replace("listen 8080;", f"listen 127.0.0.1:{port};"))
+        if os.getuid() == 0:
+            text = ("user root;\n" if server == "nginx" else "User nobody\nGroup nogroup\n") + text
+            os.chmod(archive.room.name, 0o755)
+        file = Path(folder, "server.conf")
+        file.write_text(text.format(folder=folder, port=port, root=archive.root))
+        with subprocess.Popen([str(shutil.which(server, path=PATH)), *words, file], stderr=subprocess.PIPE) as process:
+            try:
+                wait_for(lambda: process.poll() is not None or listens(port), SECONDS, f"{server} listens")
+                must(process.poll() is None, f"{server}: {process.stderr.read()[-300:] if process.stderr else ''}")
+                yield port
+            finally:
+                process.terminate()
 
 
-def check_served(program: Path, site: Recorded) -> None:
-    """nginx serves each public address, or sends it on to one, from the files and the configuration as they are."""
-    with Archive(program, site) as archive, tempfile.TemporaryDirectory() as folder:
+def check_served(program: Path, site: Recorded, server: str) -> None:
+    """A server has each public address, or sends it on to one, from the files and the configuration as they are."""
+    with Archive(program, site) as archive:
         archive.publish()
-        with served(archive, Path(folder)) as port:
+        with served(archive, server) as port:
             for address, wanted, to in site.addresses:
                 status, _, target = asked(port, address)
                 is_same = target == to or "/wp-content/uploads/" in target
@@ -631,12 +614,34 @@ def check_served(program: Path, site: Recorded) -> None:
                 while status == 301 and "/wp-content/uploads/" not in target:
                     status, _, target = asked(port, target)
                     must(status in (200, 301), f"{address} leads to {target or 'a page'} with {status}")
-            must(asked(port, "/no/such/page/")[0] == 404, "what isn't there is found")
-            must(asked(port, "/.htaccess")[0] == 404, "the file for Apache is served")
+            must(asked(port, "/.htaccess")[0] in (403, 404), "the file for Apache is served")
             found = asked(port, "/?s=a%20b&x=1")
             must((found[0], found[2]) == (301, "/search/?s=a%20b"), f"the old address of the search gives {found}")
             must(asked(port, "/search/?s=a%20b")[0] == 200, "the search isn't served")
-            must(asked(port, "/feed/")[:2] == (200, "text/xml; charset=utf-8"), f"the feed is {asked(port, '/feed/')}")
+            must(asked(port, "/feed/")[1].startswith("text/xml"), f"the feed is {asked(port, '/feed/')}")
+
+
+def check_moved(program: Path, server: str) -> None:
+    """What a query asks for is found in each form that a browser sends, and all else gets the archive's page of 404."""
+    site, tea = recorded("fournil"), "%d1%87%d0%b0%d0%b9"
+    with Archive(program, site) as archive, tempfile.TemporaryDirectory() as folder:
+        archive.site = site._replace(export=Path(folder, "tea.xml"))
+        text = site.export.read_text(encoding="utf-8").replace("saison", tea)
+        archive.site.export.write_text(text.replace("/pain-3.jpg", "/%0aOptions%20Indexes"), encoding="utf-8")
+        archive.publish()
+        rules = [it.read_text(encoding="utf-8") for it in archive.root.glob("*/**/.htaccess")]
+        must(rules and all(re.fullmatch("(RedirectMatch .*\n)+", it) for it in rules), f"Apache's rules are {rules}")
+        must((archive.root / ".htaccess").stat().st_size < 2_000, "the file that Apache reads at each request is long")
+        moved = {f"/?tag={tea}": f"/tag/{tea}/", f"/?x=1&tag={tea.upper()}": f"/tag/{tea}/"}
+        moved |= {"/?m=2015": "/2015/", "/?m=201501": "/2015/01/", "/index.php?p=7": "/?p=7", "/2015": "/2015/"}
+        moved |= {"/tag/sucre/feed/rdf/": "/tag/sucre/feed/", "/page/1/": "/", "/wp-sitemap-a.xml": "/sitemap.xml"}
+        nowhere = ["/?p=99999", "/?p=1", "/?m=1999", "/?m=20150199", "/?tag=none", "/?cat=99", "/?author=99"]
+        with served(archive, server) as port:
+            for path, to in moved.items():
+                status, _, target = asked(port, path)
+                must((status, unquote(target)) == (301, unquote(to)), f"{path} leads to {target} with {status}")
+            for path in (*nowhere, "/category/", "/2015/none/", "/_moved/", "/no/such/page/"):
+                must(asked(port, path)[0] == 404, f"{path} gives {asked(port, path)}")
 
 
 # Texts that are repeated many times: time must grow with the length, not with its square.
@@ -726,10 +731,11 @@ def checks(program: Path) -> Iterator[tuple[Any, ...]]:
     yield "texts that nobody writes", check_growth
     yield "dates in a site's format", check_dates
     yield "the menu, the front and the pages", check_menu
-    yield "options of --as-shown", check_arguments
+    yield "options of from_wordpress", check_arguments
     yield "templates without marks", check_other_templates, program
     yield "sticky posts", check_sticky, program
-    yield "pages that are hard to use", check_access_itself
+    yield "posts without a title", check_untitled, program
+    yield "what is around a page", check_frame, program
     yield "uploads from a folder and from archives", check_uploads, program
     yield "uploads fetched beside an import", check_fetch
     yield "uploads that can't be fetched", check_fetch_faults
@@ -742,7 +748,6 @@ def checks(program: Path) -> Iterator[tuple[Any, ...]]:
         yield f"{name}: pages of the archive", check_archive, program, site
         yield f"{name}: a second run, and edits", check_again, program, site
         yield f"{name}: new posts", check_new_posts, program, site
-        yield f"{name}: pages for everyone", check_access, program, site
         yield f"{name}: the search", check_search, program, site
 
 
@@ -754,22 +759,15 @@ def checks_beside(wordpress: Path) -> Iterator[tuple[Any, ...]]:
     yield "random texts beside WordPress's functions", check_random_texts, wordpress, 2_000
 
 
-def checks_in_browser(program: Path) -> Iterator[tuple[Any, ...]]:
-    """The checks that need a browser."""
-    must_be_here(browser(), "chromium")
-    for site in map(recorded, SITES):
-        yield f"{site.export.stem}: in a browser", check_browser, program, site
-
-
 def checks_served(program: Path) -> Iterator[tuple[Any, ...]]:
-    """The checks that need nginx."""
-    must_be_here(nginx(), "nginx")
-    for site in map(recorded, SITES):
-        yield f"{site.export.stem}: served by nginx", check_served, program, site
-
-
-def nginx() -> str | None:
-    return shutil.which("nginx", path=PATH)
+    """The checks that need servers."""
+    for server in SERVERS:
+        if not shutil.which(server, path=PATH):
+            yield f"served by {server}", must_be_here, None, server
+            continue
+        yield f"addresses that moved, by {server}", check_moved, program, server
+        for site in map(recorded, SITES):
+            yield f"{site.export.stem}: served by {server}", check_served, program, site, server
 
 
 def must_be_here(found: object, what: str) -> None:

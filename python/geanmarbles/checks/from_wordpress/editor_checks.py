@@ -146,8 +146,7 @@ def check_faults(program: Path) -> None:
             said = kept.post("set", "1", kept.file(text), status=1)
             must(reason in said and said.count("\n") == 1, f"{text!r}: {said!r}")
         must(
-            "refused 3" in kept.post("set", "9", kept.file("title: x\n\ny"), status=1),
-            "a post that isn't there is set",
+            "refused 3" in kept.post("set", "9", kept.file("title: x\n\ny"), status=1), "a post that isn't there is set"
         )
         must("no post" in kept.post("get", "9", status=1), "a post that isn't there is printed")
         must(kept.post("get", "1") == before, "a refused edit has changed something")
@@ -366,8 +365,7 @@ def check_history(program: Path) -> None:
         gone = kept.run("history", kept.database, "2")
         must(gone.startswith('3: put: status "draft"') and gone.endswith("5: delete: nothing\n"), f"they are {gone!r}")
         must(
-            "has had no post" in kept.run("history", kept.database, "7", status=1),
-            "a post that never was has versions",
+            "has had no post" in kept.run("history", kept.database, "7", status=1), "a post that never was has versions"
         )
 
 

@@ -112,14 +112,7 @@ class WordPress:
         server = database_server()
         if server is None:
             raise NotThere("there is no MariaDB")
-        words = [
-            server,
-            "--no-defaults",
-            *as_root,
-            f"--datadir={data}",
-            f"--socket={self.socket}",
-            "--skip-networking",
-        ]
+        words = [server, "--no-defaults", *as_root, f"--datadir={data}", f"--socket={self.socket}", "--skip-networking"]
         words += [f"--pid-file={self.folder / 'sql.pid'}", "--innodb-flush-log-at-trx-commit=0"]
         log = (self.folder / "sql.log").open("wb")
         self.server = subprocess.Popen(words, stdout=log, stderr=log)

@@ -123,8 +123,7 @@ def forms(program: Program, lines: Sequence[bytes], replies: Sequence[bytes]) ->
 def halves(program: Program, lines: Sequence[bytes], replies: Sequence[bytes]) -> None:
     """The first half alone has the same replies, and so has the second after an import of what the first leaves.
 
-    An import brings no open pages, so what pages by turns have in the second half isn't compared.
-    """
+    An import brings no open pages, so what pages by turns have in the second half isn't compared."""
     half = len(lines) // 2
     same(lines[:half], replies[:half], program.replies(lines[:half]), "without what follows")
     begun = Stored().after(lines[:half], replies[:half]).lines()

@@ -69,9 +69,8 @@ ODD_BYTES = (
 
 
 class Lines:
-    """Lines made by a random generator. They speak of the IDs that the puts before them would be given, and of
-    numbers that open pages may have.
-    """
+    """Lines made by a random generator. They speak of the IDs that the puts before them would be given, and of numbers
+    that open pages may have."""
 
     def __init__(self, random: Random) -> None:
         self.random = random

@@ -2,7 +2,6 @@
 
     tests/fuzz/run [--seconds N] [--seed S] [--begin K] [PROGRAM]
     tests/fuzz/run --list FILE [PROGRAM]
-    tests/fuzz/run --self-test [PROGRAM]
 
 PROGRAM is the one that is here, built or shipped, if it is left out. lines.py makes the lists: edits, activations,
 imports, requests, and up to eight pages by turns, some of them with broken bytes or odd values. Of each list, checks.py
@@ -30,7 +29,6 @@ and kept.py that
 The lists of a seed, 1 if none is given, are the same each time. Without --seconds a fixed number of lists is tried;
 with it, as many as N seconds are enough for. --begin is the number of the first list. A list that fails is made
 shorter while it fails in the same way, and is saved in out/fuzz; with --list the lines of a file are checked instead.
-With --self-test, each check is run against replies that are broken on purpose, and must notice it.
 
 The last line is 'N passed, M failed', over the checks of all lists, and the exit status is 0 if none failed.
 """
@@ -50,7 +48,6 @@ from geanmarbles.arguments import Parser
 from geanmarbles.checks.fuzz import checks, kept, turns
 from geanmarbles.checks.fuzz.checks import Check, Program
 from geanmarbles.checks.fuzz.lines import Lines
-from geanmarbles.checks.fuzz.selftest import is_noticed
 from geanmarbles.checks.fuzz.shorter import SHRINKS, saved, smallest
 from geanmarbles.checks.programs import lanes, missing
 from geanmarbles.client.replies import Wrong
@@ -60,8 +57,6 @@ CHECKS = (*checks.CHECKS, *turns.CHECKS, *kept.CHECKS)
 # Each check with what it says, or None.
 Faults = list[tuple[Check, str | None]]
 LISTS = 200
-# Lists over which each check is tried against broken replies.
-SELF_TESTS = 5
 # The longest list, in bytes, that is printed too.
 PRINTED = 4_000
 
@@ -145,22 +140,12 @@ def failures(
     return passed, len(failed)
 
 
-def self_tested(program: Program) -> tuple[int, int]:
-    """How many checks notice a program that breaks them, over some lists, and how many don't."""
-    lists = [listed("1", number) for number in range(1, 1 + SELF_TESTS)]
-    unnoticed = [check.__name__ for check in CHECKS if not is_noticed(check, program, lists)]
-    for name in unnoticed:
-        print(f"FAILED: {name}: it doesn't notice what it is for")
-    return len(CHECKS) - len(unnoticed), len(unnoticed)
-
-
 def read_arguments() -> argparse.Namespace:
     parser = Parser(description="Gives the program random lists of lines, and checks its replies.")
     parser.add_argument("--seconds", metavar="N", type=int, help="try lists for N seconds")
     parser.add_argument("--seed", metavar="S", default="1", help="make the lists from S")
     parser.add_argument("--begin", metavar="K", type=int, default=1, help="the number of the first list")
     parser.add_argument("--list", metavar="FILE", type=Path, help="check the lines of a file instead")
-    parser.add_argument("--self-test", action="store_true", help="see that each check notices what it is for")
     parser.add_argument("program", metavar="PROGRAM", nargs="?", type=Path, default=shipped.program())
     return parser.parse_args()
 
@@ -172,9 +157,7 @@ def main() -> int:
         return 1
     program = Program(str(arguments.program.resolve()))
     begin = time.monotonic()
-    if arguments.self_test:
-        passed, failed = self_tested(program)
-    elif arguments.list:
+    if arguments.list:
         lines: list[bytes] = arguments.list.read_bytes().splitlines()
         only = [("list", faults_of(program, lines))]
         passed, failed = failures(program, only, lambda _: lines, lambda _: f"--list {arguments.list}")

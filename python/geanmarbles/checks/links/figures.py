@@ -39,7 +39,6 @@ TIMES = {
         Place("docs/PLUGINS.md", r"before any proof, in ([\w ]+?):"),
         Place("python/geanmarbles/repository/build.py", r"are compiled, which takes ([\w ]+?), and run"),
         Place("python/geanmarbles/repository/unproved.py", r'^MINUTES = "([^"]+)"'),
-        Place("python/geanmarbles/commands/browse.py", r"sources are compiled, which takes ([\w ]+?), and"),
     ],
     "./test": [Place("README.md", r"every row, example and script, in ([^|]+?) \|")],
     "./prove": [

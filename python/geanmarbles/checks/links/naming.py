@@ -40,7 +40,7 @@ SHOWN_CLAUSE = re.compile(r"^```\w*\n((?:ensures|requires)\b.*?)^```", re.M | re
 WORD = re.compile(r"([a-z]\w*_\w+)(?:\(\))?")
 PARTS = ("src", "specs", "proofs")
 # A crate, and an edit of it, to which a command is given; `shout` is what the tutorial makes.
-COMMAND = re.compile(r"\b(?:tests/wrong_bodies/run|rt must-fail) (?!CRATE|shout)([a-z]\w*)(?:/(\w+))?")
+COMMAND = re.compile(r"\btests/wrong_bodies/run (?!CRATE|shout)([a-z]\w*)(?:/(\w+))?")
 # Documents whose types and other names are looked for too; what others quote is also WordPress's or of scripts.
 OF_THE_CODE = {"ARCHITECTURE.md", "DECISIONS.md", "FAILURES.md", "PROOFS.md", "TOOLCHAIN.md"}
 # Types of the toolchain that no source names, and a text.
@@ -138,8 +138,8 @@ def check_commands(checks: Checks, page: Path) -> None:
     """The crates and edits that a page's commands name are there."""
     text = page.read_text(encoding="utf-8")
     for crate, edit in COMMAND.findall(text):
-        files = [CRATES / crate / folder / f"{edit}.edit" for folder in ("must-fail", "wrong-bodies")]
-        there = any(it.is_file() for it in files) if edit else (CRATES / crate).is_dir()
+        file = CRATES / crate / "wrong-bodies" / f"{edit}.edit"
+        there = file.is_file() if edit else (CRATES / crate).is_dir()
         checks.check(there, page, f"no {crate}/{edit}" if edit else f"no crate {crate}")
 
 
@@ -185,7 +185,7 @@ def check_naming(checks: Checks, pages: Iterable[Path]) -> None:
             check_names(checks, page, {parts[1]} | below(crates, parts[1]), users)
             check_words(checks, page, {parts[1]} | below(crates, parts[1]), users)
             check_files(checks, page)
-        elif page.name != "INDEX.md":
+        else:
             check_names(checks, page, set(crates), set())
             if page.name in OF_THE_CODE:
                 check_words(checks, page, set(crates), set())

@@ -1,6 +1,6 @@
 """Checks that what the documents name is there, and that what two of them say is the same.
 
-    tests/links/run [--self-test]
+    tests/links/run
 
 Of every Markdown file: each relative link leads to a file of the repository, its anchor to a heading there, what a
 link to a source is named by is in that file, each path of the repository is there, and so are the crates and edits
@@ -24,13 +24,12 @@ Each edit is named in one of these pages. Each type, function of a type, source,
 other name with an underscore that these pages have is in the crate itself, in one that it depends on, or in one that
 the same paragraph or row names.
 
-docs/INDEX.md, docs/THEOREM.md and what is made in docs/ARCHITECTURE.md are what tools/index makes now, and each
-definition in THEOREM has a comment. The functions that README.md names with clauses have them, and it has no more than
-120 lines. Each edit that docs/BEHAVIOUR.md names changes a function that the program reaches, or a law.
+docs/THEOREM.md and what is made in docs/ARCHITECTURE.md are what tools/index makes now, and each definition in THEOREM
+has a comment. The functions that README.md names with clauses have them, and it has no more than 120 lines. Each edit
+that docs/BEHAVIOUR.md names changes a function that the program reaches, or a law.
 
 No line of text is longer than 120 columns, and none ends early in the middle of a paragraph; the glossary has each word
-once. The sentences of claims.py, on how the code does something, and the lines of sources by which they are true are
-there.
+once.
 
 The times of CONTRIBUTING.md's table are those that other documents and scripts say, the figures of a bench those that
 README.md and CONTRIBUTING.md repeat, and the numbers of lines, functions and wrong bodies that README and ARCHITECTURE
@@ -39,8 +38,7 @@ say about those of the sources; figures.py has the places.
 Each script of tests/ is a part of ./test by tests/parts.txt, and the table of tests/README.md says what it is for.
 
 A line is printed for each thing that is missing. The last line is 'N passed, M failed', over the documents. The exit
-status is 0 if nothing is missing. With --self-test wrong sentences, names and figures are planted in a copy of the
-repository, where the check must find each; the last line is then over these.
+status is 0 if nothing is missing.
 """
 
 import argparse
@@ -52,12 +50,10 @@ from collections.abc import Iterable, Mapping, Sequence
 from pathlib import Path
 
 from geanmarbles.arguments import Parser
-from geanmarbles.checks.links.claims import check_claims
 from geanmarbles.checks.links.declared import contracts_of
 from geanmarbles.checks.links.figures import check_counted, check_figures, check_times
 from geanmarbles.checks.links.layout import check_glossary, check_layout
 from geanmarbles.checks.links.naming import check_naming
-from geanmarbles.checks.links.planted import self_test
 from geanmarbles.checks.links.reading import (
     BEHAVIOUR,
     DEFINITIONS_HEAD,
@@ -348,7 +344,6 @@ def check_all() -> tuple[int, int]:
         if page not in made:
             check_layout(checks, page)
     check_glossary(checks)
-    check_claims(checks)
     check_naming(checks, pages())
     check_times(checks)
     check_figures(checks)
@@ -370,8 +365,7 @@ def check_all() -> tuple[int, int]:
 
 
 def main() -> None:
-    parser = Parser(description=__doc__, formatter_class=argparse.RawDescriptionHelpFormatter)
-    parser.add_argument("--self-test", action="store_true", help="find wrong sentences that are planted in a copy")
-    passed, failed = self_test() if parser.parse_args().self_test else check_all()
+    Parser(description=__doc__, formatter_class=argparse.RawDescriptionHelpFormatter).parse_args()
+    passed, failed = check_all()
     print(f"{passed} passed, {failed} failed")
     sys.exit(bool(failed))

@@ -123,13 +123,9 @@ def behind(serve: Serve, name: str) -> Iterator[tuple[str, int]]:
     if name == "nginx":
         words = [need("nginx", "nginx-light"), "-c", str(file)]
         file.write_text(NGINX.format(folder=folder, front=front, backend=backend), encoding="utf-8")
-    elif name == "haproxy":
+    else:
         words = [need("haproxy"), "-db", "-f", str(file)]
         file.write_text(HAPROXY.format(front=front, backend=backend), encoding="utf-8")
-    else:
-        # It keeps nothing: pages don't say for how long they may be kept.
-        words = [need("varnishd", "varnish"), "-F", "-n", str(folder / "room"), "-a", front, "-b", backend]
-        words += ["-s", "malloc,64m", "-t", "0"]
     process = serve.processes.start(name, words)
     wait_for(lambda: status_of(("127.0.0.1", port), GET) == 200, SECONDS, f"{name} answers: {process.said()}", 0.2)
     yield "127.0.0.1", port
@@ -203,16 +199,6 @@ def by_curl(program: str) -> None:
         same(ran(*posted)[0], "401 1 1.1\n", "an edit without the token")
 
 
-def by_wrk(program: str) -> None:
-    """wrk: many connections, each with request after request, and no error"""
-    with Serve(program) as serve:
-        words = [need("wrk"), "-t2", "-c200", "-d3", serve.place]
-        said = subprocess.run(words, capture_output=True, text=True, check=True).stdout
-        count = re.search(r"(\d+) requests in", said)
-        must(count and int(count[1]) > 200, f"it made {count and count[1]} requests: {said}")
-        must("Socket errors" not in said and "Non-2xx" not in said, f"it says {said}")
-
-
 def by_h11(program: str) -> None:
     """h11, a strict client"""
     for python in (sys.executable, "/usr/bin/python3"):
@@ -226,17 +212,8 @@ def by_h11(program: str) -> None:
         same((ran.returncode, ran.stderr), (0, ""), "its end")
 
 
-def by_chromium(program: str) -> None:
-    """Chromium shows a page"""
-    with Serve(program) as serve, tempfile.TemporaryDirectory(ignore_cleanup_errors=True) as profile:
-        words = [need("chromium"), "--headless", "--disable-gpu", "--no-first-run", "--no-sandbox"]
-        words += ["--disable-background-networking", f"--user-data-dir={profile}", "--dump-dom", serve.place]
-        shown = subprocess.run(words, capture_output=True, text=True, timeout=SECONDS, check=False).stdout
-        must("<h2>Rye</h2>" in shown, f"it shows {shown!r}")
-
-
-PROXIES = ("nginx", "haproxy", "varnish")
-CLIENTS = {"curl": by_curl, "wrk": by_wrk, "h11": by_h11, "chromium": by_chromium}
+PROXIES = ("nginx", "haproxy")
+CLIENTS = {"curl": by_curl, "h11": by_h11}
 OTHERS = (*PROXIES, *CLIENTS)
 
 

@@ -10,7 +10,7 @@ PROGRAM is the one that is here, built or shipped, if it is left out. The parts 
                are many: hundreds and, where there may be so many files, 10,000 that are idle
     endings    programs that are killed, stop, or can't be started; the end by a signal; where it listens
     front      requests that two servers may read in two ways
-    nginx, haproxy, varnish, curl, wrk, h11, chromium
+    nginx, haproxy, curl, h11
                what these get, or have their clients get, each where it is installed
 
 The last line is 'N passed, M failed', with ', K skipped' if something isn't installed. The exit status is 0 if nothing

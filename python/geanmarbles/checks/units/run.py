@@ -1,6 +1,6 @@
 """Tests single functions of the package: calls of etcd that fail and are made again, the history of edits over an etcd
-that is a dictionary, the reading of arguments, exports, logs, heads of requests and replies, how checks are counted,
-and how wrong bodies are read and judged.
+that is a dictionary, the reading of arguments, exports, logs, heads of requests and replies, a node's front without a
+node, how checks are counted, and how wrong bodies are read and judged.
 
     tests/units/run [--plain] [NAME ..]
 

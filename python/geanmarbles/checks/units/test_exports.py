@@ -56,7 +56,7 @@ def test_what_else_an_item_has_is_counted() -> None:
     found, _ = read(HEAD + ITEM.replace("</item>", more + "</item>") + END)
     assert found.items[0].lost() == {
         **{"tag": 1, "category": 1, "term": 1, "comment": 2, "excerpt": 1, "other element": 1},
-        **{"featured image": 1, "custom field": 1, "text outside its elements": 1},
+        **{"custom field": 1, "text outside its elements": 1},
     }
 
 

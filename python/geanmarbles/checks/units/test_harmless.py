@@ -55,7 +55,7 @@ def post(number: int, kind: str, content: str = "") -> Item:
 
 
 def shown(content: str, *others: Item) -> str:
-    """A content as `from_wordpress --as-shown` has it."""
+    """A content as `from_wordpress` has it."""
     site = site_with(content, *others)
     return Shown(site, {1}, Places(site), Notes("form", "")).content(1, content)
 

@@ -1,5 +1,6 @@
 """Heads of requests, read in one way alone."""
 
+import contextlib
 from random import Random
 
 from geanmarbles.checks.units.drawn import each, text_of
@@ -92,3 +93,32 @@ def test_a_target_that_names_a_host_counts() -> None:
     assert head_of(b"GET / HTTP/1.0\r\n\r\n").is_old
     waits = head_of(b"POST /c HTTP/1.1\r\nHost: a\r\nExpect: 100-Continue\r\nContent-Length: 3\r\n\r\n")
     assert waits.waits and waits.length == 3
+
+
+# Heads, and what they are read as: the method, the path, the length, and whether the body waits.
+READ: dict[bytes, tuple[str, bytes, int | None, bool]] = {
+    b"GET //a?b=%20c#d HTTP/1.1\r\nHost: x\r\n\r\n": ("GET", b"//a?b=%20c#d", None, False),
+    b"GET * HTTP/1.1\r\nHost: x\r\n\r\n": ("GET", b"*", None, False),
+    b"GET https://y:1?q=http://z/ HTTP/1.0\r\n\r\n": ("GET", b"/?q=http://z/", None, False),
+    b"POST /a HTTP/1.1\r\nHost: x\r\nContent-Length:  007\t\r\n\r\n": ("POST", b"/a", 7, False),
+    b"POST /a HTTP/1.1\r\nHost: x\r\nExpect: 100-CONTINUE\r\ncontent-length: 1\r\n\r\n": ("POST", b"/a", 1, True),
+    b"POST /a HTTP/1.0\r\nExpect: 100-continue\r\nContent-Length: 1\r\n\r\n": ("POST", b"/a", 1, False),
+    b"POST / HTTP/1.1\r\nHost: x\r\nContent-Length: " + b"9" * 30 + b"\r\n\r\n": ("POST", b"/", 10**19, False),
+}
+
+
+def test_a_head_is_read_as_what_it_is() -> None:
+    for text, wanted in READ.items():
+        head = head_of(text)
+        assert (head.method, head.path, head.length, head.waits) == wanted, text
+    head = head_of(b"GET / HTTP/1.1\r\nHost: x\r\nA: b \t\r\na:\tc,D\r\n\r\n")
+    assert head.fields.get("a") == "b, c,D" and head.fields.words("A") == {"b", "c", "d"}
+    assert "x" not in head.fields and head.fields.get("x") is None and not head.fields.get_all("x")
+
+
+def test_what_is_left_of_a_head_is_never_another_request() -> None:
+    whole = b"POST /command HTTP/1.1\r\nHost: x\r\nContent-Length: 5\r\n\r\n"
+    for size in range(len(whole)):
+        with contextlib.suppress(BadHead):
+            head = head_of(whole[:size] + b"\r\n\r\n")
+            assert head.path == whole.split()[1][: len(head.path)], whole[:size]

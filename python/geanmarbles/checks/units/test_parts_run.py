@@ -21,7 +21,7 @@ from geanmarbles.checks.parts_run import Runs, Tally, allowed, run_all
 from geanmarbles.checks.programs import LANES
 from geanmarbles.checks.pump import run as pump
 
-NOT_HERE = "press"
+NOT_HERE = "valgrind"
 
 
 def part(text: str, *needs: str, kind: str = "checks", seconds: float = 1) -> Part:
@@ -36,7 +36,7 @@ def ran(parts: Sequence[Part], may_skip: Sequence[str] = (), is_strict: bool = F
     try:
         NEEDS.update({it: lambda: "it isn't here" for it in NEEDS})
         with contextlib.redirect_stdout(said):
-            run_all(parts, tally, Runs({"site": Path("/the/program")}, 3), 2)
+            run_all(parts, tally, Runs(Path("/the/program"), 3), 2)
     finally:
         NEEDS.update(was)
     return tally, said.getvalue()
@@ -89,10 +89,10 @@ def test_in_ci_what_is_skipped_has_a_reason_or_fails() -> None:
         assert tally.whole() == Counted(failed=1)
 
 
-def test_parts_are_given_the_programs_and_their_share() -> None:
+def test_parts_are_given_the_program_and_their_share() -> None:
     shows = part(f"import os, sys; print(sys.argv[1:], os.environ['{LANES}']); print('1 passed, 0 failed')")
-    tally, said = ran([shows._replace(words=(*shows.words, "{site}", "{press}"))])
-    assert "['/the/program', '{press}'] 3\n" in said and tally.whole() == Counted(1)
+    tally, said = ran([shows._replace(words=(*shows.words, "{site}", "{other}"))])
+    assert "['/the/program', '{other}'] 3\n" in said and tally.whole() == Counted(1)
 
 
 def test_what_takes_longest_begins_and_what_is_alone_ends() -> None:
@@ -155,7 +155,7 @@ def test_an_unknown_part_and_a_missing_program_are_refused() -> None:
     words = [sys.executable, "-B", str(Path(__file__).parents[3]), "test", "test"]
     for more, status, says in (
         (["no/such/part"], 2, "no part has 'no/such/part'"),
-        (["--may-skip", "press"], 2, "NAME=REASON"),
+        (["--may-skip", "etcd"], 2, "NAME=REASON"),
         (["--program", "/no/program"], 1, "there is no program at /no/program"),
     ):
         done = subprocess.run([*words, *more], capture_output=True, text=True, check=False)

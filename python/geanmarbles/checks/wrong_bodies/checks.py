@@ -20,7 +20,11 @@ ERROR = re.compile(r"^(?:\./)?(proofs/(\S+)/\w+\.antt):(\d+):\d+: error: (.*(?:\
 NO_FUNCTION = re.compile(r"has no function `([\w:+]+)`")
 LAST_LINE = re.compile(r"^(logic=|only=)", re.M)
 # The goals that `search` tried and did not prove: what else the verdict says is of the functions that are called.
-UNPROVED = re.compile(r"no proof: expected answers in \S+; `search` did not prove ((?:`[^`]*`(?:, )?)+)")
+UNPROVED = re.compile(r"no proof: expected answers in (?:\./)?(\S+); `search` did not prove ((?:`[^`]*`(?:, )?)+)")
+# What is said of a goal of which values were found at which it is false, after its name and the file of its answer.
+FALSE = re.compile(r"^note: `([^`]*)` of (?:\./)?(\S+) may be false: the known facts allow (.*?)(?:: help: .*)?$", re.M)
+# What is said of an answer to a goal that isn't there.
+ABSENT = re.compile(r"\.Goals` has no `([^`]*)`")
 
 
 class Rejected(Exception):
@@ -35,20 +39,29 @@ class Said:
     """What a check reported: the verdict on each function, and the errors in what is written of its proof."""
 
     def __init__(self, text: str) -> None:
+        self.text = text
         self.verdicts: dict[str, str] = dict(VERDICT.findall(text))
         self.errors: dict[str, list[Fault]] = {}
         for file, folder, line, error in ERROR.findall(text):
             self.errors.setdefault(folder.replace("/", "::"), []).append(Fault(file, int(line), error))
 
-    def verdict(self, edit: Edit) -> str | None:
-        return self.verdicts.get(f"{edit.crate}::{edit.function}")
+    def verdict(self, crate: str, function: str) -> str | None:
+        return self.verdicts.get(f"{crate}::{function}")
 
-    def goals(self, edit: Edit) -> list[str]:
-        """The names of the changed function's goals that `search` tried and did not prove.
+    def unproved(self, crate: str, function: str) -> tuple[str, list[str]]:
+        """The file of a function's answers, and the names of those of its goals that `search` tried and did not prove.
 
         A goal that is answered isn't among them: where the answer fails, that tells nothing of the goal."""
-        unproved = UNPROVED.match(self.verdict(edit) or "")
-        return re.findall("`([^`]*)`", unproved[1]) if unproved else []
+        found = UNPROVED.match(self.verdict(crate, function) or "")
+        return (found[1], re.findall("`([^`]*)`", found[2])) if found else ("", [])
+
+    def absent(self, file: str) -> list[str]:
+        """The goals that a file answers though they aren't there."""
+        return [name for of in self.errors.values() for it in of if it.file == file for name in ABSENT.findall(it.said)]
+
+    def values_of(self, file: str) -> dict[str, str]:
+        """Of the goals that would be answered in a file, those of which values were found at which they are false."""
+        return {goal: values for goal, at, values in FALSE.findall(self.text) if at == file}
 
     def faults(self, edit: Edit) -> list[Fault]:
         """The errors in the changed function's proof; of a recursion, which has one proof, those of all of it."""
@@ -87,8 +100,9 @@ class Toolchain:
                 if os.path.isdir(f"{crate.folder}/{part}"):
                     shutil.copytree(f"{crate.folder}/{part}", f"{room}/{part}")
             for path, text in texts.items():
-                with open(f"{room}/{path}", "w", encoding="utf-8") as file:
-                    file.write(text)
+                file = Path(room, path)
+                file.parent.mkdir(parents=True, exist_ok=True)
+                file.write_text(text, encoding="utf-8")
             words = [*crate.words(["--jobs", "1"], keeps=False), "--incremental", kept]
             for function in functions:
                 words += ["--only", function]

@@ -1,13 +1,16 @@
 """The edits: what each changes, and how far its change reaches."""
 
 import re
-from collections.abc import Callable, Iterable, Mapping, Set
+from collections.abc import Callable, Collection, Iterable, Mapping
 from pathlib import Path
 from typing import NamedTuple
 
 NAME = re.compile(r"[A-Za-z0-9_-][A-Za-z0-9_.-]*\.edit")
 FUNCTION = re.compile(r"(\s*)(?:pub(?:\([a-z]+\))? )?(?:const )?fn (\w+)")
 CYCLE = re.compile(r"\s*#\[cycle\((\w+)\)\]")
+# What shows that a body is wrong: a row of tests/rows that fails under it, or a clause of its function, and where that
+# is false.
+SHOWN = re.compile(r"row (?P<row>\S.*)|clause \w+, \S.*")
 # The line that begins a declaration of a proof file, as `pub returns-in-Some : goal.returns-in-Some`.
 DECLARATION = re.compile(r"(?:(?:pub|abbrev|unfoldable) )*([^\s()]+) :")
 
@@ -40,15 +43,17 @@ class Edit:
         self.label = f"{crate}/{stem}"
         self.function = function
         self.pairs = pairs
+        # What the body does wrong, of one that is tried at each run; and what shows that it is wrong, if no goal does.
+        self.named: str | None = None
+        self.shown: str | None = None
         # Set by read_edits: the recursion that the function is part of, if any; the bodies in which the texts lie, each
         # as its file and the line where its function begins; and whether all lies in bodies, one of them that of the
         # function.
         self.cycle: str | None = None
         self.bodies: set[tuple[str, int]] = set()
         self.in_bodies = True
-        # The answers that failed, by proof file the names of their declarations, and what was said of the first.
-        self.aside: dict[str, set[str | None]] = {}
-        self.misfit: str | None = None
+        # The answers that failed: by proof file the names of their declarations, each with what was said of it.
+        self.aside: dict[str, dict[str | None, str]] = {}
 
     def applied(self, texts: Mapping[str, str], read: Read) -> dict[str, str] | None:
         """The texts with this edit made in them and its answers set aside, or None if an old text isn't exactly once in
@@ -69,40 +74,50 @@ class Edit:
         """Sets aside the answers in which errors lie, and says whether any was set aside that wasn't before.
 
         texts and read give the files in which the errors were found, as at `applied`."""
-        before = {file: set(names) for file, names in self.aside.items()}
+        more = False
         for fault in faults:
             if Path(fault.file).name == ANSWERS:
-                text = texts[fault.file] if fault.file in texts else read(fault.file)
-                self.aside.setdefault(fault.file, set()).add(declared_at(text, fault.line))
-                self.misfit = self.misfit or fault.said.splitlines()[0]
-        return self.aside != before
+                name = declared_at(texts[fault.file] if fault.file in texts else read(fault.file), fault.line)
+                names = self.aside.setdefault(fault.file, {})
+                more = more or name not in names
+                names.setdefault(name, " ".join(fault.said.split()))
+        return more
 
 
 def parsed(crate: str, path: Path) -> Edit:
     """The edit that a file holds."""
-    functions: list[str] = []
+    heads: dict[str, list[str]] = {"function": [], "named": [], "shown": []}
     pairs: list[tuple[str, str, str]] = []
-    file: str | None = None
-    old: str | None = None
-    for line in path.read_text(encoding="utf-8").split("\n"):
-        if line.startswith("function: "):
-            functions.append(line[len("function: ") :].strip())
-        elif line.startswith("file: "):
-            file = line[len("file: ") :].strip()
+    file = old = ""
+    for line in filter(None, path.read_text(encoding="utf-8").split("\n")):
+        key, _, text = line.partition(":")
+        text = text.removeprefix(" ")
+        if key in heads:
+            heads[key].append(text.strip())
+        elif key == "file":
+            file = text.strip()
             if not file.startswith(("src/", "specs/", "proofs/")) or ".." in file:
                 raise BadEdit("a 'file:' line names no file below src/, specs/ or proofs/")
-        elif line.startswith("old: "):
-            old = line[len("old: ") :]
-        elif line.startswith("new:"):
+        elif key == "old":
+            old = text
+        elif key == "new":
             if not file or not old:
                 raise BadEdit("a 'new:' line comes before any 'file:' or 'old:' line")
-            pairs.append((file, old, line[len("new:") :].removeprefix(" ")))
-            old = None
-    if len(functions) != 1 or not re.fullmatch(r"[\w:+]+", functions[0]):
+            pairs.append((file, old, text))
+            old = ""
+        else:
+            raise BadEdit(f"it has a line of another kind: {line[:60]}")
+    if len(heads["function"]) != 1 or not re.fullmatch(r"[\w:+]+", heads["function"][0]):
         raise BadEdit("it has not exactly one line 'function: FUNCTION'")
+    if any(len(it) > 1 or "" in it for it in heads.values()):
+        raise BadEdit("it has two lines 'named:' or 'shown:', or one without a text")
+    if not all(SHOWN.fullmatch(it) for it in heads["shown"]):
+        raise BadEdit("its line 'shown:' is neither 'row NAME' nor 'clause NAME, SENTENCE'")
     if not pairs:
         raise BadEdit("it has no 'old:' and 'new:' pair")
-    return Edit(crate, path.stem, functions[0], pairs)
+    edit = Edit(crate, path.stem, heads["function"][0], pairs)
+    edit.named, edit.shown = next(iter(heads["named"]), None), next(iter(heads["shown"]), None)
+    return edit
 
 
 def declarations(text: str) -> list[tuple[str | None, list[str]]]:
@@ -125,7 +140,7 @@ def declared_at(text: str, line: int) -> str | None:
     return None
 
 
-def without(text: str, names: Set[str | None]) -> str:
+def without(text: str, names: Collection[str | None]) -> str:
     """A proof file without the declarations of these names, or without any if what is above them is to go."""
     if None in names:
         return ""

@@ -11,7 +11,7 @@ import functools
 import re
 
 from geanmarbles.repository.reading import CLOSED_BY, closed, text_at, tokens_of
-from geanmarbles.repository.sources import files_of, sum_of_texts
+from geanmarbles.repository.sources import library_files, sum_of_texts
 
 # The files that a function's own proof is written in.
 OF_FUNCTIONS = ("Answers.antt", "Invariants.antt", "Proof.antt")
@@ -77,5 +77,5 @@ def outline_of(text: str) -> str:
 
 def sum_of_exports(folder: str) -> str:
     """A sum of what a library in a folder gives to the crates that stand on it, layout and comments aside."""
-    given = ((path, text) for path, text in files_of(folder) if path.name not in OF_FUNCTIONS)
+    given = ((path, text) for path, text in library_files(folder) if path.name not in OF_FUNCTIONS)
     return sum_of_texts(folder, ((path, outline_of(text) if path.suffix == ".rt" else text) for path, text in given))

@@ -1,18 +1,16 @@
 """Rounds: which edits share a check, and what each check shows of them."""
 
-import re
-from collections.abc import Iterable, Sequence
+from collections.abc import Iterable, Mapping, Sequence
 from pathlib import Path
 from typing import NamedTuple
 
 from geanmarbles.checks.wrong_bodies.checks import NoFunction, Rejected, Said, Toolchain
 from geanmarbles.checks.wrong_bodies.edits import Edit
+from geanmarbles.checks.wrong_bodies.refusals import Control, Refusal, controls_of, said_of
 from geanmarbles.repository.toolchain import Crate
 
 # How often an edit is tried in company before it is tried alone, not counted what only sets answers aside.
 TRIES = 2
-# The clause that a goal's name says, as in `returns-in-Some-clause-value`.
-CLAUSE = re.compile(r"-clause-(\w+)")
 
 
 class Verdict(NamedTuple):
@@ -81,60 +79,72 @@ def try_round(toolchain: Toolchain, made: Round, kept: str) -> list[tuple[Edit, 
         return [pair for it in halves for pair in try_round(toolchain, it, kept)]
 
 
-def refusal(edit: Edit, goals: Sequence[str]) -> str:
-    """What is said of an edit that goals refuse: with the names of the clauses that they are of, if there are any,
-    and with what was said of the first answer that was set aside."""
-    clauses = sorted({it for goal in goals for it in CLAUSE.findall(goal)})
-    by = f"{edit.function}, clause{'s' * (len(clauses) > 1)} {', '.join(clauses)}" if clauses else edit.function
-    named = ", ".join(f"`{it}`" for it in goals)
-    aside = f"; the answer that was set aside: {edit.misfit[:160]}" if edit.misfit else ""
-    return f"refused by {by}: not proved: {named}{aside}"
-
-
-def judged(edit: Edit, said: Said | Rejected) -> Verdict | None:
-    """An edit's verdict by what a check said, or None if that doesn't show one.
+def judged(edit: Edit, said: Said | Rejected) -> Verdict | Refusal | None:
+    """What a check says of an edit, or None if that shows nothing.
 
     An edit is refused by the goals that the prover tried by itself and did not prove. An answer that fails shows
     nothing: the goal may hold, and the answer not fit any more what the edit made of the goal."""
     if isinstance(said, Rejected):
         return Verdict(False, edit.label, f"BAD EDIT: the prover can't be asked: {said}")
-    verdict, goals = said.verdict(edit), said.goals(edit)
+    verdict = said.verdict(edit.crate, edit.function)
     if verdict is None:
         return Verdict(False, edit.label, f"BAD EDIT: the check has no function {edit.function}")
     if verdict == "proved":
         return Verdict(False, edit.label, f"NOT REFUSED: {edit.function} is still proved")
-    return Verdict(True, edit.label, refusal(edit, goals)) if goals else None
+    file, goals = said.unproved(edit.crate, edit.function)
+    return Refusal(edit, file, goals, said.values_of(file)) if goals else None
 
 
 def not_shown(edit: Edit, said: Said) -> Verdict:
-    why = "; ".join(" ".join(it.said.split())[:200] for it in said.faults(edit)) or said.verdict(edit)
+    why = "; ".join(" ".join(it.said.split())[:200] for it in said.faults(edit)) or said.verdict(
+        edit.crate, edit.function
+    )
     return Verdict(
         False, edit.label, f"NOT SHOWN: {edit.function} is not proved, but by no goal of its contract: {why}"
     )
 
 
-def try_edits(toolchain: Toolchain, crate: Crate, edits: Sequence[Edit], kept: str) -> list[Verdict]:
+def tried_in_rounds(
+    toolchain: Toolchain, crate: Crate, edits: Sequence[Edit], kept: str
+) -> tuple[list[Verdict], list[Refusal]]:
     """Tries a crate's edits, in as few rounds as show them all. The answers of an edit's function that fail are set
     aside for the next round, where the prover tries their goals by itself."""
-    verdicts, tries = [], {it.label: 0 for it in edits}
+    verdicts: list[Verdict] = []
+    refusals: list[Refusal] = []
+    tries = {it.label: 0 for it in edits}
     left = [it for it in edits if it.in_bodies]
     alone = [it for it in edits if not it.in_bodies]
     while left or alone:
         made = round_of(crate, left or alone[:1])
         for edit, said in try_round(toolchain, made, kept):
             (left if edit in left else alone).remove(edit)
-            verdict = judged(edit, said)
+            found = judged(edit, said)
             if (
-                verdict is None
+                found is None
                 and isinstance(said, Said)
                 and not edit.set_aside(said.faults(edit), made.texts, made.read)
             ):
                 tries[edit.label] += 1
-                verdict = not_shown(edit, said) if len(made.edits) == 1 else None
-            if verdict:
-                verdicts.append(verdict)
+                found = not_shown(edit, said) if len(made.edits) == 1 else None
+            if isinstance(found, Refusal):
+                refusals.append(found)
+            elif found:
+                verdicts.append(found)
             elif edit.in_bodies and tries[edit.label] < TRIES:
                 left.append(edit)
             else:
                 alone.append(edit)
+    return verdicts, refusals
+
+
+def try_edits(
+    toolchain: Toolchain, crate: Crate, edits: Sequence[Edit], kept: str, known: Mapping[str, str]
+) -> list[Verdict]:
+    """The verdicts on a crate's edits. Those of which it is known by their labels what their refusal shows have no
+    control."""
+    verdicts, refusals = tried_in_rounds(toolchain, crate, edits, kept)
+    controls = controls_of(toolchain, crate, [it for it in refusals if it.edit.label not in known], kept)
+    for it in refusals:
+        said = known.get(it.edit.label) or said_of(it, controls.get(it.file, Control()))
+        verdicts.append(Verdict(True, it.edit.label, said))
     return verdicts

@@ -1,17 +1,18 @@
 """Edits whose verdicts are known, of a crate made for them: the runner must tell what refuses an edit, and try it again
 just when something that the refusal rests on has changed."""
 
+import argparse
 import json
 import re
 import subprocess
 import tempfile
-from collections.abc import Callable, Iterable, Iterator, Mapping, Sequence
+from collections.abc import Callable, Iterable, Iterator
 from pathlib import Path
 
 from geanmarbles.checks.wrong_bodies.checks import Toolchain
-from geanmarbles.checks.wrong_bodies.edits import Edit, read_edits
-from geanmarbles.checks.wrong_bodies.record import Record, try_and_record
+from geanmarbles.checks.wrong_bodies.record import Record
 from geanmarbles.checks.wrong_bodies.rounds import Verdict
+from geanmarbles.checks.wrong_bodies.trying import Run
 from geanmarbles.paths import ROOT
 from geanmarbles.repository.reading import read_of
 from geanmarbles.repository.sources import files_of
@@ -39,6 +40,7 @@ pub fn next(n: u16) -> u32
 use numbers::next;
 
 ghost use Rattle.std.specs.Prelude.{◌≡◌, ◌+◌, ◌≤◌, IfSome};
+ghost use Rattle.sample.specs.Counts.{fourth};
 
 /// Whether a number is one of the first nine after 0.
 pub fn is_digit(n: u8) -> bool
@@ -71,8 +73,43 @@ pub fn third_after(n: u8) -> u32
     let last = next(after(n));
     1 + last
 }
+
+/// The fourth number after another.
+pub fn fourth_after(n: u8) -> u16
+    ensures { result ≡ fourth n }
+{
+    u16::from(n) + 4
+}
+
+/// The same number.
+pub fn fourth_again(n: u8) -> u16
+    ensures { result ≡ fourth n }
+{
+    fourth_after(n)
+}
+""",
+    "crates/sample/specs/Lib.antt": "pub mod Counts\n",
+    "crates/sample/specs/Counts.antt": """\
+use Rattle.std.specs.Prelude.{ℕ, ◌+◌}
+
+-- the fourth number after another
+unfoldable pub fourth : ℕ → ℕ
+fourth n = n + 4
 """,
     "crates/sample/proofs/Lib.antt": "",
+    # The prover doesn't look into the definition by itself.
+    "crates/sample/proofs/fourth_after/Answers.antt": """\
+use Rattle.std.proofs.Common.{rules, arith, ◌≡◌, ◌+◌, ℕ}
+use Rattle.sample.specs.Counts.{fourth}
+use Rattle.sample.proofs.fourth_after.Goals as goal
+
+is_fourth : (m n : ℕ) → m ≡ n → m + 4 ≡ fourth n
+unfolding fourth
+is_fourth m n same = omega arith
+
+pub returns : goal.returns
+returns c = is_fourth c.from.result c.args.n (search rules)
+""",
     # These files name goals by a local's name, as proof files do.
     "crates/sample/proofs/is_digit/Answers.antt": """\
 use Rattle.std.proofs.Common.{rules}
@@ -93,38 +130,48 @@ returns-then-follows-clause-less c =
 }
 
 # The name of each edit, what must be said of it, the function that it changes, and what becomes what.
-EDITS: list[tuple[str, str, str, dict[str, str]]] = [
+EDITS: dict[str, tuple[str, str, dict[str, str]]] = {
     # A goal of another name, which holds: its answer names one that isn't there.
-    (
-        "renames_a_local",
+    "renames_a_local": (
         "NOT REFUSED",
         "is_digit",
         {"    let some =": "    let any =", "    some && n": "    any && n"},
     ),
-    ("is_let_through", "NOT REFUSED", "is_digit", {"    some && n < 10": "    some && n < 11"}),
+    "is_let_through": ("NOT REFUSED", "is_digit", {"    some && n < 10": "    some && n < 11"}),
     # A goal that has become trivial: its answer is of what the goal was.
-    ("gives_up", "NOT REFUSED", "before", {"follows { Some(n - 1) }": "follows { None }"}),
-    ("is_no_less", "refused by before, clause less: not proved: ", "before", {"{ Some(n - 1) }": "{ Some(n) }"}),
-    (
-        "counts_two",
-        "refused by after: not proved: `returns`",
+    "gives_up": ("NOT REFUSED", "before", {"follows { Some(n - 1) }": "follows { None }"}),
+    "is_no_less": ("refused by before, clause less: not proved: ", "before", {"{ Some(n - 1) }": "{ Some(n) }"}),
+    "counts_two": (
+        "disproved at `c.from.result` = ",
         "after",
         {"    u16::from(n) + 1": "    u16::from(n) + 2"},
     ),
-    ("means_the_same", "NOT REFUSED", "third_after", {"    1 + last": "    last + 1"}),
-]
+    "means_the_same": ("NOT REFUSED", "third_after", {"    1 + last": "    last + 1"}),
+    # The prover proves the goal of the unedited function, and finds no values, since it doesn't look into `fourth`.
+    "halves": (
+        "control: refused by fourth_again: ",
+        "fourth_again",
+        {"    fourth_after(n)": "    fourth_after(n / 2)"},
+    ),
+    # The prover proved the goal by its answer alone.
+    "counts_five": ("hand proof alone: refused by fourth_after: ", "fourth_after", {"(n) + 4": "(n) + 5"}),
+}
+NAMED = "is_no_less"
+OPTIONS = argparse.Namespace(anew=False, renew=False, follow=None, lanes=1, from_nothing=False)
 
 
-def text_of(function: str, changes: Mapping[str, str]) -> str:
+def text_of(stem: str) -> str:
     """The text of an edit of src/lib.rt."""
-    lines = [f"function: {function}", "file: src/lib.rt"]
+    _, function, changes = EDITS[stem]
+    lines = ["named: It says that a number is less than itself."] * (stem == NAMED)
+    lines += [f"function: {function}", "file: src/lib.rt"]
     for old, new in changes.items():
         lines += [f"old: {old}", f"new: {new}"]
     return "\n".join(lines) + "\n"
 
 
-def sample_in(toolchain: Toolchain, room: str) -> Crate:
-    """The small crate, written below a folder, and its edits."""
+def sample_in(toolchain: Toolchain, room: str, stems: Iterable[str]) -> Crate:
+    """The small crate, written below a folder, and these edits of it."""
     for path, text in FILES.items():
         file = Path(room, path)
         file.parent.mkdir(parents=True, exist_ok=True)
@@ -132,36 +179,38 @@ def sample_in(toolchain: Toolchain, room: str) -> Crate:
     crate = next(it for it in toolchain.crates(room) if it.name == "sample")
     folder = Path(crate.folder, "wrong-bodies")
     folder.mkdir()
-    for stem, _, function, changes in EDITS:
-        Path(folder, f"{stem}.edit").write_text(text_of(function, changes), encoding="utf-8")
+    for stem in stems:
+        Path(folder, f"{stem}.edit").write_text(text_of(stem), encoding="utf-8")
     return crate
 
 
-def read(crate: Crate, stems: Iterable[str]) -> list[Edit]:
-    return [read_edits(crate.name, crate.folder, Path(crate.folder, "wrong-bodies", f"{it}.edit")) for it in stems]
+def tried(toolchain: Toolchain, crate: Crate, record: Record) -> list[Verdict]:
+    """The verdicts on those edits that a run tries."""
+    run = Run(OPTIONS, toolchain, record, [crate], {})
+    untried = run.untried(crate)
+    return run.tried(crate, untried) if untried else []
 
 
-def tried(toolchain: Toolchain, crate: Crate, edits: Sequence[Edit], record: Record) -> list[Verdict]:
-    """The verdicts on those edits that the record lacks."""
-    untried = record.lacks(crate, edits)
-    if not untried:
-        return []
-    toolchain.build_below(crate)
-    with tempfile.TemporaryDirectory(prefix="wrong-bodies-") as kept:
-        return try_and_record(toolchain, crate, edits, untried, kept, record)
-
-
-def verdicts_are_right(toolchain: Toolchain, crate: Crate, record: Record) -> Iterator[Verdict]:
-    """Whether each edit gets the verdict that it must get, and the record has those that are refused."""
-    edits = read(crate, [it[0] for it in EDITS])
-    wanted = {f"sample/{stem}": said for stem, said, _, _ in EDITS}
-    for _, label, said in tried(toolchain, crate, edits, record):
-        yield Verdict(said.startswith(wanted.pop(label)), f"self-test: {label}", said)
+def verdicts_are_right(toolchain: Toolchain, room: str, record: Record) -> Iterator[Verdict]:
+    """Whether each edit gets the verdict that it must get, the record has those that are refused, and the one with a
+    name is tried though the record has it."""
+    crate = sample_in(toolchain, f"{room}/one", EDITS)
+    wanted = {f"sample/{stem}": said for stem, (said, *_) in EDITS.items()}
+    for _, label, said in tried(toolchain, crate, record):
+        yield Verdict(wanted.pop(label) in said, f"self-test: {label}", said)
     for label in wanted:
         yield Verdict(False, f"self-test: {label}", "no verdict")
-    lacking = {it.label for it in record.lacks(crate, edits)}
-    unrefused = {f"sample/{stem}" for stem, said, _, _ in EDITS if not said.startswith("refused")}
-    yield Verdict(lacking == unrefused, "self-test: record", "has what was refused")
+    refused = {f"sample/{stem}" for stem, (said, *_) in EDITS.items() if said != "NOT REFUSED"}
+    yield Verdict(set(record.refusals) == refused, "self-test: record", "has what was refused")
+
+
+def names_are_tried(toolchain: Toolchain, crate: Crate, path: Path) -> Verdict:
+    """Whether of edits that the record has, in another folder, the one with a name is tried, and its line stays."""
+    before = path.read_text(encoding="utf-8")
+    verdicts = tried(toolchain, crate, Record(path, toolchain.identity))
+    well = [it.label for it in verdicts if it.refused] == [f"sample/{NAMED}"] and len(verdicts) == 1
+    well = well and all(it in before for it in path.read_text(encoding="utf-8").splitlines())
+    return Verdict(well, "self-test: a refusal is recorded", "wherever the repository is; a name is tried all the same")
 
 
 def changed(path: Path, old: str, new: str) -> None:
@@ -190,11 +239,9 @@ def changes_are_noticed(toolchain: Toolchain, crate: Crate, path: Path) -> Itera
     ]
     for again, what, change in changes:
         change()
-        record = Record(path, kit[-1])
-        edits = read(crate, ["counts_two"])
-        verdicts = tried(toolchain, crate, edits, record)
+        verdicts = tried(toolchain, crate, Record(path, kit[-1]))
         well = len(verdicts) == again and all(it.refused for it in verdicts)
-        well = well and not Record(path, kit[-1]).lacks(crate, edits)
+        well = well and not Run(OPTIONS, toolchain, Record(path, kit[-1]), [crate], {}).untried(crate)
         yield Verdict(well, "self-test: a refusal is recorded", f"{what}{', tried again' if again else ''}")
 
 
@@ -230,9 +277,8 @@ def self_test(toolchain: Toolchain) -> Iterator[Verdict]:
     yield readings_agree(toolchain)
     with tempfile.TemporaryDirectory(prefix="wrong-bodies-sample-") as room:
         path = Path(room, "refused.txt")
-        crate = sample_in(toolchain, f"{room}/one")
-        yield from verdicts_are_right(toolchain, crate, Record(path, toolchain.identity))
-        other = sample_in(toolchain, f"{room}/other")
-        lacking = Record(path, toolchain.identity).lacks(other, read(other, ["counts_two"]))
-        yield Verdict(not lacking, "self-test: a refusal is recorded", "wherever the repository is")
+        yield from verdicts_are_right(toolchain, room, Record(path, toolchain.identity))
+        crate = sample_in(toolchain, f"{room}/other", ["counts_two", NAMED])
+        yield names_are_tried(toolchain, crate, path)
+        Path(crate.folder, f"wrong-bodies/{NAMED}.edit").unlink()
         yield from changes_are_noticed(toolchain, crate, path)

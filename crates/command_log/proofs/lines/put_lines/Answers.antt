@@ -2,8 +2,8 @@ use Rattle.std.proofs.Common.{◌≡◌, ◌<◌, ◌∷◌, ◌++◌, ◌+◌, 
 use Rattle.std.proofs.lemmas.List.{take_more, take-map, length-map}
 use Rattle.std.specs.String.{string_bytes}
 use Rattle.sha2.specs.Sha256.{sha256}
-use Rattle.line_digests.specs.Digests.{digest_after}
-use Rattle.line_digests.proofs.Digests.{after_more}
+use Rattle.command_log.specs.Digests.{digest_after}
+use Rattle.command_log.proofs.Digests.{after_more}
 use Rattle.command_log.specs.Lines.{Puts, PutsAny, rows_of}
 use Rattle.command_log.specs.Faults.{Unstorable}
 use Rattle.command_log.proofs.Numbers.{map_last}

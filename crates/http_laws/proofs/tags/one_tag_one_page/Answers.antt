@@ -1,6 +1,6 @@
 use Rattle.std.proofs.Common.{◌∙◌, sym, ap}
 use Rattle.site_http.specs.Pages.{page_line}
-use Rattle.site_program.proofs.Rebuilding.{done-whole, page-agrees, reply-unkept}
+use Rattle.site_laws.proofs.Histories.{done-whole, page-agrees, reply-unkept}
 use Rattle.http_laws.proofs.Unedited.{page-is, page_unkept, rows-stay}
 use Rattle.http_laws.proofs.tags.one_tag_one_page.Goals as goal
 

@@ -1,6 +1,6 @@
 use Rattle.std.proofs.Common.{arith, inl, inr, ◌∙◌, [], None, Some, refl, sym, append-nil}
 use Rattle.std.proofs.lemmas.List.Elements.{All-nil}
-use Rattle.http_frames.specs.Frame.{FrameData}
+use Rattle.http_streams.specs.Frame.{FrameData}
 use Rattle.http_streams.specs.Deeds.{Deed}
 use Rattle.http_streams.proofs.Dealing.{dealt, deed_of, ended_so, idle_known, idle_table, on_ok, part_table, pushed, put_entry, taken_entry, taken_session, taken_so, turned_away, went}
 use Rattle.http_streams.proofs.Parts.{IsKept, on_any_ok, on_no_ok}

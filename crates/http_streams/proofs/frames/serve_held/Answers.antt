@@ -1,6 +1,6 @@
 use Rattle.std.proofs.Common.{arith, ◌≡◌, ◌∙◌, ◌++◌, ◌+◌, drop, length, refl, sym, ap}
 use Rattle.std.proofs.lemmas.List.{length-drop}
-use Rattle.http_frames.specs.Frame.{FrameData}
+use Rattle.http_streams.specs.Frame.{FrameData}
 use Rattle.http_streams.proofs.Holding.{held_all, held_last, held_more, held_none}
 use Rattle.http_streams.proofs.Stretch.{front_tail, tails, used_of}
 use Rattle.http_streams.proofs.frames.serve_held.Goals as goal

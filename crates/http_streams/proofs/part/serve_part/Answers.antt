@@ -2,7 +2,7 @@ use Rattle.std.proofs.Common.{arith, Ok, ◌≡◌, ◌∙◌, length, refl, sym
 use Rattle.std.proofs.lemmas.Grind.{common_steps}
 use Rattle.http_server.specs.Connection.{history}
 use Rattle.http_server.specs.History.{History}
-use Rattle.http_rounds.proofs.Round.{calls_sound}
+use Rattle.http_streams.proofs.Round.{calls_sound}
 use Rattle.http_streams.proofs.Parts.{commits, ends, first_ended, last_read, later_read, loses, nil_of, on_no_ok, reads, sends, stays, untouched}
 use Rattle.http_streams.proofs.part.serve_part.Goals as goal
 use Rattle.http_streams.proofs.part.serve_part.Goals.{then-wants_write+in_ok-drain, else-wants_write+else-is_empty+in_ok-read_from-2+else-branch-eq0}

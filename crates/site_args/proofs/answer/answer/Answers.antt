@@ -10,4 +10,4 @@ returns-in-Some-2-clause-read c =
     let task = c.in-Some.task in
     let none = none_mapped string_bytes o.token_file c.is_none.result (sym c.is_none.ensures) in
     bad_for o c.bad.result c.bad.ensures
-    (inr (task, c.in-Some.ensures, ap (λ n. suits o.http o.framed n task) none ∙ sym c.suits.ensures ∙ c.if-suits.false))
+    (inr (task, c.in-Some.ensures, ap (λ n. suits o.flags.http o.flags.framed n task) none ∙ sym c.suits.ensures ∙ c.if-suits.false))

@@ -4,7 +4,7 @@ use Rattle.std.specs.Str.Parse.{ParsesUnsigned, ExplainsUnsignedError, HasUnsign
 use Rattle.std.proofs.lemmas.Result.{err_from_is_err_and}
 use Rattle.clap.specs.Words.{App, HasKind, app_of, fault_of, found_of, is_simple, is_simple_and_free, matches_of, one_of, one_text, first_of, rows_of}
 use Rattle.clap.proofs.WalkLemmas.{one_text-rows, first_value-rows}
-use Rattle.site_args.specs.CommandLine.{number_or, is_given, site_app}
+use Rattle.site_args.specs.CommandLine.{number_or, flags_in, site_app}
 use Rattle.site_args.proofs.SiteApp.{simple, simple_and_free}
 use Rattle.site_args.proofs.GivenValues.{calls_read, cache_read, number_is}
 use Rattle.site_args.proofs.answer.read_options.Goals as goal
@@ -43,45 +43,14 @@ returns-clause-cache c =
     c.in_ok-matches.ensures.parsed) in
     rw c.unwrap_or-cache.ensures (number.0, number.1, number.2 ∙ ap (number_or 64) text)
 
-pub returns-clause-trace : goal.returns-clause-trace
-returns-clause-trace c = c.is_given-trace.ensures
-    ∙ ap is_given (c.get_str.ensures ∙ first_value-rows (found_of c.in_ok-matches.matches) (codes "trace") ∙ ap (first_of (codes "trace")) (rows_are c))
-
-pub returns-clause-must_exist : goal.returns-clause-must_exist
-returns-clause-must_exist c = c.is_given-must_exist.ensures
-    ∙ ap is_given (c.get_str-2.ensures ∙ first_value-rows (found_of c.in_ok-matches.matches) (codes "must-exist")
-    ∙ ap (first_of (codes "must-exist")) (rows_are c))
-
-pub returns-clause-without_wal : goal.returns-clause-without_wal
-returns-clause-without_wal c = c.is_given-without_wal.ensures
-    ∙ ap is_given (c.get_str-3.ensures ∙ first_value-rows (found_of c.in_ok-matches.matches) (codes "without-wal")
-    ∙ ap (first_of (codes "without-wal")) (rows_are c))
-
-pub returns-clause-export : goal.returns-clause-export
-returns-clause-export c = c.is_given-export.ensures
-    ∙ ap is_given (c.get_str-4.ensures ∙ first_value-rows (found_of c.in_ok-matches.matches) (codes "export") ∙ ap (first_of (codes "export")) (rows_are c))
-
-pub returns-clause-compact : goal.returns-clause-compact
-returns-clause-compact c = c.is_given-compact.ensures
-    ∙ ap is_given (c.get_str-5.ensures ∙ first_value-rows (found_of c.in_ok-matches.matches) (codes "compact") ∙ ap (first_of (codes "compact")) (rows_are c))
-
-pub returns-clause-check : goal.returns-clause-check
-returns-clause-check c = c.is_given-check.ensures
-    ∙ ap is_given (c.get_str-6.ensures ∙ first_value-rows (found_of c.in_ok-matches.matches) (codes "check") ∙ ap (first_of (codes "check")) (rows_are c))
-
-pub returns-clause-http : goal.returns-clause-http
-returns-clause-http c = c.is_given-http.ensures
-    ∙ ap is_given (c.get_str-7.ensures ∙ first_value-rows (found_of c.in_ok-matches.matches) (codes "http") ∙ ap (first_of (codes "http")) (rows_are c))
-
-pub returns-clause-framed : goal.returns-clause-framed
-returns-clause-framed c = c.is_given-framed.ensures
-    ∙ ap is_given (c.get_str-8.ensures ∙ first_value-rows (found_of c.in_ok-matches.matches) (codes "framed") ∙ ap (first_of (codes "framed")) (rows_are c))
+pub returns-clause-flags : goal.returns-clause-flags
+returns-clause-flags c = c.flags_in-flags.ensures ∙ ap flags_in (rows_are c)
 
 pub returns-clause-token_file : goal.returns-clause-token_file
 returns-clause-token_file c = c.in_ok-token_file.ensures
-    ∙ (c.get_str-10.ensures ∙ first_value-rows (found_of c.in_ok-matches.matches) (codes "token-file")
+    ∙ (c.get_str-2.ensures ∙ first_value-rows (found_of c.in_ok-matches.matches) (codes "token-file")
     ∙ ap (first_of (codes "token-file")) (rows_are c))
 
 pub returns-clause-database : goal.returns-clause-database
 returns-clause-database c = c.in_ok-database.ensures
-    ∙ (c.get_str-9.ensures ∙ first_value-rows (found_of c.in_ok-matches.matches) (codes "database") ∙ ap (first_of (codes "database")) (rows_are c))
+    ∙ (c.get_str.ensures ∙ first_value-rows (found_of c.in_ok-matches.matches) (codes "database") ∙ ap (first_of (codes "database")) (rows_are c))

@@ -1,9 +1,8 @@
+use Rattle.std.proofs.Common.{◌∙◌, ap}
 use Rattle.std.proofs.lemmas.Result.{IfOk-weaker}
-use Rattle.site_args.proofs.SiteApp.{app_is}
+use Rattle.site_args.specs.CommandLine.{option_rules, site_app, with_rules}
 use Rattle.site_args.proofs.options.site_command.Goals as goal
 
 pub returns : goal.returns
-returns c =
-    IfOk-weaker c.with_http_options.result _ _
-    (λ command is. app_is _ _ _ _ _ c.bare_command.ensures c.in_ok-serving.ensures c.in_ok-filed.ensures c.in_ok-logged.ensures is)
-    c.with_http_options.ensures
+unfolding site_app
+returns c = IfOk-weaker c.with_options.result _ _ (λ command is. is ∙ ap (λ app. with_rules app option_rules) c.bare_command.ensures) c.with_options.ensures

@@ -1,5 +1,5 @@
 use Rattle.std.proofs.Common.{◌∙◌, ap, rules}
-use Rattle.line_digests.specs.Digests.{digest_of}
+use Rattle.command_log.specs.Digests.{digest_of}
 use Rattle.command_log.specs.Lines.{lines_in}
 use Rattle.site_tasks.proofs.summary.summary_of.Goals as goal
 

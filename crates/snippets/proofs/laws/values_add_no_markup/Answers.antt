@@ -1,6 +1,6 @@
 use Rattle.std.proofs.Common.{refl}
 use Rattle.snippets.specs.Templates.{printed}
-use Rattle.snippets.proofs.InPlace.{in_place}
+use Rattle.snippets.proofs.InPlace.{in_place, stays_nowhere}
 use Rattle.snippets.proofs.Markup.{template_marks, reply_marks, no_script}
 use Rattle.snippets.proofs.laws.values_add_no_markup.Goals as goal
 
@@ -16,6 +16,9 @@ returns-clause-places c = in_place
 pub returns-clause-pieces : goal.returns-clause-pieces
 unfolding printed
 returns-clause-pieces c = λ template content values. refl
+
+pub returns-clause-nowhere : goal.returns-clause-nowhere
+returns-clause-nowhere c = stays_nowhere
 
 pub returns-clause-scripts : goal.returns-clause-scripts
 returns-clause-scripts c = no_script

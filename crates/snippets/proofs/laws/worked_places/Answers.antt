@@ -63,3 +63,15 @@ returns-clause-after_end_tag c = refl
 
 pub returns-clause-no_end_tag : goal.returns-clause-no_end_tag
 returns-clause-no_end_tag c = refl
+
+pub returns-clause-escaped : goal.returns-clause-escaped
+returns-clause-escaped c = refl
+
+pub returns-clause-escaped_once : goal.returns-clause-escaped_once
+returns-clause-escaped_once c = refl
+
+pub returns-clause-dash : goal.returns-clause-dash
+returns-clause-dash c = refl
+
+pub returns-clause-after_style : goal.returns-clause-after_style
+returns-clause-after_style c = refl

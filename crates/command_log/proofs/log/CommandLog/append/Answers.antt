@@ -1,8 +1,8 @@
 use Rattle.std.proofs.Common.{[], ℕ, List, map, ap, sym, ◌∙◌}
 use Rattle.std.specs.String.{string_bytes}
 use Rattle.sha2.specs.Sha256.{sha256}
-use Rattle.line_digests.specs.Digests.{digest_after, digest_of}
-use Rattle.line_digests.proofs.Digests.{after_both}
+use Rattle.command_log.specs.Digests.{digest_after, digest_of}
+use Rattle.command_log.proofs.Digests.{after_both}
 use Rattle.command_log.specs.Lines.{lines_of}
 use Rattle.command_log.proofs.log.CommandLog.append.Goals as goal
 

@@ -1,6 +1,6 @@
 use Rattle.std.proofs.Common.{ap, sym, subst, ◌∙◌}
 use Rattle.sqlite.specs.Effect.{Database}
-use Rattle.line_digests.specs.Digests.{digest_of}
+use Rattle.command_log.specs.Digests.{digest_of}
 use Rattle.sqlite.specs.Held.{state}
 use Rattle.sqlite.specs.State.{HasCleanDisk}
 use Rattle.command_log.specs.Lines.{IsOpen, lines_in, lines_of}

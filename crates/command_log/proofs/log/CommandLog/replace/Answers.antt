@@ -1,5 +1,5 @@
 use Rattle.std.proofs.Common.{ap, sym, ◌∙◌}
-use Rattle.line_digests.specs.Digests.{digest_of}
+use Rattle.command_log.specs.Digests.{digest_of}
 use Rattle.command_log.proofs.log.CommandLog.replace.Goals as goal
 
 pub invariant_of-self : goal.invariant_of-self

@@ -1,6 +1,6 @@
 use Rattle.std.proofs.Common.{rules, ◌≡◌}
 use Rattle.std.specs.FinMap.{entries_sorted}
-use Rattle.sorted_texts.specs.Sorted.{AreSorted}
+use Rattle.site_records.specs.Sorted.{AreSorted}
 use Rattle.site_store.specs.Stored.{options_of, templates_of, active_of, found_by}
 use Rattle.site_program.specs.Requests.{settings_for}
 use Rattle.site_program.specs.Site.{engine_of, calls_of, opened_as}

@@ -1,6 +1,6 @@
 use Rattle.std.proofs.Common.{◌≡◌, rules}
 use Rattle.std.specs.FinMap.{entries_sorted}
-use Rattle.sorted_texts.specs.Sorted.{AreSorted}
+use Rattle.site_records.specs.Sorted.{AreSorted}
 use Rattle.site_store.specs.Stored.{found_by}
 use Rattle.site_store.proofs.Keeping.{found-up}
 use Rattle.site_store.proofs.stored.SiteStore.found.Goals as goal

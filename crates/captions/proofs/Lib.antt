@@ -1,2 +1,0 @@
-mod InPlace
-mod Printing

@@ -1,5 +1,0 @@
-pub mod Pieces
-pub mod Figures
-pub mod FigureParts
-pub mod Players
-pub mod Captions

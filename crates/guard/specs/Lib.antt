@@ -1,3 +1,0 @@
-pub mod PlaceParts
-pub mod Guarded
-pub mod Guard

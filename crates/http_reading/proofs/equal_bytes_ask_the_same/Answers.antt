@@ -1,5 +1,0 @@
-use Rattle.http_reading.proofs.Same.{ask_the_same}
-use Rattle.http_reading.proofs.equal_bytes_ask_the_same.Goals as goal
-
-pub returns : goal.returns
-returns c = ask_the_same

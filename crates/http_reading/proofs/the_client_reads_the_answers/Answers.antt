@@ -1,9 +1,0 @@
-use Rattle.http1.proofs.OneParse.{answers_unique}
-use Rattle.http_reading.proofs.Streams.{all_read}
-use Rattle.http_reading.proofs.the_client_reads_the_answers.Goals as goal
-
-pub returns-clause-reads : goal.returns-clause-reads
-returns-clause-reads c = all_read
-
-pub returns-clause-alone : goal.returns-clause-alone
-returns-clause-alone c = answers_unique

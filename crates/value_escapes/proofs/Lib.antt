@@ -1,3 +1,0 @@
-mod Addresses
-pub mod Marks
-mod Numbers
