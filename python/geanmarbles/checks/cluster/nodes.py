@@ -3,6 +3,7 @@
 from __future__ import annotations
 
 import json
+import os
 import sys
 import tempfile
 import time
@@ -23,6 +24,9 @@ HAND_OVER = """import os, sys
 os.dup2(int(sys.argv[1]), 3)
 os.execve(sys.argv[2], sys.argv[2:], {**os.environ, "LISTEN_PID": str(os.getpid()), "LISTEN_FDS": "1"})
 """
+# Where members keep their files: in memory if there is such a folder, since a disk that is busy holds up each edit by
+# seconds, and no check here takes the power away.
+MEMORY = "/dev/shm" if os.access("/dev/shm", os.W_OK) else None
 # How long a node may take to listen and to be ready, and for one answer, on a machine that has much else to do.
 LISTENS, READY, ANSWERS = 120, 120, 60
 
@@ -144,7 +148,7 @@ class Cluster:
 
     def __enter__(self) -> Self:
         with ExitStack() as stack:
-            self.folder = Path(stack.enter_context(tempfile.TemporaryDirectory(prefix="site-cluster-")))
+            self.folder = Path(stack.enter_context(tempfile.TemporaryDirectory(prefix="site-cluster-", dir=MEMORY)))
             self.token = self.folder / "token"
             self.token.write_text(TOKEN + "\n", encoding="utf-8")
             self.token.chmod(0o600)

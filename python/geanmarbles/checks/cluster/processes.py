@@ -21,8 +21,8 @@ T = TypeVar("T")
 
 # In the environment of each process that a test starts, and of those that they start.
 MARK = "SITE_CLUSTER_TEST"
-# How long a process may take to end by itself.
-SECONDS = 10
+# How long a process may take to end by itself: a node has ten seconds for what is under way.
+SECONDS = 13
 # What holds ports for this test.
 RANDOM, HELD = SystemRandom(), []
 

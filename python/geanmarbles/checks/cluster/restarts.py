@@ -28,6 +28,7 @@ from typing import Self
 from geanmarbles.checks.cluster.attacks import edits
 from geanmarbles.checks.cluster.clients import DATE, joined, line_of, name_of
 from geanmarbles.checks.cluster.nodes import TOKEN, Cluster, Node
+from geanmarbles.checks.cluster.processes import SECONDS as ENDS
 from geanmarbles.checks.cluster.processes import wait_for
 from geanmarbles.checks.cluster.raw import Raw
 from geanmarbles.checks.judging import Cases, Skipped, must
@@ -40,8 +41,6 @@ CLIENTS, SECONDS = 12, 30
 HEALTH_SECONDS, AROUND_SECONDS = 0.1, 0.7
 # One of so many requests is an edit.
 EDITS = 8
-# How long a node may take to end, with requests under way and without.
-ENDS = 13
 PAGE, HEALTH = b"GET / HTTP/1.1\r\nHost: x\r\n\r\n", b"GET /health HTTP/1.1\r\nHost: x\r\n\r\n"
 # How often a sign of life is asked for, in microseconds.
 WATCHDOG = 1_000_000
