@@ -118,7 +118,7 @@ pub fn serve_path<C: Commands + Drop, V: Watch>(
     clients: Clients,
     watch: V,
 ) -> ExitCode {
-    let Ok(source) = WhileThere::new(rt, path, Reading::new(rt.reader())) else {
+    let Ok(source) = WhileThere::new(rt, Some(path), Reading::new(rt.reader())) else {
         return failed(rt, ServeFault::OutOfMemory);
     };
     let task = ServeClients {

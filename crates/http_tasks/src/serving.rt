@@ -1,5 +1,5 @@
 //! Serving clients of HTTP.
-ghost use Rattle.std.specs.Prelude.{◌≡◌, ℕ, List, false, option_map};
+ghost use Rattle.std.specs.Prelude.{◌≡◌, ◌≢◌, ℕ, List, [], Some, false, option_map};
 ghost use Rattle.std.specs.String.{string_bytes};
 ghost use Rattle.byte_io.specs.Journal.{IsSettled};
 ghost use Rattle.http_tasks.specs.Told.{HoldsTold};
@@ -21,8 +21,10 @@ use std::random::RandomSource;
 pub struct Clients {
     /// Whether there are many clients, whose bytes are in frames, in place of one.
     pub framed: bool,
-    /// The token that edits need; without one, none are taken.
+    /// The token that edits need; without one, none are taken. An empty one would let in everybody who
+    /// sends `Authorization: Bearer ` with nothing after it.
     pub token: Option<String>,
+    ghost token_is_not_empty: { option_map string_bytes token ≢ Some [] },
 }
 
 /// Serves a site that ends with the program.

@@ -8,6 +8,7 @@ use Rattle.site_program.specs.Requests.{Opened}
 abbrev pub Places : Type 0
 Places = List (Option Opened)
 
+-- no page is open
 abbrev pub no_pages : Places
 no_pages = None ∷ None ∷ None ∷ None ∷ None ∷ None ∷ None ∷ None ∷ []
 
@@ -24,6 +25,7 @@ pub record State : Type 0 where
 abbrev pub empty_under : Option ℕ → State
 empty_under limit = record { rows = record no_rows { step_limit = limit }; pages = no_pages }
 
+-- the same without a limit, as a site begins
 abbrev pub empty_site : State
 empty_site = empty_under None
 

@@ -17,7 +17,6 @@ mod watched;
 
 pub use byte_io::{EndFault, Journal, Message, Reading, Sink, Source, Writing};
 pub use page_trace::{PageEnd, PageName, PageTrace, Told, Unwatched, Watch};
-pub use serve::serve_site;
 pub use site::Site;
 pub use site_edits::StoreFault;
 pub use site_replies::{Refusal, ServeFault, SiteReply};

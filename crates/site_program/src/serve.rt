@@ -1,12 +1,8 @@
 //! Serving an input over a site.
-ghost use Rattle.std.specs.Prelude.{◌≡◌, ◌≢◌, ◌++◌, ℕ, List, Some, Err, false, OnOk, IfErr, IfSome};
-ghost use Rattle.byte_io.specs.Journal.{IsFront};
-ghost use Rattle.site_serving.specs.Journaled.{IsSettled};
+ghost use Rattle.std.specs.Prelude.{◌≡◌, ◌++◌, ℕ, List, Some, false, OnOk, IfSome};
 ghost use Rattle.site_serving.specs.Lines.{lines_of};
-ghost use Rattle.site_serving.specs.Serving.{is_read, is_write};
-ghost use Rattle.site_program.specs.Journaled.{IsNoted, KeepsAhead};
-ghost use Rattle.site_program.specs.Serving.{IsReplies, ServesAll, Stops};
-ghost use Rattle.site_program.specs.Site.{setup_of, rows_of, state_of, cache_of};
+ghost use Rattle.site_program.specs.Serving.{IsReplies, IsServed};
+ghost use Rattle.site_program.specs.Site.{setup_of, state_of, cache_of};
 ghost use Rattle.site_program.specs.Step.{steps_of};
 
 use crate::site::Site;
@@ -15,8 +11,7 @@ use callback_store::Stated;
 use page_trace::{Unwatched, Watch};
 use site_edits::StoreFault;
 use site_replies::{Refusal, ServeFault};
-use site_serving::{Commands, KeptPages, LineReply};
-use std::alloc::Global;
+use site_serving::{Commands, LineReply};
 
 impl<'p, S: Stated> Commands for Site<'p, S> {
     ghost use Rattle.site_commands.specs.Worked.{line_command};
@@ -58,76 +53,10 @@ impl<'p, S: Stated> Commands for Site<'p, S> {
     }
 }
 
-/// Carries out each line of the input, and hands its reply to the journal before the next line
-/// is carried out. Any sink is a journal that writes each reply at once. One with a log is
-/// handed each edit that was done before its reply; it may let replies wait until such edits
-/// are committed, at the latest after each 64 KiB of input.
-///
-/// A last line without a newline counts if it has a byte. At most 1,000,000 lines of at most
-/// 1,048,576 bytes are served. On `Read`, `TooMuchInput` and `OutOfMemory` the lines before the
-/// fault are carried out and replied to; on `Write` the line whose reply could not be written
-/// is carried out too. If an edit could not be committed, that is `Write` too: none of the
-/// replies that waited for it was written. A journal may have taken replies that it has not
-/// written, so more lines may be carried out than were replied to.
-///
-/// The program serves by this: a page is kept until a line changes something, and contracts see the
-/// site alone.
-pub fn serve_site<S: Stated, R: Source, W: Journal>(
-    alloc: Global,
-    site: &mut KeptPages<Site<'_, S>>,
-    reader: &mut R,
-    writer: &mut W,
-) -> Result<(), ServeFault>
-    requires reader { R.has_failed reader.old ≡ false }
-    requires writer { W.has_failed writer.old ≡ false }
-
-    // The writer takes the replies to an input that is read to its end, and nothing else.
-    ensures replied { OnOk result (IfSome (R.remaining reader.old) (λ input.
-        IfSome (W.contents writer.old) (λ before. (out : List ℕ)
-        × IsReplies (steps_of S.says S.number (setup_of site.old))
-        (state_of S.says S.number site.old) (lines_of input) out
-        (state_of S.says S.number site.new)
-        × (W.contents writer.new ≡ Some (before ++ out))))) }
-    ensures ok { OnOk result (ServesAll (steps_of S.says S.number (setup_of site.old))
-        (state_of S.says S.number site.old) (R.remaining reader.old) (R.remaining reader.new)
-        (W.contents writer.old) (W.contents writer.new) (state_of S.says S.number site.new)) }
-
-    // What holds after each fault.
-    ensures stopped { IfErr result (Stops (steps_of S.says S.number (setup_of site.old))
-        (state_of S.says S.number site.old) (R.remaining reader.old) (R.remaining reader.new)
-        (W.contents writer.old) (W.contents writer.new) (state_of S.says S.number site.new)) }
-
-    // Two of them come only if an end failed.
-    ensures read { R.has_failed reader.new ≡ is_read result }
-    ensures write { W.has_failed writer.new ≡ is_write result }
-
-    // An input that is read to its end is noted: of its lines the edits that were done, in
-    // order.
-    ensures kept { OnOk result (IsNoted W.Journal (steps_of S.says S.number (setup_of site.old))
-        (state_of S.says S.number site.old) (R.remaining reader.old) writer.old writer.new
-        (state_of S.says S.number site.new)) }
-
-    // Unless a write failed, nothing waits in the journal afterwards if nothing did before.
-    ensures settled { result ≢ Err ServeFault.Write → IsSettled W.Journal writer.old
-        → IsSettled W.Journal writer.new }
-
-    // At any return what was written is a front of what was taken, and the log is not older.
-    ensures front { IsFront (W.written writer.old) (W.contents writer.old)
-        → IsFront (W.written writer.new) (W.contents writer.new) }
-    ensures ahead { IsSettled W.Journal writer.old → KeepsAhead W.Journal
-        (steps_of S.says S.number (setup_of site.old)) (state_of S.says S.number site.old)
-        (R.remaining reader.old) writer.old writer.new (state_of S.says S.number site.new) }
-
-    // No line changes the limit on steps.
-    ensures limit { (rows_of site.new).step_limit ≡ (rows_of site.old).step_limit }
-    ensures setup { setup_of site.new ≡ setup_of site.old }
-    ensures cache { cache_of site.new ≡ cache_of site.old }
-{
-    site_serving::serve(alloc, site, reader, writer, &mut Unwatched)
-}
-
 impl<'p, S: Stated> Site<'p, S> {
-    /// Serves as [`serve_site`] does, and keeps no page. It is for programs of one's own.
+    /// Serves an input as [`serve`](site_serving::serve) does: at most 1,000,000 lines of at most
+    /// 1,048,576 bytes. It keeps no page, and is for programs of one's own: one that is to answer a
+    /// line that comes again in less time serves a [`KeptPages`](site_serving::KeptPages) over the site.
     pub fn serve<R: Source, W: Journal>(
         &mut self,
         reader: &mut R,
@@ -143,38 +72,12 @@ impl<'p, S: Stated> Site<'p, S> {
             (state_of S.says S.number self.old) (lines_of input) out
             (state_of S.says S.number self.new)
             × (W.contents writer.new ≡ Some (before ++ out))))) }
-        ensures ok { OnOk result (ServesAll (steps_of S.says S.number (setup_of self.old))
+
+        // What else holds, after each fault too.
+        ensures served { IsServed (steps_of S.says S.number (setup_of self.old)) W.Journal
             (state_of S.says S.number self.old) (R.remaining reader.old) (R.remaining reader.new)
-            (W.contents writer.old) (W.contents writer.new) (state_of S.says S.number self.new)) }
-
-        // What holds after each fault.
-        ensures stopped { IfErr result (Stops (steps_of S.says S.number (setup_of self.old))
-            (state_of S.says S.number self.old) (R.remaining reader.old) (R.remaining reader.new)
-            (W.contents writer.old) (W.contents writer.new) (state_of S.says S.number self.new)) }
-
-        // Two of them come only if an end failed.
-        ensures read { R.has_failed reader.new ≡ is_read result }
-        ensures write { W.has_failed writer.new ≡ is_write result }
-
-        // An input that is read to its end is noted: of its lines the edits that were done, in
-        // order.
-        ensures kept { OnOk result (IsNoted W.Journal (steps_of S.says S.number (setup_of self.old))
-            (state_of S.says S.number self.old) (R.remaining reader.old) writer.old writer.new
-            (state_of S.says S.number self.new)) }
-
-        // Unless a write failed, nothing waits in the journal afterwards if nothing did before.
-        ensures settled { result ≢ Err ServeFault.Write → IsSettled W.Journal writer.old
-            → IsSettled W.Journal writer.new }
-
-        // At any return what was written is a front of what was taken, and the log is not older.
-        ensures front { IsFront (W.written writer.old) (W.contents writer.old)
-            → IsFront (W.written writer.new) (W.contents writer.new) }
-        ensures ahead { IsSettled W.Journal writer.old → KeepsAhead W.Journal
-            (steps_of S.says S.number (setup_of self.old)) (state_of S.says S.number self.old)
-            (R.remaining reader.old) writer.old writer.new (state_of S.says S.number self.new) }
-
-        // No line changes the limit on steps.
-        ensures limit { (rows_of self.new).step_limit ≡ (rows_of self.old).step_limit }
+            (R.has_failed reader.new) writer.old writer.new result
+            (state_of S.says S.number self.new) }
         ensures setup { setup_of self.new ≡ setup_of self.old }
         ensures cache { cache_of self.new ≡ cache_of self.old }
     {

@@ -4,7 +4,7 @@ ghost use Rattle.std.specs.Io.{ReadsAtMost};
 ghost use Rattle.std.specs.Io.KnownBytes.{ReadConsumes};
 
 use byte_io::{EndFault, Source};
-use std::alloc::AllocError;
+use std::alloc::{AllocError, Global};
 use std::fs;
 use std::os::unix::fs::MetadataExt;
 
@@ -22,16 +22,23 @@ struct FileIds {
     log: Option<FileId>,
 }
 
+/// The path of a database file, and that of SQLite's log beside it.
+#[derive(Drop)]
+struct Paths {
+    file: String,
+    log: String,
+}
+
 /// A source over another one that fails once a database file, or SQLite's log beside it, is no
 /// longer the one that was there at the first read: edits committed from then on would be in a file
 /// that no start finds. What such a read has read is lost, so that no line of it is carried out.
+/// Without a file it fails only as the other one does.
 ///
 /// It does not tell its bytes.
 #[derive(Drop)]
 pub struct WhileThere<R> {
     rt: HostRuntime,
-    path: String,
-    log_path: String,
+    paths: Option<Paths>,
     opened: Option<FileIds>,
     inner: R,
     has_failed: bool,
@@ -39,16 +46,18 @@ pub struct WhileThere<R> {
 }
 
 impl<R: Source + Drop> WhileThere<R> {
-    /// Makes a source over a source, for a path. Nothing is read yet, and no read has failed.
-    pub fn new(rt: &HostRuntime, path: &str, inner: R) -> Result<Self, AllocError>
+    /// Makes a source over a source, for the path of a file, if there is one. Nothing is read yet, and
+    /// no read has failed.
+    pub fn new(rt: &HostRuntime, path: Option<&str>, inner: R) -> Result<Self, AllocError>
         ensures sound { IfOk result (λ it. ⟦<WhileThere<R> as Source>⟧.has_failed it ≡ false) }
     {
-        let mut log_path = String::from_str(rt.alloc(), path)?;
-        log_path.push_str("-wal")?;
+        let paths = match path {
+            Some(path) => Some(paths_of(rt.alloc(), path)?),
+            None => None,
+        };
         Ok(WhileThere {
             rt: *rt,
-            path: String::from_str(rt.alloc(), path)?,
-            log_path,
+            paths,
             opened: None,
             inner,
             has_failed: false,
@@ -63,11 +72,25 @@ impl<R: Source + Drop> WhileThere<R> {
 
     /// Finds the files that are there now.
     fn ids(&self) -> FileIds {
-        FileIds {
-            file: id_of(&self.rt, self.path.as_str()),
-            log: id_of(&self.rt, self.log_path.as_str()),
+        match &self.paths {
+            Some(paths) => FileIds {
+                file: id_of(&self.rt, paths.file.as_str()),
+                log: id_of(&self.rt, paths.log.as_str()),
+            },
+            None => FileIds {
+                file: None,
+                log: None,
+            },
         }
     }
+}
+
+/// Returns the path of a file, and that of its log.
+fn paths_of(alloc: Global, path: &str) -> Result<Paths, AllocError> {
+    let file = String::from_str(alloc, path)?;
+    let mut log = String::from_str(alloc, path)?;
+    log.push_str("-wal")?;
+    Ok(Paths { file, log })
 }
 
 /// Finds the file at a path.

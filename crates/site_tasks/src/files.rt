@@ -1,7 +1,7 @@
 //! Serving an input into the log in a file.
-ghost use Rattle.std.specs.Prelude.{◌≡◌, false};
+ghost use Rattle.std.specs.Prelude.{◌≡◌, ◌||◌, is_err, if◌then◌else◌};
+ghost use Rattle.std.specs.Process.{exit_status};
 
-use crate::file_ids::WhileThere;
 use crate::status::{failed, failed_at, not_started};
 use byte_io::Source;
 use command_log::{CommandLog, LogFault, LogFiles};
@@ -9,7 +9,7 @@ use page_trace::Watch;
 use site_journal::{LogJournal, Steady};
 use site_replies::ServeFault;
 use site_serving::{Commands, serve};
-use site_start::{FileLog, LogTask, StartFault, open_site, start, with_log};
+use site_start::{FileLog, LogTask, StartFault, open_site, start};
 use sqlite::Wary;
 use sqlite_disk::Disk;
 use sqlite_trees::store::Alter;
@@ -100,46 +100,6 @@ impl<'a, C: Commands + Drop, R: Source + Drop, W: Steady + Drop, V: Watch> LogTa
     }
 }
 
-/// Serves an input into a file, and returns the program's exit status. What was committed is
-/// then copied into the database file, which has the history by itself from then on. If the disk has
-/// no room for that, the file and its log have it together, as before. Serving ends once the file or
-/// its log is removed or replaced.
-///
-/// A line on standard error says why a start was refused, or why serving ended before the input.
-pub fn serve_path<C: Commands + Drop, R: Source + Drop, W: Steady + Drop, V: Watch>(
-    rt: &HostRuntime,
-    path: &str,
-    site: C,
-    identity: &str,
-    reader: R,
-    sink: W,
-    watch: V,
-) -> ExitCode
-    requires sink { W.has_failed sink ≡ false }
-{
-    let Ok(reader) = WhileThere::new(rt, path, reader) else {
-        return failed(rt, ServeFault::OutOfMemory);
-    };
-    let task = ServeLines {
-        alloc: rt.alloc(),
-        site,
-        identity,
-        reader,
-        sink,
-        watch,
-    };
-    match with_log(rt, path, Wary, task) {
-        Ok((left, files)) => match left {
-            Ok(served) => {
-                let is_gone = served.reader.is_gone();
-                ended(rt, path, files, is_gone, served.result, served.fault)
-            }
-            Err(fault) => not_started(rt, path, fault),
-        },
-        Err(fault) => not_started(rt, path, StartFault::Log(fault)),
-    }
-}
-
 /// Opens the log in a file, or makes it, and makes the site anew by its lines, the first of which has
 /// to be the identity. If that fails, says why, and returns the program's exit status.
 pub(crate) fn opened<C: Commands>(
@@ -167,7 +127,9 @@ pub fn ended<D: Disk + Drop, E: Display + Drop>(
     is_gone: bool,
     served: Result<(), E>,
     fault: Option<LogFault>,
-) -> ExitCode {
+) -> ExitCode
+    ensures { exit_status result ≡ (if is_gone || is_err served then 1 else 0) }
+{
     if is_gone {
         return failed_at(rt, path, FILE_IS_GONE);
     }

@@ -1,17 +1,20 @@
 """Follows every link of an archive's pages.
 """
 
-import re
 from collections.abc import Callable, Iterator
+from functools import lru_cache
+from itertools import chain
 from pathlib import Path
 from typing import NamedTuple
-from urllib.parse import parse_qsl, unquote, urljoin, urlsplit
+from urllib.parse import parse_qsl, unquote, urljoin
 
 from geanmarbles.archive.files import files_below
 from geanmarbles.disk_tables import Disk, DiskDict, DiskSet
-from geanmarbles.wordpress.harmless import attributes_of_tag, tag_name
+from geanmarbles.wordpress.harmless import attributes_of_tag, split, tag_name
 from geanmarbles.wordpress.texts import TAGS
 
+# How many tags and addresses are known from page to page: most pages have the same.
+KNOWN = 20_000
 SOURCES = {
     "a": ("href",),
     "area": ("href",),
@@ -52,15 +55,16 @@ class Found:
         return (Dead(it, *self.where[it]) for it in self.addresses)
 
 
-def links_of(page: str) -> Iterator[str]:
-    """The addresses that a page links to or shows."""
-    for tag in TAGS.split(page)[1::2]:
-        names = SOURCES.get(tag_name(tag), ())
-        for name, value in attributes_of_tag(tag) if names else ():
-            if name in names and value.strip():
-                yield from (it.split()[0] for it in value.split(",") if it.split()) if name == "srcset" else [
-                    value.strip()
-                ]
+@lru_cache(maxsize=KNOWN)
+def addresses_in(tag: str) -> tuple[str, ...]:
+    """The addresses that a tag links to or shows."""
+    made: list[str] = []
+    names = SOURCES.get(tag_name(tag), ())
+    for name, value in attributes_of_tag(tag) if names else ():
+        if name in names and value.strip():
+            listed = value.split(",") if name == "srcset" else [value]
+            made += (it.split()[0] if name == "srcset" else it.strip() for it in listed if it.strip())
+    return tuple(made)
 
 
 def file_of(root: Path, path: str) -> Path | None:
@@ -80,27 +84,37 @@ def file_of(root: Path, path: str) -> Path | None:
 def check(root: Path, host: str, moved: Callable[[str, dict[str, str]], str], disk: Disk) -> Found:
     """Follows the links of each page below a folder, but for those to other hosts."""
     found = Found(disk)
-    known: DiskDict[str, bool] = DiskDict(disk)
-    for name in (it for it in files_below(root, disk) if Path(it).suffix in (".html", ".htm")):
-        here = "/" + re.sub(r"index\.html\Z", "", name)
+
+    @lru_cache(maxsize=KNOWN)
+    def follow(address: str, here: str) -> tuple[str, bool] | None:
+        """What an address of a page asks for and whether something is there, or None if it is of another host. What no
+        address can be is of none, and leads nowhere."""
+        try:
+            parts = split(urljoin(f"http://{host}{here}", address))
+        except ValueError:
+            return address, False
+        if parts.scheme not in ("http", "https") or parts.netloc.removeprefix("www.") != host:
+            return None
+        target = parts.path + (f"?{parts.query}" if parts.query else "")
+        return target, leads(root, parts.path or "/", parts.query, moved)
+
+    for name in (it for it in files_below(root, disk) if it.endswith((".html", ".htm"))):
+        here = "/" + name.removesuffix("index.html")
         found.pages += 1
-        for address in dict.fromkeys(links_of((root / name).read_text(encoding="utf-8"))):
-            parts = urlsplit(urljoin(f"http://{host}{here}", address))
-            if parts.scheme not in ("http", "https") or parts.netloc.removeprefix("www.") != host:
-                continue
-            found.links += 1
-            target = parts.path + (f"?{parts.query}" if parts.query else "")
-            if target not in known:
-                known[target] = leads(root, parts.path or "/", parts.query, moved)
-            if not known[target]:
-                found.take_dead(target, here)
+        tags = TAGS.split((root / name).read_text(encoding="utf-8"))[1::2]
+        for it in dict.fromkeys(chain.from_iterable(map(addresses_in, tags))):
+            # (most addresses are those of many pages, and don't depend on them)
+            to = follow(it, "" if it.startswith("/") else here)
+            found.links += to is not None
+            if to is not None and not to[1]:
+                found.take_dead(to[0], here)
     return found
 
 
 def leads(root: Path, path: str, query: str, moved: Callable[[str, dict[str, str]], str]) -> bool:
     given = dict(parse_qsl(query, keep_blank_values=True))
     if to := moved(unquote(path), given):
-        return file_of(root, urlsplit(to).path) is not None
+        return file_of(root, split(to).path) is not None
     # A plain permalink that isn't moved shows the front, which isn't what it leads to.
     is_plain = {"p", "page_id", "attachment_id", "m", "cat", "tag", "paged"} & set(given)
     return not is_plain and file_of(root, path) is not None

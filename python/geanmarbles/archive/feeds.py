@@ -4,15 +4,17 @@ Feeds are of RSS 2.0, as https://www.rssboard.org/rss-specification has it.
 """
 
 import re
-from collections.abc import Iterator
+from collections.abc import Iterable, Iterator
 from datetime import datetime, timezone
 from email.utils import format_datetime
+from functools import partial
 from heapq import nlargest
 from html import escape, unescape
 from itertools import chain, islice
 
 from geanmarbles.archive.files import Files
 from geanmarbles.archive.html import text_of
+from geanmarbles.archive.kept import Units
 from geanmarbles.archive.pages import DESCRIPTION
 from geanmarbles.archive.plan import Plan
 from geanmarbles.disk_tables import DiskDict
@@ -35,21 +37,27 @@ def moment(date: str) -> str:
 class Feeds:
     """Writes the feeds of a plan."""
 
-    def __init__(self, plan: Plan, files: Files) -> None:
-        self.plan, self.files = plan, files
+    def __init__(self, plan: Plan, files: Files, units: Units) -> None:
+        self.plan, self.files, self.units = plan, files, units
         self.count = 0
 
     def write(self) -> None:
         plan, home = self.plan, self.plan.places.home
-        self.write_feed(home, unescape(plan.name), [self.post(it) for it in plan.order.newest(0, ITEMS)])
+        self.write_posts(home, unescape(plan.name), [*plan.order.newest(0, ITEMS)])
         for it in plan.lists:
             if it.has_feed:
                 title = unescape(re.sub(r"<[^<>]*>", "", it.heading))
-                posts = [self.post(number) for number in plan.posts_of(it, 0, ITEMS)]
-                self.write_feed(it.path, f"{title} – {unescape(plan.name)}", posts)
-        self.write_comments(home)
+                self.write_posts(it.path, f"{title} – {unescape(plan.name)}", [*plan.posts_of(it, 0, ITEMS)])
+        made = self.units.make("feed of comments", plan.titled.digest(), lambda: self.write_comments(home))
+        self.count += len(made.own)
 
-    def write_feed(self, path: str, title: str, items: list[str]) -> None:
+    def write_posts(self, path: str, title: str, numbers: list[int]) -> None:
+        """Writes the feed of some posts."""
+        inputs = path, title, [self.plan.facts[it] for it in numbers]
+        write = partial(self.write_feed, path, title, map(self.post, numbers))
+        self.count += len(self.units.make(f"feed of {path}", inputs, write).own)
+
+    def write_feed(self, path: str, title: str, items: Iterable[str]) -> None:
         feed = self.plan.places.feed(path)
         tagline = self.plan.store.options.get("blogdescription", "")
         text = (
@@ -61,7 +69,7 @@ class Feeds:
             f'<atom:link href="{xml(self.plan.base + as_link(feed))}" rel="self" type="application/rss+xml"/>\n'
             f"{''.join(items)}</channel>\n</rss>\n"
         )
-        self.count += self.files.write(feed, text, "index.xml")
+        self.files.write(feed, text, "index.xml")
 
     def post(self, number: int) -> str:
         """A post as an item of a feed. Its identity stays that of the old feed, so that readers know it again."""

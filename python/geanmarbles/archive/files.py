@@ -79,8 +79,11 @@ class Files(Copies):
 
     def __init__(self, folder: Path, disk: Disk) -> None:
         super().__init__(folder / PUBLIC)
-        self.folder = folder
+        self.folder, self.disk = folder, disk
         self.current: DiskSet[str] = DiskSet(disk)
+        # The files that were written last, until somebody takes these names, and how many writes were refused.
+        self.names: list[str] = []
+        self.refusals = 0
         # Paths that couldn't be written, and why.
         self.refused: DiskDict[str, str] = DiskDict(disk)
         self.removed = 0
@@ -108,12 +111,10 @@ class Files(Copies):
         """Writes the file of a path, whole or of pieces, and returns whether it could be: nothing is written twice in
         one run."""
         if path_or_none(path) is None:
-            self.refused[path] = "no file can have this name"
-            return False
+            return self.refuse(path, "no file can have this name")
         name = self.name_of(path, index, is_folder)
         if name in self.current:
-            self.refused[path] = "another page has this address"
-            return False
+            return self.refuse(path, "another page has this address")
         file = self.root / name
         with made_of(text) as data:
             try:
@@ -126,10 +127,21 @@ class Files(Copies):
                     self.put(file, data)
                     self.written += 1
             except (NotADirectoryError, IsADirectoryError, FileExistsError):
-                self.refused[path] = "its file would be a folder of another page, or the other way around"
-                return False
+                return self.refuse(path, "its file would be a folder of another page, or the other way around")
+        self.names.append(name)
         self.current.add(name)
         return True
+
+    def refuse(self, path: str, reason: str) -> bool:
+        self.refused[path] = reason
+        self.refusals += 1
+        return False
+
+    def hold(self, names: Iterable[str]) -> None:
+        """Notes files that are there as they should be."""
+        for it in names:
+            self.current.add(it)
+            self.unchanged += 1
 
     @staticmethod
     def put(file: Path, data: IO[bytes]) -> None:

@@ -16,7 +16,11 @@ MORE = re.compile(r"<span id=\"more-\d+\"(?: data-more=\"([^\"]*)\")?></span>")
 # The links to the parts of the front, as `from_wordpress` writes them into templates.
 FRONT_PARTS = re.compile(r"(?:<li><a href=\"/(?:\?paged=\d+)?\">\d+</a></li>\n)+")
 THUMBNAIL = re.compile(r"\s*<figure class=\"post-thumbnail\">.*?</figure>\s*", re.S)
-LINK = re.compile(r"(<(?:a|area|link|form)\b[^<>]*?\s(?:href|action)=)(\"[^\"]*\"|'[^']*')", re.I)
+TARGETS = re.compile(
+    r"(<(?:a|area|form|img|audio|video|source)\b[^<>]*?\s(?:href|action|src)=)(\"[^\"]*\"|'[^']*')", re.I
+)
+# What follows the mark of a post whose own page begins there.
+NO_TEASER = "<!--noteaser-->"
 
 
 def region(page: str, name: str, html: str, is_last: bool = False) -> str | None:
@@ -111,37 +115,54 @@ def with_times(page: str, shown: list[tuple[str, str]]) -> str:
     return "".join(made) + page[at:]
 
 
-def with_links(page: str, target: Callable[[str], str], known: dict[str, str]) -> str:
+def with_links(page: str, target: Callable[[str], str], known: dict[str, str], asked: set[str]) -> str:
     """A page whose links of the site lead where `target` says. `known` has what it said of links, as pages have them;
-    those to parts of a list depend on the list, and aren't kept."""
+    those to parts of a list depend on the list, and aren't kept. `asked` gets those that may be plain permalinks."""
 
     def change(found: re.Match[str]) -> str:
         given = found[2]
+        if "?" in given:
+            asked.add(given)
         if given in known:
             return found[1] + known[given]
         mark, value = given[0], unescape(given[1:-1])
-        is_here = value.startswith("/") and not value.startswith("//")
-        shown = f"{mark}{escape(target(value))}{mark}" if is_here else given
+        to = target(value)
+        shown = given if to == value else f"{mark}{escape(to)}{mark}"
         if "paged=" not in given:
             known[given] = shown
         return found[1] + shown
 
-    return LINK.sub(change, page)
+    return TARGETS.sub(change, page)
+
+
+def left_open(text: str) -> list[tuple[str, str]]:
+    """The elements that a text begins and doesn't end, the outermost first: the name and the tag of each."""
+    opened: list[tuple[str, str]] = []
+    for tag in TAGS.split(text)[1::2]:
+        name = tag_name(tag)
+        if not tag.startswith("</"):
+            opened += [(name, tag)] if name and name not in VOID else []
+        elif name in (it for it, _ in opened):
+            while opened.pop()[0] != name:
+                pass
+    return opened
 
 
 def balanced(text: str) -> str:
     """A text that was cut, with the ends of its elements."""
     at = text.rfind("<")
     text = text[:at] if at > text.rfind(">") else text
-    opened: list[str] = []
-    for part in TAGS.split(text)[1::2]:
-        name = tag_name(part)
-        if part.startswith("</") and name in opened:
-            while opened.pop() != name:
-                pass
-        elif not part.startswith("</") and name and name not in VOID:
-            opened.append(name)
-    return text + "".join(f"</{it}>" for it in reversed(opened))
+    return text + "".join(f"</{name}>" for name, _ in reversed(left_open(text)))
+
+
+def without_teaser(content: str) -> str:
+    """A post as its own page shows it: without what comes before its mark, if its author wants that."""
+    mark = MORE.search(content)
+    if mark is None or not content.startswith(NO_TEASER, mark.end()):
+        return content
+    thumbnail = THUMBNAIL.match(content)
+    before = "".join(tag for _, tag in left_open(content[: mark.start()]))
+    return (thumbnail[0] if thumbnail else "") + before + mark[0] + content[mark.end() + len(NO_TEASER) :]
 
 
 def shortened(content: str, excerpt: str, link: Callable[[str], str]) -> str:

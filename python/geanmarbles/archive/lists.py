@@ -1,24 +1,27 @@
 """The posts of an archive in their orders, by date and in each list, which lie in a database on the disk."""
 
-from collections.abc import Iterable, Iterator, Mapping
+from collections.abc import Iterable, Iterator
 from dataclasses import dataclass
 
 from geanmarbles.archive.store import Post
-from geanmarbles.disk_tables import Disk, DiskSet
+from geanmarbles.disk_tables import Disk, DiskDict, DiskSet
 
 
 @dataclass(frozen=True)
 class Listing:
-    """A list of posts: its path, what it is of, its heading, how many posts it has and whether it has a feed."""
+    """A list of posts: its path, what it is of, its heading and how many posts it has."""
 
     path: str
     # `home`, `category`, `post_tag`, `author`, `year`, `month` or `day`.
     kind: str
     heading: str
     count: int
-    has_feed: bool = False
     # Which of the lists it is; that of all posts is none of them.
     number: int = 0
+
+    @property
+    def has_feed(self) -> bool:
+        return self.kind in ("category", "post_tag", "author")
 
 
 class Order:
@@ -51,9 +54,20 @@ class Order:
         return int(found[0]) if found else 0
 
     def beside(self, number: int) -> tuple[int, int]:
-        """The posts before and after one of them, each 0 if there is none."""
+        """The posts before and after one, each 0 if there is none."""
         place = self.place(number)
-        return self.at(place - 1), self.at(place + 1)
+        return (self.at(place - 1), self.at(place + 1)) if place else (0, 0)
+
+    def near(self, numbers: DiskDict[int, str]) -> Iterator[tuple[int, int, int]]:
+        """Some posts and pages in their order, each with the posts before and after it, or 0 where there is none."""
+        words = f"SELECT key, coalesce(one.number, 0), coalesce(two.number, 0) FROM {numbers.name}"
+        for name, on in (
+            ("here", "number = key"),
+            ("one", "place = here.place - 1"),
+            ("two", "place = here.place + 1"),
+        ):
+            words += f" LEFT JOIN {self.name} {name} ON {name}.{on}"
+        return iter(self.rows.execute(f"{words} ORDER BY {numbers.name}.place"))
 
     def newest(self, begin: int = 0, count: int = -1) -> Iterator[int]:
         """The newest posts, or some of them from one onwards, the newest first."""
@@ -62,26 +76,28 @@ class Order:
 
 
 class Lists:
-    """Lists of posts by their paths, each in the order in which posts are added."""
+    """Lists of posts by their paths, each in the order in which posts come: of each post the path, the kind and the
+    heading of each list that it is in. The first post of a list gives it its kind and heading."""
 
-    def __init__(self, disk: Disk) -> None:
+    def __init__(self, disk: Disk, posts: Iterable[tuple[int, str, str, str]]) -> None:
         self.rows = disk.rows
-        self.lists = disk.table(
-            "number INTEGER PRIMARY KEY, path TEXT UNIQUE, kind TEXT, heading TEXT, count INTEGER, has_feed INTEGER"
-        )
+        self.lists = disk.table("number INTEGER PRIMARY KEY, path TEXT UNIQUE, kind TEXT, heading TEXT, count INTEGER")
         self.posts = disk.table("list INTEGER, place INTEGER, post INTEGER, PRIMARY KEY (list, place)", "WITHOUT ROWID")
+        found = disk.table("at INTEGER PRIMARY KEY, post INTEGER, path TEXT, kind TEXT, heading TEXT")
+        self.rows.executemany(f"INSERT INTO {found} (post, path, kind, heading) VALUES (?, ?, ?, ?)", posts)
+        first = (
+            f"SELECT min(at) AS at, path, kind, heading, count(*) AS count FROM {found} GROUP BY path ORDER BY min(at)"
+        )
+        into = f"INSERT INTO {self.lists} (path, kind, heading, count)"
+        self.rows.execute(f"{into} SELECT path, kind, heading, count FROM ({first})")
+        place = "row_number() OVER (PARTITION BY number ORDER BY at) - 1"
+        self.rows.execute(
+            f"INSERT INTO {self.posts} SELECT number, {place}, post FROM {found} JOIN {self.lists} USING (path)"
+        )
+        self.rows.execute(f"DROP TABLE {found}")
 
     def __contains__(self, path: str) -> bool:
         return self.rows.execute(f"SELECT 1 FROM {self.lists} WHERE path = ?", (path,)).fetchone() is not None
-
-    def add(self, post: int, lists: Mapping[str, tuple[str, str]]) -> None:
-        """Adds a post to some lists: by the path of each, its kind and its heading, which the first post gives it."""
-        begin = f"INSERT INTO {self.lists} (path, kind, heading, count, has_feed) VALUES (?, ?, ?, 1, ?)"
-        begin += " ON CONFLICT (path) DO UPDATE SET count = count + 1"
-        follow = f"INSERT INTO {self.posts} SELECT number, count - 1, ? FROM {self.lists} WHERE path = ?"
-        for path, (kind, heading) in lists.items():
-            self.rows.execute(begin, (path, kind, heading, kind in ("category", "post_tag", "author")))
-            self.rows.execute(follow, (post, path))
 
     def leave_out(self, paths: DiskSet[str]) -> None:
         """Leaves out the lists at some paths, which are in the same database."""
@@ -89,7 +105,7 @@ class Lists:
         self.rows.execute(f"DELETE FROM {self.lists} WHERE EXISTS ({is_there})")
 
     def __iter__(self) -> Iterator[Listing]:
-        words = f"SELECT path, kind, heading, count, has_feed, number FROM {self.lists} ORDER BY number"
+        words = f"SELECT path, kind, heading, count, number FROM {self.lists} ORDER BY number"
         return (Listing(*row) for row in self.rows.execute(words))
 
     def posts_of(self, listing: Listing, begin: int, count: int) -> Iterator[int]:

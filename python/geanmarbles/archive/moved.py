@@ -8,18 +8,21 @@ import re
 from collections.abc import Iterable, Iterator
 from itertools import groupby
 from pathlib import Path
-from urllib.parse import quote, unquote, urlsplit
+from urllib.parse import quote, unquote
 
-from geanmarbles.archive.files import PUBLIC, Files
+from geanmarbles.archive.files import Files
 from geanmarbles.archive.plan import Plan
 from geanmarbles.disk_tables import DiskDict, DiskSet
 from geanmarbles.wordpress.addresses import as_link, path_or_none
+from geanmarbles.wordpress.harmless import split
 from geanmarbles.wordpress.items import Item
 
 # Query parameters of plain permalinks, the first that is given decides, and by which of them the table has each.
 ASKED = {"p": "p", "page_id": "p", "attachment_id": "p"} | {it: it for it in ("cat", "tag", "author", "m", "feed")}
 # Those whose values are numbers.
 NUMBERS = ("p", "cat", "author", "m")
+# The file for nginx, from the folder that it serves.
+NGINX = "../nginx.conf"
 # The longest keys and values that are written into maps.
 LINE = 2_000
 
@@ -69,10 +72,8 @@ class Moved:
 
     def take_attachment(self, item: Item) -> None:
         """An attachment's page leads to its file."""
-        parts = urlsplit(item.file)
-        if not parts.path or urlsplit(self.plan.site.address).netloc.removeprefix("www.") != parts.netloc.removeprefix(
-            "www."
-        ):
+        parts = split(self.plan.places.local(item.file))
+        if parts.netloc or not parts.path.startswith("/"):
             return
         file = as_link(unquote(parts.path))
         self.table.setdefault(f"?p={item.number}", file)
@@ -266,8 +267,10 @@ def for_netlify(moved: Moved) -> Iterator[str]:
 
 def write_moved(moved: Moved, files: Files) -> None:
     """Writes the moved addresses for nginx beside the pages, and for Apache and Netlify among them."""
-    with (files.folder / "nginx.conf").open("w", encoding="utf-8") as file:
-        file.writelines(for_nginx(moved, (files.folder / PUBLIC).resolve()))
+    with (files.root / NGINX).open("w", encoding="utf-8") as file:
+        file.writelines(for_nginx(moved, files.root.resolve()))
+    files.names.append(NGINX)
+    files.current.add(NGINX)
     for folder, rules in for_apache(moved):
         files.write(folder, rules, ".htaccess", is_folder=True)
     files.write("/", for_netlify(moved), "_redirects", is_folder=True)

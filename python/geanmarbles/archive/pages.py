@@ -5,13 +5,15 @@ import re
 from collections import defaultdict
 from collections.abc import Callable, Iterable, Iterator
 from datetime import datetime, timedelta
+from functools import partial
 from hashlib import sha256
 from html import escape
-from itertools import chain
+from itertools import chain, islice
 from typing import NamedTuple
 
 from geanmarbles.archive.files import Files, Noted
 from geanmarbles.archive.html import (
+    NO_TEASER,
     after_post,
     before_last,
     region,
@@ -26,12 +28,14 @@ from geanmarbles.archive.html import (
     with_search,
     with_times,
     with_title,
+    without_teaser,
 )
+from geanmarbles.archive.kept import Units
 from geanmarbles.archive.lists import Listing
 from geanmarbles.archive.plan import Plan
 from geanmarbles.archive.search import LIST, Search
 from geanmarbles.archive.store import MOST_PER_PAGE, Lister, Printer, line_of
-from geanmarbles.disk_tables import DiskDict, DiskSet
+from geanmarbles.disk_tables import DiskDict
 from geanmarbles.wordpress.addresses import UPLOADS, as_link
 from geanmarbles.wordpress.harmless import harmless
 from geanmarbles.wordpress.items import Comment
@@ -78,54 +82,69 @@ class Entry(NamedTuple):
 class Pages:
     """Writes the pages of a plan into a folder."""
 
-    def __init__(self, plan: Plan, files: Files, printer: Printer, lister: Lister, tell: Callable[[str], None]) -> None:
-        self.plan, self.files, self.printer, self.lister, self.tell = plan, files, printer, lister, tell
-        self.search = Search(plan, files)
+    def __init__(self, plan: Plan, files: Files, units: Units, search: Search, tell: Callable[[str], None]) -> None:
+        self.plan, self.files, self.units, self.search, self.tell = plan, files, units, search, tell
         # The paths for the sitemap, with the date of a post.
         self.sitemap: DiskDict[str, str] = DiskDict(plan.store.disk)
         # What lists show of posts: each is in several. They can be long, so hardly any is at hand.
         self.entries: DiskDict[int, Entry] = DiskDict(plan.store.disk, at_hand=1)
-        # Paths whose page isn't one that was found, and uploads that the pages need.
+        # Paths whose page isn't one that was found.
         self.missing = Noted()
-        self.uploads: DiskSet[str] = DiskSet(plan.store.disk)
         # Where links of the pages written last lead: most pages have the same.
         self.links: dict[str, str] = {}
         self.years = self.dates("year")
-        self.styles: set[str] = set()
         self.count = 0
 
-    def write(self) -> None:
-        """Writes all pages."""
-        with self.printer, self.lister:
+    def write(self, printer: Printer, lister: Lister) -> None:
+        """Writes all pages that aren't there."""
+        self.printer, self.lister = printer, lister
+        with printer, lister:
             self.write_posts()
             self.write_lists()
-            self.write_search()
-            _, page = self.printer.page("/?p=0")
-            self.files.write("/404.html", self.finished(page, self.plan.places.home))
+            if self.search.path:
+                self.make("search", self.plan.titled.digest(), self.write_search)
+                self.search.write_index(self.units)
+            self.make("404", (), self.write_404)
+
+    def make(self, name: str, inputs: object, write: Callable[[], None]) -> None:
+        """Has a unit of pages written, unless it is there."""
+        made = self.units.make(name, inputs, write)
+        self.count += len(made.own)
+        for path, date in made.listed.items():
+            self.sitemap[path] = date
+
+    def write_404(self) -> None:
+        _, page = self.printer.page("/?p=0")
+        self.files.write("/404.html", self.finished(page, self.plan.places.home))
 
     def write_posts(self) -> None:
         """Writes the page of each post and page."""
         plan = self.plan
-        for number in plan.paths:
-            if number == plan.posts_page:
-                continue
-            post = plan.store.posts[number]
-            content = plan.store.content(number)
-            asked = "/" if number == plan.front else f"/?{'p' if post.kind == 'post' else 'page_id'}={number}"
-            if (PART in content or post.title != plan.title(number)) and number != plan.front:
-                self.write_parts(number, asked, content)
-                continue
-            status, page = self.printer.page(asked)
-            if status == 200:
-                self.write_post(number, page, content)
-            else:
-                self.missing.add(plan.paths[number])
+        for number, *near in plan.order.near(plan.paths):
+            if number != plan.posts_page:
+                facts = [plan.facts.get(it) for it in (number, *near)]
+                self.make(f"post {number}", facts, partial(self.write_whole, number))
+
+    def write_whole(self, number: int) -> None:
+        """Writes the page of a post or page, or those of its parts."""
+        plan = self.plan
+        post, content = plan.store.posts[number], plan.store.content(number)
+        asked = "/" if number == plan.front else f"/?{'p' if post.kind == 'post' else 'page_id'}={number}"
+        is_changed = PART in content or NO_TEASER in content or post.title != plan.title(number)
+        if is_changed and number != plan.front:
+            self.write_parts(number, asked, content)
+            return
+        status, page = self.printer.page(asked)
+        if status == 200:
+            self.write_post(number, page, content)
+        else:
+            self.missing.add(plan.paths[number])
+            self.files.refusals += 1
 
     def write_post(self, number: int, page: str, content: str, part: int = 1, parts: int = 1) -> None:
         """Writes a post's or a page's page, or one of its parts."""
         plan, post = self.plan, self.plan.store.posts[number]
         path = plan.places.piece(plan.paths[number], part)
-        self.search.take(number, content)
         if post.kind == "post":
             page = with_times(page, [(post.date, plan.date(number))])
         page = with_plain_title(page, plan.title(number), plan.plain_title(number))
@@ -148,8 +167,10 @@ class Pages:
         self.finish(page, head, post.date if post.kind == "post" else "")
 
     def write_parts(self, number: int, asked: str, content: str) -> None:
-        """Writes a divided post as its author has divided it, or one whose title isn't the site's."""
-        post, texts, title = self.plan.store.posts[number], content.split(PART), self.plan.title(number)
+        """Writes a divided post as its author has divided it, or one of another title or content than the site's."""
+        post, title = self.plan.store.posts[number], self.plan.title(number)
+        first, *later = content.split(PART)
+        texts = [without_teaser(first), *later]
         entry = {"id": number, "kind": post.kind, "status": "publish", "title": title, "date": post.date}
         for part, text in enumerate(texts, 1):
             _, page = self.lister.page({number: line_of({**entry, "content": text.strip("\n")})}, asked)
@@ -242,16 +263,13 @@ class Pages:
         return f'<p class="by"><b>{author}</b>, <time datetime="{date}">{shown}</time></p>\n{text}'
 
     def write_search(self) -> None:
-        """Writes the page of the search, and its index."""
-        plan, search = self.plan, self.search
-        if search.path:
-            head = {"id": 1, "kind": "page", "status": "publish", "date": "2000-01-01 00:00:00"}
-            title = escape(plan.words["search"], quote=False)
-            _, page = self.lister.page({1: line_of({**head, "title": title, "content": LIST})}, "/?page_id=1")
-            page = page if LIST in page else before_last(page, "</main>", LIST)
-            # The page has an index beside it, so its address is that of a folder.
-            self.finish(page, Head(search.path, title, is_listed=False, is_folder=True), "")
-        search.write_index()
+        """Writes the page of the search."""
+        head = {"id": 1, "kind": "page", "status": "publish", "date": "2000-01-01 00:00:00"}
+        title = escape(self.plan.words["search"], quote=False)
+        _, page = self.lister.page({1: line_of({**head, "title": title, "content": LIST})}, "/?page_id=1")
+        page = page if LIST in page else before_last(page, "</main>", LIST)
+        # The page has an index beside it, so its address is that of a folder.
+        self.finish(page, Head(self.search.path, title, is_listed=False, is_folder=True), "")
 
     def write_lists(self) -> None:
         """Writes all lists, by the template that the program would choose for each kind."""
@@ -276,20 +294,30 @@ class Pages:
         size = plan.store.per_page()
         parts = max(1, -(-listing.count // size))
         months = self.dates("month", listing.path) if listing.kind == "year" else ""
+        posts = plan.posts_of(listing, 0, listing.count)
         for part in range(1, parts + 1):
             # (the program lists a hundred posts at most)
             sticky = plan.sticky(MOST_PER_PAGE - size) if listing.kind == "home" and part == 1 else []
-            numbers = [*sticky, *(it for it in plan.posts_of(listing, (part - 1) * size, size) if it not in sticky)]
-            entries = {it: self.entry(it) for it in numbers}
-            entries |= {it: self.made_entry(it, date) for it, date in first_dates(sticky).items()}
-            _, page = self.lister.page({it: entry.line for it, entry in entries.items()}, "/")
-            page = with_heading(page, listing.heading, months)
-            page = with_parts(page, self.near(listing.path, part, parts))
-            page = with_times(page, [(it.date, it.shown) for it in entries.values()])
-            for it in sticky:
-                # (a template may print the date in another element too)
-                page = page.replace(entries[it].date, plan.store.posts[it].date)
-            self.finish_list(page, listing, part)
+            numbers = [*sticky, *(it for it in islice(posts, size) if it not in sticky)]
+            facts = [plan.facts[it] for it in numbers]
+            inputs = listing.path, listing.kind, listing.heading, parts, months, len(sticky), facts
+            write = partial(self.write_part, listing, (part, parts), months, numbers, sticky)
+            self.make(f"list {listing.path} {part}", inputs, write)
+
+    def write_part(
+        self, listing: Listing, place: tuple[int, int], months: str, numbers: list[int], sticky: list[int]
+    ) -> None:
+        """Writes a part of a list: which of how many, and its posts."""
+        entries = {it: self.entry(it) for it in numbers}
+        entries |= {it: self.made_entry(it, date) for it, date in first_dates(sticky).items()}
+        _, page = self.lister.page({it: entry.line for it, entry in entries.items()}, "/")
+        page = with_heading(page, listing.heading, months)
+        page = with_parts(page, self.near(listing.path, *place))
+        page = with_times(page, [(it.date, it.shown) for it in entries.values()])
+        for it in sticky:
+            # (a template may print the date in another element too)
+            page = page.replace(entries[it].date, self.plan.store.posts[it].date)
+        self.finish_list(page, listing, place[0])
 
     def near(self, path: str, part: int, parts: int) -> list[str]:
         """Links to the first part of a list, to the last and to those near one of them."""
@@ -355,30 +383,30 @@ class Pages:
         if LIST in page and head.path == self.search.path:
             # The list of the search has all posts, so it isn't made whole.
             before, _, after = page.partition(LIST)
-            whole = chain([before], (self.finished(it, base) for it in self.search.list()), [after])
+            whole = chain([before], (self.finished(it, base) for it in self.search.listed()), [after])
         written = self.files.write(head.path, whole, is_folder=head.is_folder)
         if written and head.is_listed:
-            self.sitemap[head.path] = date[:10]
-        self.count += written
+            self.units.now.listed[head.path] = date[:10]
         self.tell(head.path)
 
     def finished(self, page: str, base: str) -> str:
-        if UPLOADS in page:
-            self.uploads.update(SHOWN_FILE.findall(page))
         if len(self.links) > LINKS:
             self.links.clear()
         page = with_search(page, self.search.form())
         page = region(page, "dates", self.years, is_last=True) or page
         head, mark, body = page.partition("</head>")
         page = STYLE.sub(self.style_file, head, count=1) + mark + body
-        return with_links(page, lambda it: self.plan.target(it, base), self.links)
+        asked: set[str] = set()
+        page = with_links(page, lambda it: self.plan.target(it, base), self.links, asked)
+        made = self.units.now
+        made.asked += asked.difference(made.asked)
+        made.uploads += set(SHOWN_FILE.findall(page)).difference(made.uploads) if UPLOADS in page else ()
+        return page
 
     def style_file(self, style: re.Match[str]) -> str:
         """A link to a file with the style of a page's head; its name changes with what is in it."""
         path = f"{self.plan.places.home}style-{sha256(style[1].encode()).hexdigest()[:8]}.css"
-        if path not in self.styles:
-            self.styles.add(path)
-            self.files.write(path, style[1])
+        self.units.share(path, style[1])
         return f'<link rel="stylesheet" href="{escape(as_link(path))}">'
 
     def head(self, head: Head) -> str:

@@ -5,16 +5,19 @@ import re
 from collections.abc import Iterator
 from dataclasses import dataclass, field
 from datetime import datetime
-from functools import cached_property
+from functools import cached_property, lru_cache
+from hashlib import blake2b
 from html import escape, unescape
 from itertools import chain, islice
-from urllib.parse import parse_qsl, urlsplit
+from urllib.parse import parse_qsl
 
 from geanmarbles.archive.files import Noted
+from geanmarbles.archive.kept import digest_of, digest_of_each
 from geanmarbles.archive.lists import Listing, Lists, Order
 from geanmarbles.archive.store import Post, Store
 from geanmarbles.disk_tables import DiskDict, DiskSet
 from geanmarbles.wordpress.addresses import Bases, Places, as_link
+from geanmarbles.wordpress.harmless import split
 from geanmarbles.wordpress.items import Comment, Item, Term, WholeSite
 from geanmarbles.wordpress.texts import paragraphs, quotes_of, texturize, with_characters
 from geanmarbles.wordpress.words import date_format, formatted, month_and_year, words_of
@@ -48,15 +51,21 @@ class Plan:
         # Where each published post and page is, and which path was wanted by two of them.
         self.paths: DiskDict[int, str] = DiskDict(store.disk)
         self.clashes = Noted()
+        # The lists of each category and tag.
+        self.of_terms: dict[tuple[str, str], dict[str, list[str]]] = {}
         self.taken: DiskSet[str] = DiskSet(store.disk)
         self.posts_page = self.posts_page_of()
+        # Of each published post and page all that pages show of it, beside what the export has; and what stands for
+        # these of all, and for their paths alone.
+        self.facts: dict[int, bytes] = {}
+        self.titled, self.placed = blake2b(digest_size=16), blake2b(digest_size=16)
         for post in chain(store.published("page"), store.published("post")):
             self.give_path(post)
 
     @staticmethod
     def base_of(address: str) -> str:
         """The scheme and host of the site, which links that leave the page need."""
-        parts = urlsplit(address)
+        parts = split(address)
         return f"{'http' if parts.scheme == 'http' else 'https'}://{parts.netloc}"
 
     def posts_page_of(self) -> int:
@@ -77,7 +86,7 @@ class Plan:
 
     def give_path(self, post: Post) -> None:
         """Gives a post or page the path that the old site had for it. No two of them have one."""
-        item = self.item(post.number)
+        item = self.item(post.number, post.kind)
         path = self.places.own(item) if item else ""
         if post.number == self.front:
             path = self.places.home
@@ -85,16 +94,25 @@ class Plan:
             path = self.new_path(post)
         if path in self.taken:
             self.clashes.add(path)
-            return
-        self.taken.add(path)
-        self.paths[post.number] = path
+            path = ""
+        else:
+            self.taken.add(path)
+            self.paths[post.number] = path
+        shown = (post.number, post.kind, path, post.date, post.title)
+        self.placed.update(repr(shown[:3]).encode())
+        self.titled.update(repr(shown).encode(errors="backslashreplace"))
+        self.facts[post.number] = digest_of(shown, post.sum)
 
-    def item(self, number: int) -> Item | None:
+    def all_facts(self) -> bytes:
+        """What stands for the facts of all posts and pages."""
+        return digest_of_each(self.facts.items())
+
+    def item(self, number: int, kind: str = "") -> Item | None:
         """What the export has of a post. A post that was put since may have the ID of something that wasn't carried
         over, such as a private post: nothing of that is its own."""
-        item = self.site.items.get(number)
-        post = self.store.posts.get(number)
-        return item if item and post and item.kind == post.kind and item.is_carried() else None
+        item, post = self.site.items.get(number), None if kind else self.store.posts.get(number)
+        kind = post.kind if post else kind
+        return item if item and item.kind == kind and item.is_carried() else None
 
     def comments(self, number: int) -> list[Comment]:
         """The comments of a post that the export has."""
@@ -150,12 +168,8 @@ class Plan:
     def lists(self) -> Lists:
         """All lists but that of all posts, each with its posts, the newest first; a post or page may have the path of
         one, which then has no page."""
-        lists = Lists(self.store.disk)
-        for number in self.order.newest():
-            found: dict[str, tuple[str, str]] = {}
-            for path, kind, heading in self.lists_of(number):
-                found.setdefault(path, (kind, heading))
-            lists.add(number, found)
+        found = ((number, *it) for number in self.order.newest() for it in self.lists_of(number))
+        lists = Lists(self.store.disk, found)
         lists.leave_out(self.taken)
         return lists
 
@@ -171,25 +185,38 @@ class Plan:
         return self.lists.posts_of(listing, begin, count)
 
     def lists_of(self, number: int) -> Iterator[tuple[str, str, str]]:
-        """The path, the kind and the heading of each list that a post is in."""
-        item, date = self.item(number), datetime.fromisoformat(self.store.posts[number].date)
-        above: dict[str, tuple[str, str]] = {}
+        """The path, the kind and the heading of each list that a post is in, each path once."""
+        item, date, found = self.item(number), self.store.posts[number].date, dict[str, list[str]]()
         for it in item.terms if item else ():
-            term: Term | None = self.site.terms.get((it.domain, it.slug), it)
-            seen: set[str] = set()
-            while term and term.slug not in seen and it.domain in ("category", "post_tag"):
-                seen.add(term.slug)
-                above[self.places.term(term)] = it.domain, term.name
-                term = self.site.terms.get((term.domain, term.parent)) if term.parent else None
-        for path, (domain, name) in above.items():
-            yield path, domain, self.heading("category" if domain == "category" else "tag", self.typeset(name))
+            if (it.domain, it.slug) not in self.of_terms:
+                self.of_terms[it.domain, it.slug] = self.lists_of_term(it)
+            found |= self.of_terms[it.domain, it.slug]
         if author := self.author(number):
-            yield author[0], "author", self.heading("author", escape(author[1], quote=False))
-        year, month, day = f"{date.year:04}", f"{date.month:02}", f"{date.day:02}"
-        language = self.site.language
-        yield self.places.date(year), "year", self.heading("year", year)
-        yield self.places.date(year, month), "month", self.heading("month", month_and_year(date, language))
-        yield self.places.date(year, month, day), "day", self.heading("day", formatted(date, self.form, language))
+            found.setdefault(author[0], ["author", self.heading("author", escape(author[1], quote=False))])
+        for path, kind, heading in self.lists_of_day(date[:10]):
+            found.setdefault(path, [kind, heading])
+        return ((path, kind, heading) for path, (kind, heading) in found.items())
+
+    def lists_of_term(self, given: Term) -> dict[str, list[str]]:
+        """The lists of a category or a tag and of those above it: by path, the kind and the heading of each."""
+        made: dict[str, list[str]] = {}
+        term: Term | None = self.site.terms.get((given.domain, given.slug), given)
+        seen: set[str] = set()
+        while term and term.slug not in seen and term.domain in ("category", "post_tag"):
+            seen.add(term.slug)
+            heading = self.heading("category" if term.domain == "category" else "tag", self.typeset(term.name))
+            made[self.places.term(term)] = [term.domain, heading]
+            term = self.site.terms.get((term.domain, term.parent)) if term.parent else None
+        return made
+
+    @lru_cache(1_000)
+    def lists_of_day(self, day: str) -> list[tuple[str, str, str]]:
+        """The lists of a year, of a month and of a day."""
+        date, parts, language = datetime.fromisoformat(day), day.split("-"), self.site.language
+        headings = parts[0], month_and_year(date, language), formatted(date, self.form, language)
+        kinds = ("year", "month", "day")
+        paths = (self.places.date(*parts[: it + 1]) for it in range(3))
+        return [(path, kind, self.heading(kind, text)) for path, kind, text in zip(paths, kinds, headings)]
 
     def heading(self, word: str, text: str) -> str:
         """A word of the site's language and what it is about, with a colon as that language has it."""
@@ -221,13 +248,13 @@ class Plan:
         return made
 
     def target(self, address: str, base: str) -> str:
-        """Where a link of a printed page leads: a plain permalink to the old address. `base` is the path of the list
-        whose parts the page links to."""
-        bare, hash_mark, fragment = address.partition("#")
+        """Where a link of a printed page leads: a plain permalink to the old address, and an address of the old host to
+        the archive. `base` is the path of the list whose parts the page links to."""
+        bare, hash_mark, fragment = self.places.local(address).partition("#")
         path, _, query = bare.partition("?")
         end = hash_mark + fragment
-        if path != "/":
-            return address
+        if path not in ("/", self.places.home):
+            return bare + end
         if not query:
             return as_link(self.places.home) + end
         return (self.queried(query, base) or bare) + end

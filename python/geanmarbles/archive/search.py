@@ -10,19 +10,18 @@ import re
 import tempfile
 import unicodedata
 from collections.abc import Iterator
-from heapq import merge
 from html import escape, unescape
-from itertools import chain, islice
-from typing import IO
+from itertools import chain
 
 from geanmarbles.archive.files import Files
+from geanmarbles.archive.kept import Units
 from geanmarbles.archive.plan import Plan
 from geanmarbles.wordpress.addresses import as_link
 
 # The names that the page can have: WordPress has the first one for what it finds.
 NAMES = ("search", "search-archive")
-# How many notes of words are put in order at a time.
-SORTED = 5_000
+# How many posts may have changed if the index of the last run is mended, and the name of the index in records.
+SOME, INDEX = 200, "search index"
 # How many files the index has: a word is in the one that its first two characters say.
 FILES = 64
 # The shortest word that is noted, and how many characters of a long one are.
@@ -74,7 +73,7 @@ def file_number(word: str) -> int:
 
 
 class Search:
-    """The search of a plan. The index lies in temporary files until it is written, so memory doesn't grow with it."""
+    """The search of a plan."""
 
     def __init__(self, plan: Plan, files: Files) -> None:
         self.plan, self.files = plan, files
@@ -83,7 +82,6 @@ class Search:
         # Where the page is, or an empty text if other pages have both its names.
         self.path = next((it for it in paths if it not in taken and it.rstrip("/") not in taken), "")
         self.folder = f"{self.path.rstrip('/')}/"
-        self.notes: dict[int, IO[bytes]] = {}
 
     def form(self) -> str:
         """The form that leads to the search, for each page."""
@@ -95,18 +93,7 @@ class Search:
             f'{word}</span> <input type="search" name="s"></label>\n<button>{word}</button>\n</form>\n'
         )
 
-    def take(self, number: int, content: str) -> None:
-        """Notes the words of a post, or of a part of one."""
-        if not self.path:
-            return
-        text = unescape(HIDDEN.sub(" ", content))
-        for word in words_in(f"{self.plan.plain_title(number)} {text}"):
-            at = file_number(word)
-            if at not in self.notes:
-                self.notes[at] = tempfile.TemporaryFile()
-            self.notes[at].write(f"{word}\t{number}\n".encode())
-
-    def list(self) -> Iterator[str]:
+    def listed(self) -> Iterator[str]:
         """Every post and page, the newest first, in pieces of HTML."""
         plan, words = self.plan, self.plan.words
         found, everything = escape(words["found"] + words["colon"]), escape(words["everything"])
@@ -122,50 +109,63 @@ class Search:
         date = f" <small>{plan.day(plan.store.posts[number].date)}</small>" if number in plan.order else ""
         return f'<a href="{escape(as_link(plan.paths[number]))}">{title}</a>{date}'
 
-    def write_index(self) -> None:
+    def write_index(self, units: Units) -> None:
         """Writes the script and the words."""
-        if not self.path:
-            return
         script = SCRIPT.replace("FILES", str(FILES)).replace("LONGEST", str(LONGEST))
-        self.files.write(f"{self.folder}search.js", script)
-        for at, file in sorted(self.notes.items()):
-            self.files.write(f"{self.folder}words-{at}.json", index_of(file))
+        facts, before = self.plan.facts, units.before(INDEX)
+        changed = units.changed(facts)
+        if before is not None and len(changed) < SOME:
+            pages = self.with_words_of(changed)
+        else:
+            pages = self.of_all_words()
+
+        def write() -> None:
+            self.files.write(f"{self.folder}search.js", script)
+            for at, known in pages:
+                if known:
+                    listed = (f"{json.dumps(it)}:[{','.join(map(str, known[it]))}]" for it in sorted(known))
+                    self.files.write(self.file_of(at), f"{{{f',{chr(10)}'.join(listed)}}}\n")
+
+        units.make(INDEX, self.plan.all_facts(), write)
+
+    def file_of(self, at: int) -> str:
+        return f"{self.folder}words-{at}.json"
+
+    def words_of(self, number: int) -> set[str]:
+        """The words of a post or page that has one of its own."""
+        plan = self.plan
+        if number not in plan.paths or number == plan.posts_page:
+            return set()
+        return words_in(f"{plan.plain_title(number)} {unescape(HIDDEN.sub(' ', plan.store.content(number)))}")
+
+    def of_all_words(self) -> Iterator[tuple[int, dict[str, list[int]]]]:
+        """The files of the index: each word with the posts that it is in. They are made of notes in temporary files, so
+        only one of them is in memory at a time."""
+        notes = [tempfile.TemporaryFile() for _ in range(FILES)]
+        for number in sorted(self.plan.facts):
+            for word in self.words_of(number):
+                notes[file_number(word)].write(f"{word} {number}\n".encode())
+        for at, file in enumerate(notes):
+            known: dict[str, list[int]] = {}
+            file.seek(0)
+            for line in file:
+                word, _, place = line.decode().partition(" ")
+                known.setdefault(word, []).append(int(place))
             file.close()
-        self.notes.clear()
+            yield at, known
 
-
-def index_of(notes: IO[bytes]) -> Iterator[str]:
-    """A file of the index: each word with the posts that it is in, as they were noted, in pieces of JSON."""
-    before = last = ""
-    for word, numbers in sorted_notes(notes):
-        if word != before:
-            yield f"{'],' + chr(10) if before else '{'}{json.dumps(word)}:[{numbers}"
-        elif numbers != last:
-            yield "," + numbers.removeprefix(f"{last},")
-        before, last = word, numbers.rpartition(",")[2]
-    yield "]}\n"
-
-
-def sorted_notes(notes: IO[bytes]) -> Iterator[tuple[str, str]]:
-    """The words of notes in order, each with its numbers as they came, between commas.
-
-    So many notes are put in order at a time, and then merged: a word comes once for each time that it was
-    among them."""
-    runs: list[IO[bytes]] = []
-    notes.seek(0)
-    while lines := [*islice(notes, SORTED)]:
-        known: dict[str, list[str]] = {}
-        for word, _, number in map(parted, lines):
-            numbers = known.setdefault(word, [])
-            # The parts of a post follow each other.
-            if numbers[-1:] != [number]:
-                numbers.append(number)
-        runs.append(tempfile.TemporaryFile())
-        runs[-1].writelines(f"{it}\t{','.join(known[it])}\n".encode() for it in sorted(known))
-        runs[-1].seek(0)
-    for word, _, listed in merge(*(map(parted, it) for it in runs), key=lambda it: it[0]):
-        yield word, listed
-
-
-def parted(line: bytes) -> tuple[str, str, str]:
-    return line.decode().rstrip("\n").partition("\t")
+    def with_words_of(self, changed: list[int]) -> Iterator[tuple[int, dict[str, list[int]]]]:
+        """The files of the index as the last run has left them, with other words of some posts."""
+        words: dict[int, dict[str, list[int]]] = {}
+        for number in sorted(changed):
+            for word in self.words_of(number):
+                words.setdefault(file_number(word), {}).setdefault(word, []).append(number)
+        gone = set(changed)
+        for at in range(FILES):
+            file, added = self.files.root / self.file_of(at).lstrip("/"), words.get(at, {})
+            known: dict[str, list[int]] = json.loads(file.read_bytes()) if file.is_file() else {}
+            for word in [it for it, numbers in known.items() if not gone.isdisjoint(numbers)] + [*added]:
+                left = [it for it in known.pop(word, []) if it not in gone]
+                if left or word in added:
+                    known[word] = sorted({*left, *added.get(word, [])})
+            yield at, known

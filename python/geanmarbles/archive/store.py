@@ -9,6 +9,7 @@ import subprocess
 import tempfile
 from collections.abc import Iterable, Iterator
 from dataclasses import dataclass
+from hashlib import blake2b
 from typing import IO, Any
 
 from geanmarbles.client.program import LINES, LINE_BYTES, Program, pipe
@@ -34,6 +35,8 @@ class Post:
     status: str
     title: str
     date: str
+    # What stands for its content: another content has another sum.
+    sum: bytes = b""
 
     def is_published(self) -> bool:
         return self.status == "publish"
@@ -45,14 +48,21 @@ class Texts:
     def __init__(self, disk: Disk) -> None:
         self.file: IO[bytes] = tempfile.TemporaryFile()
         self.places: DiskDict[int, tuple[int, int]] = DiskDict(disk)
+        self.size, self.is_at_end = 0, True
 
-    def put(self, number: int, text: str) -> None:
+    def put(self, number: int, text: str) -> bytes:
+        """Puts a text, and returns its sum."""
         data = text.encode()
-        self.places[number] = (self.file.seek(0, 2), len(data))
-        self.file.write(data)
+        # (to seek is to write what is held so far)
+        if not self.is_at_end:
+            self.file.seek(self.size)
+        self.places[number] = self.size, len(data)
+        self.size, self.is_at_end = self.size + self.file.write(data), True
+        return blake2b(data, digest_size=16).digest()
 
     def get(self, number: int) -> str:
         at, size = self.places.get(number, (0, 0))
+        self.is_at_end = False
         self.file.seek(at)
         return self.file.read(size).decode()
 
@@ -93,10 +103,10 @@ class Store:
             for name in ("title", "status", "date"):
                 if post and name in command:
                     setattr(post, name, command[name])
+            if post and "content" in command:
+                post.sum = self.contents.put(post.number, command["content"])
             if post:
                 self.posts[post.number] = post
-            if post and "content" in command:
-                self.contents.put(post.number, command["content"])
         elif kind == "delete":
             self.posts.discard(command["id"])
         else:
@@ -108,8 +118,8 @@ class Store:
 
     def take_post(self, entry: dict[str, Any]) -> None:
         number = entry["id"]
-        self.posts[number] = Post(number, entry["kind"], entry["status"], entry["title"], entry["date"])
-        self.contents.put(number, entry["content"])
+        kind, status, title, date = (entry[it] for it in ("kind", "status", "title", "date"))
+        self.posts[number] = Post(number, kind, status, title, date, self.contents.put(number, entry["content"]))
         self.largest = max(self.largest, number)
 
     def take_import(self, site: dict[str, Any]) -> None:
@@ -172,16 +182,20 @@ class Printer:
     """The program over the site in the file: it prints a post's or a page's page as whoever serves the file does."""
 
     def __init__(self, program: list[str], database: str) -> None:
-        self.program = Program(*program, "--database", database, "--must-exist")
+        self.words = [*program, "--database", database, "--must-exist"]
+        # (it is started for the first page: perhaps there is none)
+        self.program: Program | None = None
 
     def __enter__(self) -> "Printer":
         return self
 
     def __exit__(self, *_: object) -> None:
-        self.program.end()
+        if self.program is not None:
+            self.program.end()
 
     def page(self, path: str) -> tuple[int, str]:
         """The status and the text of the page at a path."""
+        self.program = self.program or Program(*self.words)
         try:
             return status_of(self.program.ask(line_of({"cmd": "get", "path": path})), path)
         except (Ended, NoReply) as error:
@@ -200,7 +214,6 @@ class Lister:
         self.program: Program | None = None
 
     def __enter__(self) -> "Lister":
-        self.begin()
         return self
 
     def __exit__(self, *_: object) -> None:
@@ -234,11 +247,12 @@ class Lister:
             line_of({"cmd": "template", "name": "front-page", "body": front}),
             line_of({"cmd": "template", "name": "home", "body": body}),
         ]
-        self.must(self.listing_lines)
+        if self.program is not None:
+            self.must(self.listing_lines)
 
     def page(self, entries: dict[int, bytes], path: str) -> tuple[int, str]:
         """The page at a path of a site that has these posts and no others, each as JSON: its status and its text."""
-        if self.running().lines > LINES - MARGIN:
+        if self.program is None or self.program.lines > LINES - MARGIN:
             self.begin()
         imports, get = [*import_lines(entries.values())], line_of({"cmd": "get", "path": path})
         try:

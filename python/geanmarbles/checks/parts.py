@@ -78,7 +78,7 @@ NEEDS: dict[str, Callable[[], str | None]] = {
     "php": on_the_path("php"),
     "wordpress": lambda: None if WORDPRESS.is_file() else "there is no WordPress in /usr/share/wordpress",
     "h11": h11,
-    **{it: on_the_path(it) for it in ("valgrind", "nginx", "haproxy", "curl")},
+    **{it: on_the_path(it) for it in ("valgrind", "strace", "nginx", "haproxy", "curl")},
 }
 
 

@@ -19,8 +19,9 @@ copied. URL is where the archive will be, if it isn't where the old site was: su
 the scheme. FORMAT is one of PHP's `date`, such as `j. F Y`; otherwise it is the site's option date_format, or that of
 its language. A NAME is what the addresses of categories or tags began with, if it wasn't `category` or `tag`.
 
-Drafts, and posts that were private or had a password, are in no page, list or feed. Run again after edits, it writes
-what has changed and removes what is gone, so that a copy by rsync sends little. With --check every link of the pages
+Drafts, and posts that were private or had a password, are in no page, list or feed. Run again after edits, it prints
+what they reach, writes what has changed and removes what is gone, so that a copy by rsync sends little; what it knows
+of the last run is in DIR/kept.db. With --check every link of the pages
 is followed too. Standard error says how far it is, and at the end what the old site had and this hasn't. The exit
 status is 0, 1 if the site can't be read or --check found links that lead nowhere, and 2 if the arguments are bad.
 """
@@ -29,7 +30,6 @@ import argparse
 import sqlite3
 import sys
 import time
-from collections import Counter
 from itertools import chain
 from pathlib import Path
 from typing import Any
@@ -38,9 +38,11 @@ from urllib.parse import unquote, urlsplit
 from geanmarbles.archive.check import check
 from geanmarbles.archive.feeds import Feeds, write_sitemap
 from geanmarbles.archive.files import Files, Noted, copy_uploads
+from geanmarbles.archive.kept import Kept, Units, digest_of, digest_of_each, sum_of
 from geanmarbles.archive.moved import Moved, write_moved
 from geanmarbles.archive.pages import Pages
 from geanmarbles.archive.plan import Plan, Settings
+from geanmarbles.archive.search import Search
 from geanmarbles.archive.store import Lister, NotRead, Printer, read_store
 from geanmarbles.arguments import Parser
 from geanmarbles.client.program import add_program_option, check_program, end_by_signals
@@ -48,7 +50,7 @@ from geanmarbles.client.replies import Ended, NoReply
 from geanmarbles.disk_tables import Disk, DiskSet
 from geanmarbles.wordpress.addresses import Bases
 from geanmarbles.wordpress.export import Refused
-from geanmarbles.wordpress.items import WholeSite, read_site
+from geanmarbles.wordpress.harmless import split
 
 # How often standard error says how far the work is, in seconds.
 EVERY = 5
@@ -72,8 +74,8 @@ WITHOUT_PAGE = {
 class Progress:
     """Says now and then how many pages are written."""
 
-    def __init__(self, posts: int) -> None:
-        self.posts, self.count, self.last = posts, 0, time.monotonic()
+    def __init__(self) -> None:
+        self.count, self.last = 0, time.monotonic()
 
     def __call__(self, path: str) -> None:
         self.count += 1
@@ -86,11 +88,11 @@ def say(text: str) -> None:
     print(f"publish: {text}", file=sys.stderr, flush=True)
 
 
-def fetched(plan: Plan, pages: Pages, files: Files, source: Path | None) -> Noted:
+def fetched(plan: Plan, units: Units, files: Files, source: Path | None) -> Noted:
     """Copies the files that pages and attachments need, and returns those that aren't there."""
     attachments = (it for it in plan.site.of_kind("attachment") if it.file and plan.is_open(it))
-    attached = DiskSet(plan.store.disk, (unquote(urlsplit(it.file).path) for it in attachments))
-    needed = DiskSet(plan.store.disk, chain(attached, map(unquote, pages.uploads)))
+    attached = DiskSet(plan.store.disk, (unquote(split(it.file).path) for it in attachments))
+    needed = DiskSet(plan.store.disk, chain(attached, map(unquote, units.uploads)))
     if source is None:
         return Noted(it for it in needed if not (files.root / it.lstrip("/")).is_file())
     return Noted(copy_uploads(source, files, needed, attached))
@@ -98,18 +100,15 @@ def fetched(plan: Plan, pages: Pages, files: Files, source: Path | None) -> Note
 
 def tell_missing(plan: Plan, pages: Pages, files: Files, lacking: Noted) -> None:
     """Says which addresses and files the old site had, and this hasn't."""
-    site, plans = plan.site, plan.paths
-    public = (it for it in site.items.values() if it.is_public())
-    if gone := Noted(plan.places.own(it) or it.link for it in public if it.number not in plans):
+    kinds = plan.site.kinds
+    lost = (plan.site.items[it] for kind in ("post", "page") for it in kinds.get(kind, ()) if it not in plan.facts)
+    if gone := Noted(plan.places.own(it) or it.link for it in lost if it.is_public()):
         say(f"not in the site any more, or not published there: {gone}")
-    others = Counter(
-        it.kind
-        for it in site.items.values()
-        if it.status == "publish" and it.kind not in ("post", "page", *WITHOUT_PAGE)
-    )
-    if others:
-        kinds = ", ".join(f"{count:,} {kind}" for kind, count in others.most_common())
-        say(f"of types that aren't carried over, without an address here: {kinds}")
+    others = kinds.keys() - {"post", "page", *WITHOUT_PAGE}
+    counts = {it: sum(item.status == "publish" for item in plan.site.of_kind(it)) for it in sorted(others)}
+    if any(counts.values()):
+        named = ", ".join(f"{count:,} {kind}" for kind, count in counts.items() if count)
+        say(f"of types that aren't carried over, without an address here: {named}")
     if pages.missing:
         say(f"not found by the program: {pages.missing}")
     if plan.clashes:
@@ -136,27 +135,34 @@ def published(arguments: argparse.Namespace) -> bool:
     """Writes the whole site, and returns whether all is well."""
     begun = time.monotonic()
     # What grows with the site is there, so that memory doesn't.
-    disk = Disk()
-    site: WholeSite = read_site(arguments.export, disk)
+    disk, kept = Disk(), Kept(arguments.folder)
+    site, export = kept.site(arguments.export)
     store = read_store(arguments.program, arguments.database, disk)
     bases = Bases(arguments.category_base, arguments.tag_base)
-    plan = Plan(site, store, Settings(bases, arguments.date_format, arguments.address or ""))
+    settings = Settings(bases, arguments.date_format, arguments.address or "")
+    plan = Plan(site, store, settings)
     files = Files(arguments.folder, disk)
-    printer, lister = Printer(arguments.program, arguments.database), Lister(arguments.program, store)
-    pages = Pages(plan, files, printer, lister, Progress(len(plan.paths)))
-    pages.write()
-    feeds = Feeds(plan, files)
+    search = Search(plan, files)
+    seed = digest_of(export, sum_of(Path(arguments.program[0])), arguments.program[1:], settings, store.settings)
+    seed = digest_of(seed, plan.front, plan.posts_page, [*plan.dates("year")], search.path)
+    units = Units(kept, files, seed, lambda it: plan.target(it, "/"))
+    progress = Progress()
+    pages = Pages(plan, files, units, search, progress)
+    pages.write(Printer(arguments.program, arguments.database), Lister(arguments.program, store))
+    feeds = Feeds(plan, files, units)
     feeds.write()
-    write_sitemap(plan, files, pages.sitemap)
-    moved = Moved(plan, pages.search.path)
-    write_moved(moved, files)
-    lacking = fetched(plan, pages, files, arguments.uploads)
+    units.make("sitemap", digest_of_each(pages.sitemap.items()), lambda: write_sitemap(plan, files, pages.sitemap))
+    lists = digest_of_each((it.path, it.kind) for it in plan.lists)
+    units.make("moved", (plan.placed.digest(), lists), lambda: write_moved(Moved(plan, search.path), files))
+    lacking = fetched(plan, units, files, arguments.uploads)
+    units.end()
     files.end()
     store.close()
     tell_missing(plan, pages, files, lacking)
-    is_well = follow_links(plan, moved, files) if arguments.check else True
+    is_well = follow_links(plan, Moved(plan, search.path), files) if arguments.check else True
+    kept.end()
     say(
-        f"{pages.count:,} pages, {feeds.count:,} feeds and {len(moved.table):,} moved addresses in {files.root}: "
+        f"{pages.count:,} pages, {progress.count:,} of them printed, and {feeds.count:,} feeds in {files.root}: "
         f"{files.written:,} files written, {files.unchanged:,} unchanged, {files.removed:,} removed, "
         f"in {time.monotonic() - begun:.1f} s"
     )

@@ -10,7 +10,7 @@ from geanmarbles.paths import CRATES, DOCS
 from geanmarbles.repository.definitions import Definition, Key, Rests, closure, read, used
 
 PAGE = DOCS / "THEOREM.md"
-SOURCE = CRATES / "site_program" / "src" / "serve.rt"
+SOURCE = CRATES / "site_main" / "src" / "lines.rt"
 CLAUSE = re.compile(r"^( *)ensures replied \{.*?\}$", re.M | re.S)
 # What the clause names, as far as it is this repository's.
 CLAUSE_NAMES = re.compile(r"\b[A-Za-z_]\w+\b")
@@ -27,14 +27,14 @@ class Part(NamedTuple):
 PARTS = [
     Part(
         "An input",
-        "When some bytes are the replies to all lines of an input. `steps`, a line's meaning, is in the next part.",
+        "When some bytes are the replies to all lines of an input. `steps_over`, a line's meaning, comes next.",
         ["site_program/Serving", "site_serving/Serving", "site_serving/Lines"],
     ),
     Part(
         "A line",
         "`step` is the meaning of a line. `IsReply` says which replies it may get: that one, or a refusal for memory or"
         " by the database.",
-        ["site_program/Step", "site_program/State", "site_replies/Reply"],
+        ["site_main/Steps", "site_program/Step", "site_program/State", "site_replies/Reply"],
     ),
     Part(
         "A command",
@@ -114,14 +114,8 @@ PARTS = [
         ],
     ),
 ]
-# The definitions that only `state_of` rests on: how contracts see a site in memory.
-SEEN = Part(
-    "How a site in memory is seen",
-    "`state_of` reads a site's rows and open pages off the fields of the code. For a new site it is `empty_site`"
-    " (`Site::new`, `empty`), and the clause says how it changes from there, so the promise can be understood without"
-    " this part.",
-    ["site_program/Site"],
-)
+# What a definition is of which its source doesn't say so.
+SAID = {"no_rows": "-- nothing is stored"}
 BESIDES = Part("Small definitions", "Definitions that several parts use.", [])
 LAST = "Types and the toolchain"
 INTRODUCTION = """# The theorem
@@ -130,16 +124,16 @@ The clause by which the program is proved, and each definition that it rests on,
 `tools/index` makes this page of them, and `tests/links/run` fails if it isn't up to date. [PROOFS](PROOFS.md) has the
 premises, the other promises, and what is trusted.
 
-From [`serve_site`]({source}), which serves lines in memory:
+From [`serve_lines`]({source}), by which the program serves lines:
 
 ```rust
 {clause}
 ```
 
-In words: if `serve_site` returns `Ok`, and the reader and the writer show their bytes to contracts, then the writer
-took some bytes `out` and nothing else, and `out` is the replies to all lines of the input, one after another, from the
-site before to the site after. `S` is the type of the plugins' callbacks, `S.says` the reply that each is stated to
-give, and `.old` and `.new` are the values before and after the call.
+In words: if lines are served in memory (`run.1`, the files of a log, is `None`) and serving ends with `Ok`, and the
+reader and the sink show their bytes to contracts, then the sink took some bytes `out` and nothing else, and `out` is
+the replies to all lines of the input, one after another, from the empty site on. `S` is the type of the plugins'
+callbacks, and `S.says` the reply that each is stated to give.
 
 The definitions are written in the language of the prover. `abbrev` and `unfoldable` give a name to a value or a type,
 `record` and `data` declare types; `×` means both, `⊎` one of two, `≡` equal; a text is the list of its bytes, and `ℕ`
@@ -169,8 +163,14 @@ def without_comment() -> list[str]:
         f"{it.name} of {key.crate}/specs/{key.path}.antt"
         for key, names in rests.definitions.items()
         for it in read(key).definitions.values()
-        if it.name in names and not it.comment
+        if it.name in names and not said_of(it)
     )
+
+
+def said_of(definition: Definition) -> list[str]:
+    """The comment on a definition."""
+    said = SAID.get(definition.name)
+    return definition.comment or ([said] if said else [])
 
 
 def anchor_of(heading: str) -> str:
@@ -189,7 +189,7 @@ def shown(definitions: Iterable[Definition]) -> Iterator[str]:
         yield from [""] * (number > 0)
         yield from (module for at, module in enumerate(it.modules) if modules[at : at + 1] != [module])
         modules = it.modules
-        yield from it.comment
+        yield from said_of(it)
         yield from it.lines
 
 
@@ -227,7 +227,7 @@ def declared(crate: str, name: str) -> tuple[Path, str]:
     return CRATES / crate / "src", ""
 
 
-def type_lines(rests: Rests, meant: Rests) -> Iterator[str]:
+def type_lines(rests: Rests) -> Iterator[str]:
     """The types of the code, as their sources have them, and the toolchain's names."""
     yield f"## {LAST}"
     yield ""
@@ -236,17 +236,13 @@ def type_lines(rests: Rests, meant: Rests) -> Iterator[str]:
         " and a `SharedList` are the lists of their items, and a callback's number and each integer are numbers."
     )
     yield ""
-    for crate in dict.fromkeys(it for it, _ in sorted(meant.types)):
-        found = [declared(crate, name) for home, name in sorted(meant.types) if home == crate]
+    for crate in dict.fromkeys(it for it, _ in sorted(rests.types)):
+        found = [declared(crate, name) for home, name in sorted(rests.types) if home == crate]
         paths = dict.fromkeys(path for path, _ in found)
         yield ", ".join(f"[`{it.relative_to(CRATES)}`]({os.path.relpath(it, DOCS)})" for it in paths) + ":"
         yield ""
         yield "\n\n".join(f"```rust\n{text}\n```" for _, text in found if text)
         yield ""
-    links = [f"[`{name}`]({os.path.relpath(declared(crate, name)[0], DOCS)})" for crate, name in sorted(rests.types)]
-    others = [it for it, of in zip(links, sorted(rests.types)) if of not in meant.types]
-    yield f"Types that [the part on a site in memory](#{anchor_of(SEEN.heading)}) alone names: {', '.join(others)}."
-    yield ""
     yield "Definitions of the toolchain's libraries:"
     yield ""
     for library, names in sorted(rests.elsewhere.items()):
@@ -256,22 +252,19 @@ def type_lines(rests: Rests, meant: Rests) -> Iterator[str]:
 def page_text() -> str:
     text, aims = clause()
     rests = closure(aims)
-    meant = closure(it for it in aims if it[1] not in ("state_of", "setup_of"))
-    placed = {key_named(name) for part in [*PARTS, SEEN] for name in part.files}
-    seen = [it for it in rests.definitions if it not in placed and it not in meant.definitions]
-    rest = [it for it in rests.definitions if it not in placed and it not in seen]
+    placed = {key_named(name) for part in PARTS for name in part.files}
+    rest = [it for it in rests.definitions if it not in placed]
     lines: list[str] = []
-    parts = [(part, [key_named(it) for it in part.files]) for part in PARTS]
-    parts += [(BESIDES, sorted(rest)), (SEEN, [key_named(it) for it in SEEN.files] + sorted(seen))]
+    parts = [(part, [key_named(it) for it in part.files]) for part in PARTS] + [(BESIDES, sorted(rest))]
     for part, files in parts:
         lines += part_lines(part, rests, [it for it in files if it in rests.definitions])
-    lines += type_lines(rests, meant)
+    lines += type_lines(rests)
     every = [read(it).definitions[name] for it, names in rests.definitions.items() for name in names]
     head = INTRODUCTION.format(
         source=os.path.relpath(SOURCE, DOCS),
         clause=text,
         count=len(every),
-        lines=f"{sum(len(it.comment) + len(it.lines) for it in every):,}",
+        lines=f"{sum(len(said_of(it)) + len(it.lines) for it in every):,}",
     )
     links = [f"[{it}](#{anchor_of(it)})" for it in [*(part.heading for part, _ in parts), LAST]]
     contents = " ·\n".join(" · ".join(links[at : at + 3]) for at in range(0, len(links), 3))

@@ -12,11 +12,15 @@ from typing import NamedTuple
 from urllib.parse import quote, unquote
 
 from geanmarbles.wordpress.harmless import split
-from geanmarbles.wordpress.items import Item, Term, WholeSite, same_address
+from geanmarbles.wordpress.items import Item, Term, WholeSite, host_of, same_address
 
 # The longest name of a file.
 NAME_BYTES = 255
 UPLOADS = "wp-content/uploads/"
+# A path as nearly all are: no name in it can be at fault.
+SIMPLE = re.compile(r"(?:/[a-z0-9_-][a-z0-9_.-]{0,99})+/?", re.ASCII)
+# A picture as Jetpack's service has it: the address that it comes from follows the host.
+CACHED = re.compile(r"i\d\.wp\.com/([^/]+)(/.*)")
 
 
 class Bases(NamedTuple):
@@ -31,6 +35,7 @@ class Places:
 
     def __init__(self, site: WholeSite, bases: Bases = Bases()) -> None:
         self.site = site
+        self.hosts = {host_of(it) for it in (site.address, site.files_address)} - {""}
         self.home = unquote(split(site.address).path).rstrip("/") + "/"
         patterns: Counter[tuple[str, ...]] = Counter()
         with_slash = 0
@@ -54,6 +59,17 @@ class Places:
         """What an archive's paths begin with: a base of the site's own stands at its home."""
         base = base.strip("/")
         return f"{self.before if base == usual else self.home}{base}/"
+
+    def local(self, address: str) -> str:
+        """An address of the site without its host; any other as it is."""
+        address = address.strip()
+        parts = split(address if not address.startswith("//") else "http:" + address)
+        if (cached := CACHED.fullmatch(parts.netloc + parts.path)) and cached[1].removeprefix("www.") in self.hosts:
+            # A picture of the site that a service of another host hands on at another size.
+            return cached[2]
+        if parts.scheme in ("http", "https") and parts.netloc.lower().removeprefix("www.") in self.hosts:
+            return parts._replace(scheme="", netloc="", path=parts.path or "/").geturl()
+        return address
 
     def own(self, item: Item) -> str:
         """The path that the export gives an item, or an empty text if it has none of its own."""
@@ -159,6 +175,8 @@ def slug_of(title: str) -> str:
 
 def path_or_none(path: str) -> str | None:
     """A path for which a file can be written, or None: it stays in its folder, and its names are those of files."""
+    if SIMPLE.fullmatch(path):
+        return path
     names = path.strip("/").split("/") if path.strip("/") else []
     for name in names:
         is_named = name not in ("", ".", "..") and not name.startswith(".ht")

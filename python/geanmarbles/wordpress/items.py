@@ -12,7 +12,7 @@ from pathlib import Path
 from sys import intern
 from typing import Any
 
-from geanmarbles.disk_tables import Disk, DiskDict
+from geanmarbles.disk_tables import DiskDict
 from geanmarbles.wordpress.export import Element, Reader, Refused
 from geanmarbles.wordpress.harmless import is_harmless, split
 
@@ -106,6 +106,8 @@ class WholeSite:
     # The names of authors' pages, by login, as far as they aren't made of it.
     author_slugs: dict[str, str] = field(default_factory=dict)
     author_numbers: dict[str, int] = field(default_factory=dict)
+    # The numbers of the items of each kind.
+    kinds: dict[str, list[int]] = field(default_factory=dict)
 
     def must_have_address(self, path: Path) -> None:
         if not split(self.address).netloc:
@@ -120,7 +122,19 @@ class WholeSite:
         return host_of(self.address)
 
     def of_kind(self, kind: str) -> Iterator[Item]:
-        return (it for it in self.items.values() if it.kind == kind)
+        found = (self.items[number] for number in self.kinds.get(kind, ()))
+        return (it for it in found if it.kind == kind)
+
+    def add(self, item: Item) -> bool:
+        """Adds an item. Of two with one number the first that is carried over is meant, as when the export is
+        imported."""
+        other = self.items.get(item.number)
+        if other is not None and (other.is_carried() or not item.is_carried()):
+            return False
+        if other is None or other.kind != item.kind:
+            self.kinds.setdefault(item.kind, []).append(item.number)
+        self.items[item.number] = item
+        return True
 
     def term_names(self, term: Term) -> list[str]:
         """The slugs of a term and of those above it, the topmost first."""
@@ -249,11 +263,8 @@ def taking(site: WholeSite, has_comments: bool) -> Callable[[Element], None]:
     def take(element: Element) -> None:
         if element.name == "item":
             item = item_of(element, named)
-            # Of two items with one ID the first that is carried over is meant, as when the export is imported.
-            if item.number not in site.items or item.is_carried() and not site.items[item.number].is_carried():
-                site.items[item.number] = item
-                if has_comments:
-                    site.comments[item.number] = comments_of(element)
+            if site.add(item) and has_comments and item.is_carried():
+                site.comments[item.number] = comments_of(element)
         elif element.name in TERMS:
             term = term_of(element)
             site.terms[term.domain, term.slug] = term
@@ -267,10 +278,9 @@ def taking(site: WholeSite, has_comments: bool) -> Callable[[Element], None]:
     return take
 
 
-def read_site(path: Path, disk: Disk) -> WholeSite:
-    """Reads what an export has of a site into a database, with comments and without contents."""
-    # (comments can be many, and each page asks for those of its post once)
-    site = WholeSite(items=DiskDict(disk), comments=DiskDict(disk, at_hand=1))
+def read_site(path: Path, items: DiskDict[int, Item], comments: DiskDict[int, list[Comment]]) -> WholeSite:
+    """Reads what an export has of a site into two dictionaries, with comments and without contents."""
+    site = WholeSite(items=items, comments=comments)
     Reader(path, taking(site, True), {"content:encoded"}).read()
     site.must_have_address(path)
     return site

@@ -15,7 +15,7 @@ from urllib.parse import unquote
 
 from geanmarbles.wordpress.addresses import Places
 from geanmarbles.wordpress.harmless import SCHEME, harmless, is_harmless, split
-from geanmarbles.wordpress.items import Item, WholeSite, host_of, pictures_of
+from geanmarbles.wordpress.items import Item, WholeSite, pictures_of
 from geanmarbles.wordpress.texts import TAGS, paragraphs, quotes_of, texturize, with_characters
 
 # The shortcodes of WordPress itself; the others are those of plugins.
@@ -112,15 +112,10 @@ def quoted(text: str) -> str:
     return escape(unescape(text))
 
 
-# A picture as Jetpack's service has it: the address that it comes from follows the host.
-CACHED = re.compile(r"i\d\.wp\.com/([^/]+)(/.*)")
-
-
 class Addresses:
     """Where the addresses of the old site lead to in the program."""
 
     def __init__(self, site: WholeSite, carried: set[int], places: Places) -> None:
-        self.hosts = {host_of(it) for it in (site.address, site.files_address)} - {""}
         self.home = split(site.address).path.rstrip("/") + "/"
         self.paths: dict[str, str] = {}
         self.files = {it.number: it.file for it in site.of_kind("attachment") if it.file}
@@ -130,7 +125,7 @@ class Addresses:
             if item.number in carried and path.strip("/") != self.home.strip("/"):
                 self.paths[trimmed(path)] = f"/?{'p' if item.kind == 'post' else 'page_id'}={item.number}"
             elif item.kind == "attachment" and item.file:
-                self.paths.setdefault(trimmed(path), self.local(item.file))
+                self.paths.setdefault(trimmed(path), places.local(item.file))
         self.carried, self.numbers = carried, {it.number: it for it in site.terms.values()}
         self.places, self.slugs = places, site.terms
         self.lists = {trimmed(places.term(it)) for it in site.terms.values()}
@@ -151,20 +146,9 @@ class Addresses:
             "sitemap.xml",
         )
 
-    def local(self, address: str) -> str:
-        """An address of the site without its host; any other as it is."""
-        address = address.strip()
-        parts = split(address if not address.startswith("//") else "http:" + address)
-        if (cached := CACHED.fullmatch(parts.netloc + parts.path)) and cached[1].removeprefix("www.") in self.hosts:
-            # A picture of the site that a service of another host hands on at another size.
-            return cached[2]
-        if parts.scheme in ("http", "https") and parts.netloc.lower().removeprefix("www.") in self.hosts:
-            return parts._replace(scheme="", netloc="", path=parts.path or "/").geturl()
-        return address
-
     def link(self, address: str) -> str:
-        """Where a link of a content leads: a post or page of the site by its ID, all else as `local` says."""
-        path = self.local(address)
+        """Where a link of a content leads: a post or page of the site by its ID, all else as `Places.local` says."""
+        path = self.places.local(address)
         if not path.startswith("/") or path.startswith("//"):
             return path
         bare, hash_mark, fragment = path.partition("#")
@@ -179,7 +163,7 @@ class Addresses:
         name, _, value = query.partition("=")
         number = int(value) if re.fullmatch(r"\d{1,10}", value) else 0
         if name == "attachment_id":
-            return self.local(self.files.get(number, ""))
+            return self.places.local(self.files.get(number, ""))
         if name == "cat" and number in self.numbers:
             return self.places.term(self.numbers[number])
         if name == "tag" and ("post_tag", value) in self.slugs:
@@ -204,7 +188,7 @@ class Shown:
     def __init__(self, site: WholeSite, carried: set[int], places: Places, notes: Notes) -> None:
         self.site, self.notes = site, notes
         self.quotes = quotes_of(site.language)
-        self.addresses = Addresses(site, carried, places)
+        self.addresses, self.places = Addresses(site, carried, places), places
         # The files of the site that its texts show or lead to.
         self.files: set[str] = set()
         self.held: list[str] = []
@@ -424,7 +408,7 @@ class Shown:
 
     def address(self, address: str) -> str:
         """The address of a file of the site, which is noted as needed."""
-        return self.needed(self.addresses.local(address))
+        return self.needed(self.places.local(address))
 
     def needed(self, address: str) -> str:
         """An address, which is noted if it is that of a file of the site: then its spaces are written as `%20`."""

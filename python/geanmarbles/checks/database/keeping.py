@@ -2,7 +2,6 @@
 
 import json
 import os
-import re
 import shutil
 import subprocess
 import tempfile
@@ -13,7 +12,6 @@ from pathlib import Path
 from geanmarbles.checks.database.clients import (
     Cases,
     Client,
-    Skipped,
     check_end,
     done,
     get,
@@ -127,23 +125,6 @@ def acknowledges(program: str, file: Path) -> None:
             check_equal(history(file), lines)
         check_end(client.end(), 0, b"")
     check_equal(history(file), lines)
-
-
-def syncs_before_replies(program: str, file: Path) -> None:
-    """Before each reply to an edit the log is written and then synced twice, as strace sees it."""
-    if shutil.which("strace") is None:
-        raise Skipped("there is no strace")
-    replies(program, [], *over(file))
-    calls = file.parent / "calls"
-    words = ["-f", "-qq", "-o", str(calls), "-e", "trace=pwrite64,fdatasync,write", program, *over(file)]
-    with Client("strace", *words) as client:
-        for number in range(1, 11):
-            client.ask(put(title=str(number)))
-        check_end(client.end(), 0, b"")
-    made = re.findall(r"^[0-9]+ +(?:(pwrite64|fdatasync)|write\(1, \"(ok))", calls.read_text(encoding="utf-8"), re.M)
-    order = "".join({"pwrite64": "w", "fdatasync": "s"}.get(call, ".") for call, _ in made)
-    if not re.fullmatch(r"[ws]*(w+sw+s\.){10}[ws]*", order):
-        raise Wrong(f"the order of writes (w), syncs (s) and replies (.) is {order}")
 
 
 def takes_chunks(program: str, file: Path) -> None:
@@ -337,7 +318,6 @@ def cases(program: str) -> Cases:
     checks = (
         keeps,
         acknowledges,
-        syncs_before_replies,
         takes_chunks,
         waits_in_bounds,
         holds_little_back,

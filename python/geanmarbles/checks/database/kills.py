@@ -1,8 +1,5 @@
-"""SIGKILL at random moments, while a site that lasts is served, while it starts, and while its history is shortened;
-and copies of its files while it is stopped."""
+"""SIGKILL at random moments, while a site that lasts is served, while it starts, and while its history is shortened."""
 
-import os
-import signal
 import tempfile
 import threading
 import time
@@ -25,7 +22,7 @@ from geanmarbles.checks.database.clients import (
     run,
     same_pages,
 )
-from geanmarbles.checks.database.files import check_after_a_crash, check_equal, copied, history
+from geanmarbles.checks.database.files import check_after_a_crash, check_equal, history
 from geanmarbles.client.replies import Wrong, refusal_of, shown
 
 # A file goes on over so many rounds, and then a new one begins.
@@ -36,7 +33,7 @@ SERVING = 0.06
 PIPED = 600
 # How many rounds are made, and how often each kind of them.
 ROUNDS = 500
-KINDS = {"waits": 4, "pipes": 4, "starts": 3, "stops": 2, "compacts": 1}
+KINDS = {"waits": 4, "pipes": 4, "starts": 3, "compacts": 1}
 TAGS = ("the_title", "the_content", "the_ID")
 
 
@@ -105,31 +102,6 @@ class Life:
             sender.join()
         return [it for it in lines if is_edit(it)], sum(self.is_done(*it) for it in zip(lines, got) if is_edit(it[0]))
 
-    def copy_while_stopped(self) -> tuple[list[bytes], int]:
-        """A backup of both files while the program is stopped amid chunks; it goes on, and all edits are done."""
-        lines = [self.edit() for _ in range(self.random.randint(1, PIPED))]
-        got: list[bytes] = []
-        with Client(self.program, *over(self.file)) as client, tempfile.TemporaryDirectory() as folder:
-            client.ask(get("/"))
-            sender = threading.Thread(target=client.send, args=[joined(lines)], daemon=True)
-            reader = threading.Thread(target=lambda: got.extend(client.replies()), daemon=True)
-            sender.start()
-            reader.start()
-            time.sleep(self.random.uniform(0, SERVING))
-            acknowledged = len(got)
-            client.child.send_signal(signal.SIGSTOP)
-            os.waitid(os.P_PID, client.child.pid, os.WSTOPPED | os.WNOWAIT)
-            copy = copied(self.file, folder)
-            client.child.send_signal(signal.SIGCONT)
-            sender.join()
-            client.given.close()
-            reader.join()
-            check_after_a_crash(history(copy), self.lines, lines, acknowledged)
-            same_pages(self.program, copy, history(copy), ("/", "/?p=1"))
-        if len(got) != len(lines):
-            raise Wrong(f"{len(lines)} lines have {len(got)} replies after a stop")
-        return lines, len(got)
-
     def kill_while_starting(self, lines: list[bytes]) -> tuple[list[bytes], int]:
         """A kill within some milliseconds after the start; some edits wait to be read."""
         with Client(self.program, *over(self.file)) as client:
@@ -157,7 +129,7 @@ class Life:
             self.kill_while_compacting()
         else:
             some = [self.edit() for _ in range(self.random.randrange(3))]
-            kills = {"waits": self.wait_for_each, "pipes": self.pipe_chunks, "stops": self.copy_while_stopped}
+            kills = {"waits": self.wait_for_each, "pipes": self.pipe_chunks}
             sent, acknowledged = kills[kind]() if kind in kills else self.kill_while_starting(some)
             found = history(self.file)
             check_after_a_crash(found, self.lines, sent, acknowledged)

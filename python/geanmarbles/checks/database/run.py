@@ -1,6 +1,6 @@
 """Runs the program with --database, ends it in every way, and reads what is left by SQLite itself.
 
-    tests/database/run [--rounds N] [--part NAME ..] [PROGRAM]
+    tests/database/run [--rounds N] [--seed N] [--part NAME ..] [PROGRAM]
 
 PROGRAM is the one that is here, built or shipped, if it is left out. SQLite is that of Python's own module; it always
 reads a copy of FILE and FILE-wal. The parts, in this order, or some of them, each after a --part:
@@ -39,10 +39,12 @@ reads a copy of FILE and FILE-wal. The parts, in this order, or some of them, ea
 - readme: the README's own example, with its `kill -9`;
 - kills: N rounds, 500 if N is left out: SIGKILL at a random moment of serving a client that waits for its replies, or
   one that sends chunks, of a start, or of a --compact. Each time all edits that were acknowledged are there, in order,
-  and nothing that wasn't sent; and the next start gives the pages of those lines. In some rounds both files are copied
-  while the program is stopped, and the copy is judged so.
-
-A kill doesn't test the disk: the kernel keeps what was written.
+  and nothing that wasn't sent; and the next start gives the pages of those lines;
+- power: a kill doesn't test the disk, since the kernel keeps what was written. So each write and each sync is recorded
+  by strace, and files are made as a loss of power may leave them: what was synced, and any of the writes after it, torn
+  at multiples of 512 bytes. They are judged as after a kill. The moments are those before each sync, with none and with
+  all of the writes, as a copy has them that is made while the program is stopped; and others, chosen by the seed, which
+  is printed. Files that are judged wrong are kept in out/power. Skipped without `strace`.
 
 The last line is 'N passed, M failed', over the checks and rounds, and the exit status is 0 if none failed.
 """
@@ -50,6 +52,7 @@ The last line is 'N passed, M failed', over the checks and rounds, and the exit 
 import argparse
 from collections.abc import Callable
 from itertools import chain
+from random import Random
 
 from geanmarbles.checks.database import (
     backups,
@@ -62,6 +65,7 @@ from geanmarbles.checks.database import (
     exports,
     keeping,
     kills,
+    power,
     readers,
     readme,
     refused,
@@ -86,12 +90,15 @@ PARTS: dict[str, Callable[[str], Cases]] = {
     "replaced": replaced.cases,
     "readme": readme.cases,
     "kills": kills.cases,
+    "power": lambda program: power.cases(program, Random().randrange(1_000_000)),
 }
 
 
 def cases_of(name: str, arguments: argparse.Namespace) -> Cases:
     if name == "kills":
         return kills.cases(arguments.program, arguments.rounds)
+    if name == "power" and arguments.seed is not None:
+        return power.cases(arguments.program, arguments.seed)
     return PARTS[name](arguments.program)
 
 
@@ -102,6 +109,8 @@ def judge_part(counts: Counts, name: str, cases: Cases) -> None:
 def read_arguments() -> argparse.Namespace:
     parser = parser_of(__doc__)
     parser.add_argument("--rounds", metavar="N", type=int, default=kills.ROUNDS, help="how often the program is killed")
+    seed = "which losses of power there are; a random one if it is left out"
+    parser.add_argument("--seed", metavar="N", type=int, help=seed)
     some = f"some parts alone: {', '.join(PARTS)}"
     parser.add_argument("--part", metavar="NAME", action="append", choices=PARTS, help=some)
     return parser.parse_args()

@@ -314,40 +314,30 @@ def new_post(title: str) -> dict[str, Any]:
     return {**head, "title": title, "content": "NEWWORD"}
 
 
-def check_again(program: Path, site: Recorded) -> None:
-    """A second run writes nothing; an edit writes its pages alone; what is deleted or becomes a draft is gone."""
-    with Archive(program, site) as archive:
-        archive.publish()
-        before = archive.files()
-        said = archive.publish()
-        must(" 0 files written" in said and " 0 removed" in said, f"a second run writes files: {said[-200:]}")
-        must(archive.files() == before, "a second run changes a file")
-        gone, hidden, edited = [it for it in site.posts if it["kind"] == "post"][3:6]
-        archive.edit(
-            {"cmd": "delete", "id": gone["id"]},
-            {"cmd": "edit", "id": hidden["id"], "status": "draft"},
-            {"cmd": "edit", "id": edited["id"], "title": "EDITEDWORD"},
+def check_old_host(program: Path) -> None:
+    """Links of comments and excerpts to the old host stay within the archive, one that is no address is named, and a
+    post whose author wants no teaser begins at its mark."""
+    site = recorded("fournil")
+    with tempfile.TemporaryDirectory() as folder:
+        text = site.export.read_text(encoding="utf-8")
+        links = '<a href="https://www.fournil.example/?p=18">x</a> <a href="http://[">y</a>'
+        text = text.replace('[C\'est "super" !]', f"[{links}]", 1)
+        at = text.index("<excerpt:encoded><![CDATA[]", text.index("recette-le-levain")) + len(
+            "<excerpt:encoded><![CDATA["
         )
-        archive.publish()
-        after = archive.files()
-        for post in (gone, hidden):
-            must(file_of(archive.root, post["path"]) is None, f"{post['path']} is still there")
-        must("EDITEDWORD" in archive.page(edited["path"]), "the edit isn't in its page")
-        same = sum(after.get(name) == it for name, it in before.items())
-        must(same > len(before) / 3, f"{same} of {len(before)} files are as before")
-
-
-def check_new_posts(program: Path, site: Recorded) -> None:
-    """Posts that were put since have pages of their own, and nothing of what had their IDs in WordPress."""
-    with Archive(program, site) as archive:
-        archive.edit(*(new_post(f"A new & <b>bold</b> post {it}") for it in range(8)))
-        archive.publish()
-        for name, data in archive.files().items():
-            is_clean = "hiddenword" not in name.lower() and not any(it.encode() in data for it in HIDDEN)
-            must(is_clean, f"{name} has what nobody may see")
-        for number in range(8):
-            names = [it for it in archive.files() if f"a-new-bold-post-{number}/index.html" in it]
-            must(len(names) == 1, f"the new post {number} has the files {names}")
+        text = text[:at] + '<a href="http://fournil.example/a-propos/">z</a>' + text[at:]
+        export = Path(folder, "old.xml")
+        export.write_text(text.replace("recette-->", "recette--><!--noteaser-->"), encoding="utf-8")
+        with Archive(program, site._replace(export=export), "--address", "https://pain.example") as archive:
+            said = archive.publish("--check", status=1)
+            post, listed = archive.page("/pains-brioches/le-pain-gris/"), archive.page("/2015/06/12/")
+            own = archive.page("/pains-brioches/seigle/recette-le-levain/")
+            pages = [data for name, data in archive.files().items() if name.endswith("index.html")]
+    to = '<a href="/pains-brioches/seigle/recette-le-levain/" rel="nofollow ugc">x</a>'
+    must(to in post and '<a href="/a-propos/">z</a>' in listed, "a comment or an excerpt leads to the old host")
+    must(not any(b'="http://fournil.example' in it for it in pages), "a page leads to the old host")
+    must("publish:   http://[, from 1 pages, first /pains-brioches/le-pain-gris/\n" in said, f"it says {said[-600:]}")
+    must("Il faut" not in own and "C’est parti</h2>" in own, f"the post has its teaser: {own[-3000:]}")
 
 
 def check_menu() -> None:
@@ -736,6 +726,7 @@ def checks(program: Path) -> Iterator[tuple[Any, ...]]:
     yield "sticky posts", check_sticky, program
     yield "posts without a title", check_untitled, program
     yield "what is around a page", check_frame, program
+    yield "links to the old host, and teasers", check_old_host, program
     yield "uploads from a folder and from archives", check_uploads, program
     yield "uploads fetched beside an import", check_fetch
     yield "uploads that can't be fetched", check_fetch_faults
@@ -746,8 +737,6 @@ def checks(program: Path) -> Iterator[tuple[Any, ...]]:
         yield f"{name}: the import", check_import, site
         yield f"{name}: addresses", check_addresses, program, site
         yield f"{name}: pages of the archive", check_archive, program, site
-        yield f"{name}: a second run, and edits", check_again, program, site
-        yield f"{name}: new posts", check_new_posts, program, site
         yield f"{name}: the search", check_search, program, site
 
 

@@ -12,8 +12,8 @@ take no time in the square of the depth. Last come arguments and templates that 
 
 The exports in whole/ are those of sites that WordPress's own code has made. Each must give the lines of text that
 WordPress showed, and examples/publish an archive with a page or a redirect at each of its public addresses, in which
-nothing of a draft, a private or a protected post is found, and every link leads somewhere; a second run must write
-nothing, and edits only what they change.
+nothing of a draft, a private or a protected post is found, and every link leads somewhere; a second run must print
+nothing, and edits only what they reach: after random ones an archive is, to the byte, what a run from nothing makes.
 
 Typography and paragraphs must be those that WordPress's functions made, as `record` has recorded them. If PHP and a
 WordPress in DIR, /usr/share/wordpress if it is left out, are there, random texts are compared with these functions too.
@@ -38,14 +38,15 @@ from collections.abc import Callable, Collection, Iterator
 from functools import partial
 from html import unescape
 from html.parser import HTMLParser
+from itertools import chain
 from pathlib import Path
 from typing import Any
 
-from geanmarbles.checks.from_wordpress import archive_checks, editor_checks
+from geanmarbles.checks.from_wordpress import archive_checks, editor_checks, second_runs
 from geanmarbles.checks.judging import Cases, Counts, must
 from geanmarbles.checks.programs import missing, parser_of
 from geanmarbles.client.replies import whole_replies
-from geanmarbles.disk_tables import Disk
+from geanmarbles.disk_tables import Disk, DiskDict
 from geanmarbles.paths import ROOT, TESTS
 from geanmarbles.wordpress.addresses import Places
 from geanmarbles.wordpress.items import WholeSite, read_site
@@ -244,7 +245,7 @@ def check_given() -> None:
 
 def check_ampersands() -> None:
     """An & that WordPress didn't escape is one, also if the export is read for an archive."""
-    comments = read_site(HERE / "ampersands.xml", Disk()).comments[1]
+    comments = read_site(HERE / "ampersands.xml", DiskDict(Disk()), DiskDict(Disk())).comments[1]
     wanted = ["http://ada.example/?a=1&b=2&c=3&d=4&copy;"]
     must([it.address for it in comments] == wanted, f"the comments are {comments}")
 
@@ -370,7 +371,7 @@ def export_checks(program: Path) -> Iterator[tuple[Any, ...]]:
 
 PARTS: dict[str, Callable[[Path, Path], Iterator[tuple[Any, ...]]]] = {
     "exports": lambda program, _: export_checks(program),
-    "archives": lambda program, _: archive_checks.checks(program),
+    "archives": lambda program, _: chain(archive_checks.checks(program), second_runs.checks(program)),
     "editors": lambda program, _: editor_checks.checks(program),
     "wordpress": lambda _, wordpress: archive_checks.checks_beside(wordpress),
     "nginx": lambda program, _: archive_checks.checks_served(program),

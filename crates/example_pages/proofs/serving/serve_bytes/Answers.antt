@@ -16,6 +16,6 @@ returns-in_err-serve-clause-stopped g c =
     let fault = c.in_err-serve.field-0.0 in
     let p = err_from_is_err_and c.from_residual.result c.from_residual.ensures.1 in
     let from_nothing = subst (λ before. Stops steps old (Some c.new-reader.result.inner.now) left (Some before) after new fault) c.new.ensures.items
-    c.in_err-serve.ensures.stopped in
+    c.in_err-serve.ensures.served.stopped in
     let from_input = subst (λ given. Stops steps old given left (Some []) after new fault) c.new-reader.ensures.told from_nothing in
     rw (p.1, p.2) (_, _, from_input)
