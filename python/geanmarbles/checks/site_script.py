@@ -1,5 +1,6 @@
-"""What tests/scripts/run tries of ./site, ./build and tools/release-program: which program runs, what is said of it,
-and what is refused. They are tried in a small checkout made for it, where the program and the toolchain are scripts."""
+"""What tests/scripts/run tries of ./site, ./build and `geanmarbles dev release-program`: which program runs, what is
+said of it, and what is refused. They are tried in a small checkout made for it, where the program and the toolchain are
+scripts."""
 
 from __future__ import annotations
 
@@ -23,7 +24,7 @@ from geanmarbles.repository.sources import sum_of_sources
 SECONDS = 60
 # A checkout of three crates, of which the program has one below it.
 CRATES = "low:\nsite: low\naside: low\n"
-NEEDED = ["site", "build", "new-plugin", "tools/release-program", "tools/seconds.txt"]
+NEEDED = ["site", "build", "geanmarbles", "bench/gate/seconds.txt"]
 # The program: it says how it was called, and what it read.
 PROGRAM = '#!/bin/sh\necho "{name} $*"\ncat\n'
 # The command that proves and builds: it notes that it was called, and writes the program.
@@ -304,16 +305,16 @@ def quick_runs_the_sources() -> None:
 
 
 def releases_are_renewed() -> None:
-    """tools/release-program ships what was built and proved of the commit's sources, and nothing else"""
+    """`geanmarbles dev release-program` ships what was built and proved of the commit's sources, and nothing else"""
     with Checkout() as checkout:
-        script = checkout.root / "tools/release-program"
+        script, words = checkout.root / "geanmarbles", ("dev", "release-program")
 
         def git(*words: str) -> None:
             env = {**os.environ, **MAKER}
             subprocess.run(["git", *words], capture_output=True, cwd=checkout.root, env=env, check=True)
 
-        def refused(says: str, *words: str) -> None:
-            ran = checkout.ran(*words, script=script, toolchain=True)
+        def refused(says: str, *more: str) -> None:
+            ran = checkout.ran(*words, *more, script=script, toolchain=True)
             must((ran.returncode, ran.stdout) == (1, "") and says in ran.stderr, f"{ran}, wanted {says!r}")
 
         git("init", "-q")
@@ -323,8 +324,8 @@ def releases_are_renewed() -> None:
         git("add", "-A")
         git("commit", "-q", "-m", "all")
         refused("is shipped already")
-        checkout.ran(script=script, toolchain=True)
-        must("at most" not in checkout.ran("--check", script=script).stderr, "--check fails")
+        checkout.ran(*words, script=script, toolchain=True)
+        must("at most" not in checkout.ran(*words, "--check", script=script).stderr, "--check fails")
         checkout.change("low", "use b;\n", OLD)
         refused("no run of")
         checkout.ran(toolchain=True, script=checkout.root / "build")
