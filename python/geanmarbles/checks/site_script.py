@@ -15,7 +15,7 @@ import tempfile
 from pathlib import Path
 from typing import Any, Self
 
-from geanmarbles.checks.judging import must
+from geanmarbles.checks.judging import Skipped, must
 from geanmarbles.checks.programs import with_toolchain, without_toolchain
 from geanmarbles.paths import EXAMPLES, ROOT
 from geanmarbles.repository.crates import SOURCES, sum_of
@@ -353,7 +353,36 @@ def clones_print_pages() -> None:
             must(not ran.stderr or ran.stderr.startswith(b"site: the proved program of "), str(ran.stderr))
 
 
+def installs() -> None:
+    """`pip install .` without an index puts `geanmarbles` with the shipped program on the PATH of an environment"""
+    python = "/usr/bin/python3"
+    needed = subprocess.run([python, "-c", "import setuptools, pip, venv, wheel"], capture_output=True)
+    if needed.returncode:
+        raise Skipped(f"{python} has no pip, setuptools, wheel or venv")
+    with tempfile.TemporaryDirectory() as folder:
+        left = shutil.ignore_patterns("out", ".git", "crates", "docs", "tests", "__pycache__")
+        source = shutil.copytree(ROOT, Path(folder, "source"), ignore=left)
+        env = {"PATH": os.environ["PATH"], "XDG_CACHE_HOME": f"{folder}/cache", "HOME": folder}
+        how: dict[str, Any] = {"capture_output": True, "cwd": folder, "env": env, "timeout": 300}
+
+        def ran(*words: object, given: bytes = b"", status: int = 0) -> bytes:
+            it = subprocess.run([*map(str, words)], input=given, **how)
+            must(it.returncode == status, f"{words}: {it}")
+            return bytes(it.stdout)
+
+        ran(python, "-m", "venv", "--system-site-packages", "made")
+        ran("made/bin/pip", "install", "--no-index", "--no-build-isolation", source)
+        shutil.rmtree(source)
+        command, lines = Path(folder, "made/bin/geanmarbles"), (EXAMPLES / "rye.jsonl").read_bytes()
+        must(ran(command, "site", "--database", "s.db", given=lines) == (EXAMPLES / "rye.out").read_bytes(), "replies")
+        must(b"Rye" in ran(command, "post", "list", "s.db"), "the post isn't listed")
+        must(ran(command, "export", "s.db").count(b"\n") == 2, "the export has other lines")
+        must(ran(command, "check", "s.db").startswith(b"2 edits, "), "it has other edits")
+        ran(command, "new-plugin", "x", status=2)
+
+
 CHECKS = [
+    installs,
     shipped_program_runs,
     other_sources_are_told,
     version_is_told,
