@@ -1,6 +1,6 @@
 <?php
 /*
- * The pipe alone: it replies to each line with the bytes of FILE. So bench/wordpress/run knows what a request takes if
+ * The pipe alone: it replies to each line with the bytes of FILE. So geanmarbles dev bench wordpress knows what a request takes if
  * no page is made: the line's way here and the reply's way back.
  *
  *     php pipe.php FILE < COMMANDS

@@ -5,7 +5,7 @@
  *
  *     php site.php DIR [--page-cache] < COMMANDS
  *
- * It serves what bench/wordpress/run and tests/wordpress/run send: put, option, activate, deactivate, get of the front
+ * It serves what geanmarbles dev bench wordpress and tests/wordpress/run send: put, option, activate, deactivate, get of the front
  * page and of one post, `pass`, which times passes of a filter within this process, and `jit`, which asks whether PHP's
  * JIT is on. Posts and options are PHP arrays, and a page is the default template, printed by hand; the plugins below do
  * what those of crates/bundled_plugins of the same names do. WordPress itself does far more for a page than this: its

@@ -8,15 +8,21 @@ from typing import Any, NoReturn
 
 
 class Parser(argparse.ArgumentParser):
-    """A command line whose usage names the command as it was typed, and whose faults begin with its name alone."""
+    """A command line whose usage names the command as it was typed, whose help is a module's documentation, and whose
+    faults are one line, which begins with the command's name alone."""
 
-    def __init__(self, **how: Any) -> None:
-        super().__init__(prog=how.pop("prog", sys.argv[0]), **how)
+    def __init__(self, description: str | None = None, **how: Any) -> None:
+        how = {"prog": sys.argv[0], "formatter_class": argparse.RawDescriptionHelpFormatter, **how}
+        super().__init__(description=description, **how)
 
     def error(self, message: str) -> NoReturn:
-        self.print_usage(sys.stderr)
-        name = self.prog.replace(sys.argv[0], os.path.basename(sys.argv[0]), 1)
-        self.exit(2, f"{name}: error: {message}\n")
+        name = self.prog.replace(sys.argv[0], command_name(), 1)
+        self.exit(2, f"{name}: {message}; --help says more\n")
+
+
+def command_name() -> str:
+    """The command's name, with which what it says on standard error begins."""
+    return os.path.basename(sys.argv[0]).removeprefix("geanmarbles ")
 
 
 def count_in(first: int, last: int) -> Callable[[str], int]:

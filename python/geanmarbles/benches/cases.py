@@ -1,4 +1,5 @@
-"""The cases that bench/cases/run times: what each row asks the program for, and beside what it is measured."""
+"""The cases that `geanmarbles dev bench cases` times: what each row asks the program for, and beside what it is
+measured."""
 
 from __future__ import annotations
 

@@ -1,6 +1,6 @@
 """Measures a site on several machines: pages by nodes, edits by clients, delays between nodes, and starts.
 
-    bench/cluster/run [--smoke] [--edits N] [PROGRAM]
+    geanmarbles dev bench cluster [--smoke] [--edits N] [PROGRAM]
 
 Three members of etcd, the nodes and the clients are all on this machine, so they share its processors; beside each rate
 is what a page or an edit takes of a processor at the node, at its program and at etcd. The starts are over N edits,
@@ -278,9 +278,9 @@ def main() -> None:
     parser.add_argument("--edits", type=int, default=EDITS, metavar="N", help="edits of the history of a start")
     given = parser.parse_args()
     if not shutil.which("etcd"):
-        sys.exit("bench/cluster/run: there is no etcd here (Debian: etcd-server, etcd-client)")
+        sys.exit("geanmarbles dev bench cluster: there is no etcd here (Debian: etcd-server, etcd-client)")
     # So that a signal, too, has all that was started end.
-    signal.signal(signal.SIGTERM, lambda *_: sys.exit("bench/cluster/run: ended by a signal"))
+    signal.signal(signal.SIGTERM, lambda *_: sys.exit("geanmarbles dev bench cluster: ended by a signal"))
     bench, sizes = Bench(given), Sizes(given.smoke, given.edits)
     with Cluster(bench.program, count=max(sizes.nodes), options=NEVER) as cluster:
         show_pages(cluster, sizes)

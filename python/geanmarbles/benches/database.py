@@ -1,6 +1,6 @@
 """Times starts of sites in a file, and edits that are committed one by one and in a pipe.
 
-    bench/database/run [--smoke] [--million] [PROGRAM]
+    geanmarbles dev bench database [--smoke] [--million] [PROGRAM]
 
 The starts are over histories of no edit, 10,000 edits and, with --million, 1,000,000, of up to 1,000 posts; each is
 timed once more after --compact. Printed are the size of both files, what a start takes of a processor, and the

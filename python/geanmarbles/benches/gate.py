@@ -1,7 +1,7 @@
 """Says what the whole proof costs: seconds of a processor by crate, the longest chain, and the dearest functions.
 
-    bench/gate/run [--anew] LOG
-    bench/gate/run --build [FOLDER]
+    geanmarbles dev bench gate [--anew] LOG
+    geanmarbles dev bench gate --build [FOLDER]
 
 If there is no file LOG, it runs ./prove (or ./prove --anew), watches the processes of the prover that it starts, and
 writes what each took to LOG, a JSON object a line; else it reads LOG. A process is seen four times a second, so the
@@ -9,7 +9,7 @@ last moments of each are missing. The seconds of a fixed loop say how fast the m
 
 With --build it builds the program from nothing, by ./build in a new clone of the last commit, in a folder of its own or
 in FOLDER, which it leaves. It puts what that took into the table of builds in bench/gate/README.md, as its last column,
-and the processor seconds of each crate into tools/seconds.txt. The machine must have no work of another checkout.
+and the processor seconds of each crate into bench/gate/seconds.txt. The machine must have no work of another checkout.
 
 The ten dearest functions are those of which the prover makes most, in megabytes of what the last checks of each crate
 kept in out/incremental, since LOG has no times within a crate: one megabyte takes about a second.
@@ -172,7 +172,7 @@ def measure_build(folder: Path) -> None:
 
 
 def read_arguments() -> argparse.Namespace:
-    parser = Parser(description=__doc__, formatter_class=argparse.RawDescriptionHelpFormatter)
+    parser = Parser(__doc__)
     parser.add_argument("--anew", action="store_true", help="run ./prove --anew, which does everything again")
     parser.add_argument("--build", action="store_true", help="build the program from nothing, and note what it takes")
     parser.add_argument("log", metavar="LOG", type=Path, nargs="?", help="the file to write, or to read if it is there")

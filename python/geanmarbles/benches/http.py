@@ -1,6 +1,6 @@
-"""Times pages over HTTP: by examples/serve, by the servers in Python, and as a file by nginx.
+"""Times pages over HTTP: by `geanmarbles serve`, by the servers in Python, and as a file by nginx.
 
-    bench/http/run [--smoke] [PROGRAM]
+    geanmarbles dev bench http [--smoke] [PROGRAM]
 
 Clients ask for the front of the bakery, each for one page after another, over connections that stay if the server keeps
 them. Printed is, for 1, 16 and 256 connections, what a page takes of a processor at the server and at its program, and
@@ -156,10 +156,10 @@ def best(turns: Sequence[Figures]) -> Figures:
 
 def by_script(processes: Processes, name: str, program: str) -> Server:
     """An example's script that serves the bakery."""
-    words = [*command(f"examples/{name}"), "--program", program, "--port", "0", str(COMMANDS)]
+    words = [*command("geanmarbles"), name, "--program", program, "--port", "0", str(COMMANDS)]
     process = processes.start(name, words)
     port = int(process.first_line(READY).strip().rstrip("/").rpartition(":")[2])
-    return Server(f"examples/{name}", port, [process.child.pid], children_of(process.child.pid))
+    return Server(f"geanmarbles {name}", port, [process.child.pid], children_of(process.child.pid))
 
 
 def by_nginx(processes: Processes, page: bytes) -> Server:
@@ -179,7 +179,7 @@ def by_node(cluster: Cluster) -> Server:
     node.wait_until_ready()
     node.post_again(b"".join(it + b"\n" for it in lines if b'"cmd":"get"' not in it), "the bakery")
     pid = node.process.child.pid
-    return Server("cluster/node", node.port, [pid], children_of(pid))
+    return Server("geanmarbles node", node.port, [pid], children_of(pid))
 
 
 @contextlib.contextmanager

@@ -1,6 +1,6 @@
 """Counts the instructions that pages, passes and loads take, by valgrind's callgrind.
 
-    bench/instructions/run [--smoke] [--only WORD] [PROGRAM]
+    geanmarbles dev bench instructions [--smoke] [--only WORD] [PROGRAM]
 
 A row for each pass, load, edit and page; with --only for those whose names have WORD. What one request takes is the
 difference between a run with many of them and one with a single one, so what is made once isn't counted, nor are the

@@ -1,6 +1,6 @@
 """Times cases of lines, pages, imports and texts, one by one or all of them.
 
-    bench/cases/run [--smoke] [--only NAME ..] [PROGRAM]
+    geanmarbles dev bench cases [--smoke] [--only NAME ..] [PROGRAM]
 
 The cases are those of cases.py: serve, tables, queries, import, scan, hooks, turns, hostile; bench/cases/README.md says
 what each has. Of each row it prints what it takes of a processor, of which it may consist of so many parts and take so

@@ -1,13 +1,13 @@
 """Times the program beside WordPress's own functions, doing the same work on the same machine in the same run.
 
-    bench/wordpress/run [--wordpress DIR] [--smoke] [PROGRAM]
+    geanmarbles dev bench wordpress [--wordpress DIR] [--smoke] [PROGRAM]
 
 DIR is the folder with WordPress's wp-includes; if it is left out, /usr/share/wordpress. PHP's command `php` with its
 opcache and a WordPress are needed, of Debian for instance the packages `php-cli`, `php-opcache` and `wordpress`. This
 script installs nothing:
 
     apt-get install php-cli php-opcache; apt-get download wordpress; dpkg -x wordpress_*.deb FOLDER
-    bench/wordpress/run --wordpress FOLDER/usr/share/wordpress
+    geanmarbles dev bench wordpress --wordpress FOLDER/usr/share/wordpress
 
 All are asked by the same lines of JSON over a pipe, in turn: the program; PHP without its opcode cache, with opcache
 and its tracing JIT, and with a page cache; and a loop that makes no page, so that the pipe's share is known. Pages are

@@ -1,4 +1,4 @@
-"""Runs each script of bench/ at its smallest sizes, so that none goes stale.
+"""Runs each command of `geanmarbles dev bench` at its smallest sizes, so that none goes stale.
 
     tests/bench/run [--needs NAME] [--wordpress DIR] [PROGRAM]
 
@@ -20,7 +20,8 @@ from pathlib import Path
 
 from geanmarbles.checks.judging import Counts, must
 from geanmarbles.checks.programs import missing, parser_of
-from geanmarbles.paths import BUILT_PASSES, ROOT
+from geanmarbles.command_line import COMMANDS
+from geanmarbles.paths import BUILT_PASSES, GEANMARBLES
 
 WORDPRESS = Path("/usr/share/wordpress")
 # Ends with 0 if PHP has its opcache.
@@ -54,8 +55,8 @@ def lacking(name: str, wordpress: Path) -> str | None:
 
 def runs(wordpress: Path) -> Iterator[tuple[str, list[str]]]:
     """The name of each script but gate's, with the words that run it."""
-    for script in sorted((ROOT / "bench").glob("*/run")):
-        name, words = script.parent.name, [str(script), "--smoke"]
+    for name in [it.removeprefix("dev bench ") for it in COMMANDS if it.startswith("dev bench ")]:
+        words = [GEANMARBLES, "dev", "bench", name, "--smoke"]
         if name != "gate":
             yield name, [*words, *(["--wordpress", str(wordpress)] if name == "wordpress" else [])]
         if name == "cases":

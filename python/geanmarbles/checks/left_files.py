@@ -39,7 +39,7 @@ from geanmarbles.checks.cluster.processes import Processes, free_port, wait_for
 from geanmarbles.checks.judging import Counts, Skipped, must
 from geanmarbles.checks.programs import executable, missing, parser_of
 from geanmarbles.client.program import Program, pipe
-from geanmarbles.paths import EXAMPLES, ROOT, TESTS, command
+from geanmarbles.paths import GEANMARBLES, ROOT, TESTS, command
 from geanmarbles.supervisor.kept import log_of
 
 SECONDS = 120
@@ -90,7 +90,7 @@ class Room:
 
     def run(self, script: str, *words: str | Path) -> None:
         """Runs a script of examples/ to its end."""
-        given: list[str | Path] = [EXAMPLES / script, "--program", self.program, *words]
+        given: list[str | Path] = [GEANMARBLES, *script.split(), "--program", self.program, *words]
         ran = subprocess.run(given, capture_output=True, text=True, timeout=SECONDS)
         must(ran.returncode == 0, f"{script} ended with status {ran.returncode}: {ran.stderr[-300:]}")
 
@@ -138,7 +138,7 @@ def is_hidden(program: str) -> None:
 
 def posted(program: str, *words: str) -> None:
     with Room(program) as room:
-        room.run("post", room.site, *words, room.file(POST))
+        room.run(f"post {words[0]}", room.site, *words[1:], room.file(POST))
         is_whole(room, room.site, EDITS + 1)
 
 
@@ -163,7 +163,7 @@ def undone_in_place(program: str) -> None:
             must(wanted.startswith(f"{count} edits, "), f"the new file has {wanted}")
             os.replace(room.new, room.site)
             must(room.summary(room.site) == wanted, f"after the move there are {room.summary(room.site)}")
-        room.run("post", room.site, "new", room.file(POST))
+        room.run("post new", room.site, room.file(POST))
         must(room.summary(room.site).startswith(f"{EDITS - 1} edits, "), "the next edit isn't there")
 
 
@@ -176,7 +176,7 @@ def saved(program: str) -> None:
 def stopped(program: str, script: str) -> None:
     """SIGTERM in the middle ends it with a reason, and leaves no file."""
     with Room(program, [put_line(it) for it in range(MANY)]) as room:
-        words: list[str | Path] = [EXAMPLES / script, "--program", program, room.site, room.new]
+        words: list[str | Path] = [GEANMARBLES, script, "--program", program, room.site, room.new]
         with subprocess.Popen(words, stdout=subprocess.DEVNULL, stderr=subprocess.PIPE) as running:
             wait_for(room.new.exists, SECONDS, "the new file is there", 0.001)
             running.terminate()
@@ -188,7 +188,7 @@ def stopped(program: str, script: str) -> None:
 
 
 def published(program: str) -> None:
-    ran = subprocess.run([EXAMPLES / "from_wordpress", EXPORT], capture_output=True, timeout=SECONDS)
+    ran = subprocess.run([GEANMARBLES, "import", "wordpress", EXPORT], capture_output=True, timeout=SECONDS)
     lines = ran.stdout.splitlines()
     with Room(program, lines) as room:
         room.run("publish", EXPORT, room.site, room.folder / "archive")
@@ -217,7 +217,7 @@ class Served:
 
     def __init__(self, room: Room, script: str, *words: str) -> None:
         self.room, self.acknowledged = room, 0
-        given: list[str | Path] = [EXAMPLES / script, "--program", room.program, "--port", "0"]
+        given: list[str | Path] = [GEANMARBLES, script, "--program", room.program, "--port", "0"]
         given += ["--database", room.site, "--token-file", room.token, *words]
         how: dict[str, Any] = {"stdout": subprocess.PIPE, "preexec_fn": take_interrupts}
         with open(room.folder / "said", "wb") as said:
@@ -289,7 +289,7 @@ def served_from_a_file(program: str, script: str) -> None:
 def edited_by_lines(program: str) -> None:
     """Lines of standard input are edits of `browse --edits`."""
     with Room(program) as room:
-        given: list[str | Path] = [EXAMPLES / "browse", "--program", program, "--port", "0", "--edits"]
+        given: list[str | Path] = [GEANMARBLES, "browse", "--program", program, "--port", "0", "--edits"]
         how: dict[str, Any] = {"stdin": subprocess.PIPE, "stdout": subprocess.PIPE, "stderr": subprocess.DEVNULL}
         running: subprocess.Popen[bytes] = subprocess.Popen([*given, "--database", room.site], bufsize=0, **how)
         with running:
@@ -313,7 +313,7 @@ def ends_with_all(program: str) -> None:
     if not shutil.which("etcd"):
         raise Skipped("there is no etcd (Debian: etcd-server)")
     with tempfile.TemporaryDirectory() as folder, Processes(folder) as processes:
-        words = [*command("examples/cluster/three"), "--program", program, "--port", str(free_port())]
+        words = [*command("geanmarbles"), "cluster", "three", "--program", program, "--port", str(free_port())]
         running = processes.start("three", words)
         must(running.first_line(SECONDS).startswith("pages: "), f"it said {running.said()!r}")
         running.send(signal.SIGTERM)
@@ -326,7 +326,7 @@ def wrong_paths_are_told(program: str) -> None:
     with tempfile.TemporaryDirectory() as folder:
         typo, commands = Path(folder, "typo.db"), Path(folder, "more.jsonl")
         commands.write_bytes(put_line(0) + b"\n")
-        words: list[str | Path] = [EXAMPLES / "serve", "--program", program, "--port", "0", "--database", typo]
+        words: list[str | Path] = [GEANMARBLES, "serve", "--program", program, "--port", "0", "--database", typo]
         given: tuple[list[Path], ...] = ([], [commands])
         for more in given:
             ran = subprocess.run([*words, *more], capture_output=True, text=True, timeout=SECONDS)
@@ -341,7 +341,7 @@ def wrong_paths_are_told(program: str) -> None:
                 connection.close()
                 running.terminate()
                 must(running.wait(SECONDS) == 0 and wanted in came, f"the front of a new site is {came!r}")
-        ran = subprocess.run([EXAMPLES / "serve", "--new"], capture_output=True, text=True, timeout=SECONDS)
+        ran = subprocess.run([GEANMARBLES, "serve", "--new"], capture_output=True, text=True, timeout=SECONDS)
         must((ran.returncode, ran.stdout) == (2, ""), "--new without a file")
 
 

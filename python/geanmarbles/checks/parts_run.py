@@ -217,7 +217,7 @@ def allowed(text: str) -> tuple[str, str]:
 
 
 def read_arguments() -> argparse.Namespace:
-    parser = Parser(description=__doc__, formatter_class=argparse.RawDescriptionHelpFormatter)
+    parser = Parser(__doc__)
     parser.add_argument("parts", metavar="PART", nargs="*", help="the parts whose commands have this, of all")
     parser.add_argument("--program", metavar="PATH", type=Path, help="another program")
     may = "in CI, what may be skipped and why"

@@ -1,6 +1,5 @@
 """What the scripts of this folder know of programs: which one they run, and how C is loaded into it."""
 
-import argparse
 import os
 import shutil
 import subprocess
@@ -21,7 +20,7 @@ def missing(program: str | Path) -> str | None:
 
 def parser_of(doc: str | None) -> Parser:
     """The command line of a script that runs over a program, whose help is the script's own documentation."""
-    parser = Parser(description=doc, formatter_class=argparse.RawDescriptionHelpFormatter)
+    parser = Parser(doc)
     how: dict[str, Any] = {"nargs": "?", "type": os.path.abspath, "default": str(shipped.program())}
     parser.add_argument("program", metavar="PROGRAM", help="the built program, `site`", **how)
     return parser

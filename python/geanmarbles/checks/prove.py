@@ -222,7 +222,7 @@ def prove_crates(names: Sequence[str]) -> int:
 
 
 def read_arguments() -> argparse.Namespace:
-    parser = Parser(description=__doc__, formatter_class=argparse.RawDescriptionHelpFormatter)
+    parser = Parser(__doc__)
     parser.add_argument("--anew", action="store_true", help="prove and try again what earlier runs on this machine did")
     parser.add_argument("--may-skip", metavar="NAME=REASON", action="append", default=[], help="as ./test takes it")
     parser.add_argument("crates", metavar="CRATE", nargs="*", help="the crates to prove; all of it if none is named")

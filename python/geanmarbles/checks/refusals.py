@@ -1,4 +1,4 @@
-"""Compares what examples/refusals says of lines with the program's own replies.
+"""Compares what `geanmarbles refusals` says of lines with the program's own replies.
 
     tests/refusals/run [--lists N] [PROGRAM]
 
@@ -36,7 +36,7 @@ from geanmarbles.checks.fuzz.values import command_of
 from geanmarbles.checks.programs import lanes, missing, parser_of
 from geanmarbles.checks.warm import Warm
 from geanmarbles.client.replies import REFUSALS, Wrong, refusal_of, shown, whole_replies
-from geanmarbles.paths import EXAMPLES, TESTS
+from geanmarbles.paths import EXAMPLES, GEANMARBLES, TESTS
 
 HERE = TESTS / "refusals"
 SECONDS = 120
@@ -68,10 +68,10 @@ def said_of(
     with tempfile.NamedTemporaryFile(suffix=".jsonl") as file:
         file.write(joined(lines))
         file.flush()
-        words = [EXAMPLES / "refusals", *options, file.name, *["-"] * (output is not None)]
+        words = [GEANMARBLES, "refusals", *options, file.name, *["-"] * (output is not None)]
         ran = warm.run([*map(str, words)], output or b"", SECONDS) if warm else run(words, output or b"")
     if ran.returncode:
-        raise Wrong(f"examples/refusals ended with status {ran.returncode}: {shown(ran.stdout + ran.stderr, 600)}")
+        raise Wrong(f"geanmarbles refusals ended with status {ran.returncode}: {shown(ran.stdout + ran.stderr, 600)}")
     return ran.stdout.decode().splitlines()
 
 
@@ -197,7 +197,7 @@ def check_bad(program: str) -> None:
         replies_of(program, [b"{}"], "--database", str(site))
         bad: list[list[object]] = [["--after", site, "-"], ["--after", "-", "-"], ["--after", "-", site, "-"]]
         for words in bad:
-            ran = run([EXAMPLES / "refusals", *words])
+            ran = run([GEANMARBLES, "refusals", *words])
             if ran.returncode != 1 or ran.stdout or not ran.stderr.startswith(b"refusals: "):
                 raise Wrong(f"with {words} it ended with status {ran.returncode} and {shown(ran.stdout + ran.stderr)}")
 

@@ -8,7 +8,6 @@ passed, M failed', with ', K skipped' after it if a check was skipped.
 
 from __future__ import annotations
 
-import argparse
 import os
 import shutil
 import subprocess
@@ -71,7 +70,7 @@ def run_by_itself(modules: Iterable[str], only: Sequence[str]) -> int:
 
 def main_of(doc: str | None, modules: Sequence[str]) -> int:
     """The `main` of a command that runs the checks of some modules."""
-    parser = Parser(description=doc, formatter_class=argparse.RawDescriptionHelpFormatter)
+    parser = Parser(doc)
     parser.add_argument("only", metavar="NAME", nargs="*", help="run the checks whose names have this, of all")
     parser.add_argument("--plain", action="store_true", help="run them without pytest, also if it is installed")
     asked = parser.parse_args()

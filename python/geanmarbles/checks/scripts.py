@@ -1,15 +1,15 @@
-"""Tries the scripts that begin something: what ./site runs, what ./build builds, what ./new-plugin makes, that the
-tutorial shows the examples as they are, what tools/release-program ships and refuses, that scripts end quietly once
-nobody reads their output, and that each script of the repository knows --help and refuses an argument that it doesn't
-know, before it does anything.
+"""Tries the scripts that begin something: what ./site runs, what ./build builds, what `geanmarbles new-plugin` makes,
+that the tutorial shows the examples as they are, what `geanmarbles dev release-program` ships and refuses, that scripts
+end quietly once nobody reads their output, and that each script of the repository knows --help and refuses an argument
+that it doesn't know, before it does anything.
 
     tests/scripts/run [--plain] [NAME ..]
 
 With names, it makes the checks whose names have one of these. Nothing is built or proved. ./site and ./build are tried
-in a small checkout made for it, where the program and the toolchain's command are scripts, and ./new-plugin in a copy
-of the crates that it reads. The checks are run by pytest if it is installed, and by a loop if it isn't, or with
---plain. The last line is 'N passed, M failed', with ', K skipped' after it if a check was skipped, over the checks,
-each of which is a function below or in site_script.py. The exit status is 0 if nothing failed.
+in a small checkout made for it, where the program and the toolchain's command are scripts, and `geanmarbles new-plugin`
+in a copy of the crates that it reads. The checks are run by pytest if it is installed, and by a loop if it isn't, or
+with --plain. The last line is 'N passed, M failed', with ', K skipped' after it if a check was skipped, over the
+checks, each of which is a function below or in site_script.py. The exit status is 0 if nothing failed.
 """
 
 from __future__ import annotations
@@ -30,7 +30,8 @@ from geanmarbles.checks.cluster.processes import wait_for
 from geanmarbles.checks.judging import Skipped, must
 from geanmarbles.checks.runner import main_of
 from geanmarbles.checks.site_script import Checkout
-from geanmarbles.paths import ROOT
+from geanmarbles.command_line import COMMANDS
+from geanmarbles.paths import GEANMARBLES, ROOT
 from geanmarbles.repository.new_plugin import TEMPLATE
 from geanmarbles.repository.unproved import run_telling
 
@@ -47,24 +48,23 @@ def usage_is_as_typed() -> None:
     """a script's usage names it as it was typed: by a path, by a link, and as it is found on the PATH"""
     with tempfile.TemporaryDirectory() as folder:
         link = Path(folder, "link")
-        link.symlink_to(ROOT / "examples" / "explain")
-        env = {**os.environ, "PATH": f"{ROOT / 'examples'}:{os.environ['PATH']}"}
-        found = ROOT / "examples" / "explain"
+        link.symlink_to(GEANMARBLES)
+        env = {**os.environ, "PATH": f"{ROOT}:{os.environ['PATH']}"}
         for typed, shown, cwd in (
-            ("examples/explain", "examples/explain", ROOT),
-            ("./explain", "./explain", found.parent),
+            ("./geanmarbles", "./geanmarbles", ROOT),
+            ("../geanmarbles", "../geanmarbles", ROOT / "docs"),
             (link, link, "/"),
-            ("explain", found, "/"),
+            ("geanmarbles", GEANMARBLES, "/"),
             ("./link", "./link", folder),
         ):
             how: dict[str, Any] = {"capture_output": True, "text": True, "timeout": SECONDS, "env": env, "cwd": cwd}
-            ran = subprocess.run(["sh", "-c", f"exec '{typed}' --help"], **how)
-            must(ran.returncode == 0 and ran.stdout.startswith(f"usage: {shown} "), f"{typed}: {ran}")
+            ran = subprocess.run(["sh", "-c", f"exec '{typed}' explain --help"], **how)
+            must(ran.returncode == 0 and ran.stdout.startswith(f"usage: {shown} explain "), f"{typed}: {ran}")
 
 
 def scripts_become_python() -> None:
     """a script's process is Python's own, so signals reach it, its status is Python's, and it leaves no file behind"""
-    words = ["examples/explain", "--hook", "x"]
+    words = [GEANMARBLES, "explain", "--hook", "x"]
     with subprocess.Popen(words, cwd=ROOT, stdin=subprocess.PIPE, stderr=subprocess.PIPE) as child:
         try:
             wait_for(lambda: "python" in os.readlink(f"/proc/{child.pid}/exe"), SECONDS, "it becomes Python")
@@ -91,7 +91,7 @@ def says_that_it_works() -> None:
 
 
 class Plugins(Checkout):
-    """A checkout with the crates that ./new-plugin reads."""
+    """A checkout with the crates that `geanmarbles new-plugin` reads."""
 
     def __enter__(self) -> Self:
         super().__enter__()
@@ -103,7 +103,7 @@ class Plugins(Checkout):
 
     def new(self, *words: str) -> tuple[int, str, str]:
         how: dict[str, Any] = {"capture_output": True, "text": True, "env": self.env, "timeout": SECONDS}
-        ran = subprocess.run([self.root / "new-plugin", *words], **how)
+        ran = subprocess.run([self.root / "geanmarbles", "new-plugin", *words], **how)
         return ran.returncode, ran.stdout, ran.stderr
 
     def text_of(self, crate: str) -> str:
@@ -113,7 +113,7 @@ class Plugins(Checkout):
 
 
 def plugins_are_made() -> None:
-    """./new-plugin makes both crates from each example, and --remove leaves things as they were"""
+    """`geanmarbles new-plugin` makes both crates from each example, and --remove leaves things as they were"""
     more = " shortcode_atts page_escapes"
     for example, libraries, edits in (("exclaim", "", 3), ("notices", more, 3), ("gallery", more, 5)):
         with Plugins() as checkout:
@@ -139,7 +139,8 @@ def plugins_are_made() -> None:
 
 
 def bad_names_are_refused() -> None:
-    """./new-plugin refuses words of Rust and of the definitions' language, names that are taken, and bad arguments"""
+    """`geanmarbles new-plugin` refuses words of Rust and of the definitions' language, names that are taken, and bad
+    arguments"""
     names = "loop while else enum true const trait where super in main test record data unfoldable"
     names += " Shout 1st a-b example_exclaim title"
     with Plugins() as checkout:
@@ -201,17 +202,15 @@ def ends_without_a_reader() -> None:
         export = ROOT / "tests/from_wordpress/wordpress.xml"
         scripts: list[list[object]] = [
             ["./site", "--help"],
-            ["tools/index", "--print"],
-            ["examples/post", site, "list"],
-            ["examples/from_wordpress", export],
-            ["examples/refusals", bad],
+            ["./geanmarbles", "dev", "index"],
+            ["./geanmarbles", "post", "list", site],
+            ["./geanmarbles", "import", "wordpress", export],
+            ["./geanmarbles", "refusals", bad],
         ]
-        python = [it for it in executables() if "../python" in (ROOT / it).read_text("utf-8", "replace")]
-        must(len(python) > 40, f"only {len(python)} scripts are Python's")
-        scripts += [[it, "--help"] for it in python]
+        scripts += [["./" + name, *verbs, "--help"] for name, *verbs in commands()]
         for words in scripts:
             status, said = printed_to_nobody(*words)
-            # What examples/from_wordpress reports is written before its commands.
+            # What `import wordpress` reports is written before its commands.
             faults = [it for it in said.splitlines() if "rror" in it or "Traceback" in it]
             # argparse drops the fault of a write that isn't buffered.
             ends = {0, 1} if "--help" in words[1:] and words[0] != "./site" else {1}
@@ -225,17 +224,23 @@ def executables() -> list[str]:
     return sorted(it for it in set(listed) if it and os.access(ROOT / it, os.X_OK) and (ROOT / it).is_file())
 
 
+def commands() -> list[list[str]]:
+    """The words that run each script of the repository, and each command of `geanmarbles`."""
+    scripts = [[it] for it in executables() if it not in WITHOUT_HELP]
+    return scripts + [["geanmarbles", *it.split()] for it in COMMANDS if it != "site"]
+
+
 def scripts_know_help() -> None:
     """each script answers --help with what it is for, and refuses an unknown option, both at once"""
-    for name in executables():
-        if name in WITHOUT_HELP:
-            continue
-        for words, status in ((["--help"], 0), (["--no-such-option"], 2)):
-            ran = subprocess.run([ROOT / name, *words], capture_output=True, text=True, timeout=SECONDS, cwd="/")
+    for name, *verbs in commands():
+        for option, status in (("--help", 0), ("--no-such-option", 2)):
+            words = [str(ROOT / name), *verbs, option]
+            ran = subprocess.run(words, capture_output=True, text=True, timeout=SECONDS, cwd="/")
             said = ran.stdout if status == 0 else ran.stderr
-            must(ran.returncode == status and said, f"{name} {words[0]}: status {ran.returncode}, {ran.stderr[-300:]}")
-            must(status or name.rsplit("/", 1)[-1] in said, f"{name} --help says nothing of it: {said[:200]}")
-            must(not status or not ran.stdout, f"{name} {words[0]} begins with {ran.stdout[:200]!r}")
+            must(ran.returncode == status and said, f"{words}: status {ran.returncode}, {ran.stderr[-300:]}")
+            must(status or " ".join([Path(name).name, *verbs]) in said, f"{words} says nothing of it: {said[:200]}")
+            must(not status or not ran.stdout, f"{words} begins with {ran.stdout[:200]!r}")
+            must(not verbs or not status or said.count("\n") == 1, f"{words} says more than a line: {said}")
 
 
 def package_is_sound() -> None:

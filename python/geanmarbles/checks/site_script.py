@@ -1,5 +1,6 @@
-"""What tests/scripts/run tries of ./site, ./build and tools/release-program: which program runs, what is said of it,
-and what is refused. They are tried in a small checkout made for it, where the program and the toolchain are scripts."""
+"""What tests/scripts/run tries of ./site, ./build and `geanmarbles dev release-program`: which program runs, what is
+said of it, and what is refused. They are tried in a small checkout made for it, where the program and the toolchain are
+scripts."""
 
 from __future__ import annotations
 
@@ -14,7 +15,7 @@ import tempfile
 from pathlib import Path
 from typing import Any, Self
 
-from geanmarbles.checks.judging import must
+from geanmarbles.checks.judging import Skipped, must
 from geanmarbles.checks.programs import with_toolchain, without_toolchain
 from geanmarbles.paths import EXAMPLES, ROOT
 from geanmarbles.repository.crates import SOURCES, sum_of
@@ -23,7 +24,7 @@ from geanmarbles.repository.sources import sum_of_sources
 SECONDS = 60
 # A checkout of three crates, of which the program has one below it.
 CRATES = "low:\nsite: low\naside: low\n"
-NEEDED = ["site", "build", "new-plugin", "tools/release-program", "tools/seconds.txt"]
+NEEDED = ["site", "build", "geanmarbles", "bench/gate/seconds.txt"]
 # The program: it says how it was called, and what it read.
 PROGRAM = '#!/bin/sh\necho "{name} $*"\ncat\n'
 # The command that proves and builds: it notes that it was called, and writes the program.
@@ -304,16 +305,16 @@ def quick_runs_the_sources() -> None:
 
 
 def releases_are_renewed() -> None:
-    """tools/release-program ships what was built and proved of the commit's sources, and nothing else"""
+    """`geanmarbles dev release-program` ships what was built and proved of the commit's sources, and nothing else"""
     with Checkout() as checkout:
-        script = checkout.root / "tools/release-program"
+        script, words = checkout.root / "geanmarbles", ("dev", "release-program")
 
         def git(*words: str) -> None:
             env = {**os.environ, **MAKER}
             subprocess.run(["git", *words], capture_output=True, cwd=checkout.root, env=env, check=True)
 
-        def refused(says: str, *words: str) -> None:
-            ran = checkout.ran(*words, script=script, toolchain=True)
+        def refused(says: str, *more: str) -> None:
+            ran = checkout.ran(*words, *more, script=script, toolchain=True)
             must((ran.returncode, ran.stdout) == (1, "") and says in ran.stderr, f"{ran}, wanted {says!r}")
 
         git("init", "-q")
@@ -323,8 +324,8 @@ def releases_are_renewed() -> None:
         git("add", "-A")
         git("commit", "-q", "-m", "all")
         refused("is shipped already")
-        checkout.ran(script=script, toolchain=True)
-        must("at most" not in checkout.ran("--check", script=script).stderr, "--check fails")
+        checkout.ran(*words, script=script, toolchain=True)
+        must("at most" not in checkout.ran(*words, "--check", script=script).stderr, "--check fails")
         checkout.change("low", "use b;\n", OLD)
         refused("no run of")
         checkout.ran(toolchain=True, script=checkout.root / "build")
@@ -352,7 +353,36 @@ def clones_print_pages() -> None:
             must(not ran.stderr or ran.stderr.startswith(b"site: the proved program of "), str(ran.stderr))
 
 
+def installs() -> None:
+    """`pip install .` without an index puts `geanmarbles` with the shipped program on the PATH of an environment"""
+    python = "/usr/bin/python3"
+    needed = subprocess.run([python, "-c", "import setuptools, pip, venv, wheel"], capture_output=True)
+    if needed.returncode:
+        raise Skipped(f"{python} has no pip, setuptools, wheel or venv")
+    with tempfile.TemporaryDirectory() as folder:
+        left = shutil.ignore_patterns("out", ".git", "crates", "docs", "tests", "__pycache__")
+        source = shutil.copytree(ROOT, Path(folder, "source"), ignore=left)
+        env = {"PATH": os.environ["PATH"], "XDG_CACHE_HOME": f"{folder}/cache", "HOME": folder}
+        how: dict[str, Any] = {"capture_output": True, "cwd": folder, "env": env, "timeout": 300}
+
+        def ran(*words: object, given: bytes = b"", status: int = 0) -> bytes:
+            it = subprocess.run([*map(str, words)], input=given, **how)
+            must(it.returncode == status, f"{words}: {it}")
+            return bytes(it.stdout)
+
+        ran(python, "-m", "venv", "--system-site-packages", "made")
+        ran("made/bin/pip", "install", "--no-index", "--no-build-isolation", source)
+        shutil.rmtree(source)
+        command, lines = Path(folder, "made/bin/geanmarbles"), (EXAMPLES / "rye.jsonl").read_bytes()
+        must(ran(command, "site", "--database", "s.db", given=lines) == (EXAMPLES / "rye.out").read_bytes(), "replies")
+        must(b"Rye" in ran(command, "post", "list", "s.db"), "the post isn't listed")
+        must(ran(command, "export", "s.db").count(b"\n") == 2, "the export has other lines")
+        must(ran(command, "check", "s.db").startswith(b"2 edits, "), "it has other edits")
+        ran(command, "new-plugin", "x", status=2)
+
+
 CHECKS = [
+    installs,
     shipped_program_runs,
     other_sources_are_told,
     version_is_told,

@@ -9,8 +9,8 @@ PROGRAM is the one that is here, built or shipped, if it is left out. It shows t
   file;
 - random templates, with random values and contents, are printed as a model of docs/SNIPPETS.md does that shares no code
   with the program (N of them, 2,000 if it isn't said);
-- three nodes over three etcd (examples/cluster/three) show the same snippets; skipped, and said so, without etcd;
-- examples/snippets finds what is wrong with some templates, and nothing in those of docs/SNIPPETS.md.
+- three nodes over three etcd (`geanmarbles cluster three`) show the same snippets; skipped, and said so, without etcd;
+- `geanmarbles snippet check` finds what is wrong with some templates, and nothing in those of docs/SNIPPETS.md.
 
 The last line is 'N passed, M failed', over these. The exit status is 0 if nothing failed, 2 if the arguments are bad.
 """
@@ -37,7 +37,7 @@ from geanmarbles.checks.cluster.processes import free_port
 from geanmarbles.checks.judging import Counts, Skipped, must
 from geanmarbles.checks.programs import missing, parser_of
 from geanmarbles.client.snippets import Place, faults, options_in, parts, place_after
-from geanmarbles.paths import EXAMPLES
+from geanmarbles.paths import GEANMARBLES
 
 # A line of a command file, and a check, which is given the arguments.
 Line = dict[str, Any]
@@ -229,7 +229,7 @@ def shows_on_nodes(options: argparse.Namespace) -> None:
     with tempfile.TemporaryDirectory() as folder:
         commands, port = Path(folder, "commands.jsonl"), free_port()
         commands.write_text(joined([*SNIPPETS, POST]), encoding="utf-8")
-        words = [str(EXAMPLES / "cluster/three"), "--program", options.program, "--snippets"]
+        words = [GEANMARBLES, "cluster", "three", "--program", options.program, "--snippets"]
         words += ["--port", str(port), str(commands)]
         with open(Path(folder, "said"), "w+", encoding="utf-8") as said:
             nodes = subprocess.Popen(words, stdout=said, stderr=said, preexec_fn=take_interrupts)
@@ -247,7 +247,7 @@ def shows_on_nodes(options: argparse.Namespace) -> None:
 
 
 def finds_mistakes(_options: argparse.Namespace) -> None:
-    """examples/snippets finds what is wrong, and nothing in the templates of the documents"""
+    """`geanmarbles snippet check` finds what is wrong, and nothing in the templates of the documents"""
     fine = joined(SNIPPETS).splitlines()
     must(not list(faults(options_in(fine))), f"of fine templates it says {list(faults(options_in(fine)))}")
     wrong = {
@@ -274,12 +274,14 @@ def finds_mistakes(_options: argparse.Namespace) -> None:
     for word in ("x", "a:05", "a:100", "[a]b", ":1"):
         said = list(faults({"snippets": word}))
         must(len(said) == 1, f"of the word {word!r} it says {said}")
-    script = EXAMPLES / "snippets"
     with tempfile.NamedTemporaryFile("w", suffix=".jsonl") as file:
         file.write(joined([{"cmd": "option", "name": "[t]", "value": "<!--{{a}}-->"}]))
         file.flush()
-        must(len(run(script, "", file.name, status=1).splitlines()) == 2, "the script says something else of a file")
-    must(run(script, joined(SNIPPETS)) == "", "the script says something of fine templates")
+        must(
+            len(run(GEANMARBLES, "", "snippet", "check", file.name, status=1).splitlines()) == 2,
+            "the script says something else of a file",
+        )
+    must(run(GEANMARBLES, joined(SNIPPETS), "snippet", "check") == "", "the script says something of fine templates")
 
 
 CHECKS: tuple[Check, ...] = (lasts, moves, shows_on_nodes, prints_as_modelled, finds_mistakes)

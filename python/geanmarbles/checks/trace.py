@@ -15,8 +15,9 @@ says. Here are
   no page is refused for the log. In some runs the log alone has lost lines, and it never has others. A page that is
   refused since memory ran out is told as such;
 - pages of as many invocations as `--calls` can allow, each of which is told, and the end;
-- examples/explain and examples/step: what they print for the logs of tests/rows/trace.json, and for a session;
-- examples/explain --notes: what it prints for the log of notes.jsonl, and over random contents that it names no
+- `geanmarbles explain` and `geanmarbles step`: what they print for the logs of tests/rows/trace.json, and for a
+  session;
+- `geanmarbles explain` --notes: what it prints for the log of notes.jsonl, and over random contents that it names no
   shortcode of an active plugin, each other one that stays, and no text as unchanged that isn't.
 
 The last line is 'N passed, M failed'. The exit status is 0 if nothing failed.
@@ -46,7 +47,7 @@ from geanmarbles.checks.judging import Counts, Skipped
 from geanmarbles.checks.programs import compiled, lanes, missing
 from geanmarbles.client.log import Told
 from geanmarbles.client.replies import REFUSALS, Wrong, refusal_of, shown, whole_replies
-from geanmarbles.paths import EXAMPLES, TESTS
+from geanmarbles.paths import EXAMPLES, GEANMARBLES, TESTS
 
 Cases = Iterator[tuple[str, Callable[[], object]]]
 
@@ -299,7 +300,7 @@ def is_shorter(line: bytes, whole: Iterable[bytes]) -> bool:
 
 def check_script(words: Sequence[str], given: bytes, wanted: bytes) -> None:
     """A script prints what a file says."""
-    run = subprocess.run([str(EXAMPLES / words[0]), *words[1:]], input=given, capture_output=True, timeout=SECONDS)
+    run = subprocess.run([GEANMARBLES, *words], input=given, capture_output=True, timeout=SECONDS)
     if run.returncode or run.stdout != wanted:
         ended = f"it ended with status {run.returncode} and {shown(run.stderr)}"
         raise Wrong(f"{ended}, and wrote {shown(run.stdout, 2_000)}")
@@ -314,7 +315,7 @@ def row_logs() -> bytes:
 
 def check_html(log: bytes) -> None:
     """The page for a browser has each line of the trees once, escaped, and as many elements closed as opened."""
-    plain = subprocess.run([str(EXAMPLES / "explain"), "--whole"], input=log, capture_output=True, timeout=SECONDS)
+    plain = subprocess.run([GEANMARBLES, "explain", "--whole"], input=log, capture_output=True, timeout=SECONDS)
     with tempfile.TemporaryDirectory() as name:
         check_script(["explain", "--whole", "--html", f"{name}/page.html"], log, b"")
         page = Path(name, "page.html").read_text(encoding="utf-8")
@@ -343,8 +344,8 @@ def log_of(program: Program, lines: list[bytes]) -> bytes:
 
 
 def explained(words: list[str], log: bytes) -> list[str]:
-    """The pages' trees in what examples/explain prints of a log, each as a text."""
-    run = subprocess.run([str(EXAMPLES / "explain"), *words], input=log, capture_output=True, timeout=SECONDS)
+    """The pages' trees in what `geanmarbles explain` prints of a log, each as a text."""
+    run = subprocess.run([GEANMARBLES, "explain", *words], input=log, capture_output=True, timeout=SECONDS)
     if run.returncode:
         raise Wrong(f"it ended with status {run.returncode} and {shown(run.stderr)}")
     return re.split(r"\n(?=/)", run.stdout.decode())

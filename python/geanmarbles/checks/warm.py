@@ -49,7 +49,7 @@ def become(words: list[str], streams: Sequence[str], seconds: int) -> None:
         open(number, "w" if number else "r", encoding="utf-8", closefd=False) for number in range(len(streams))
     )
     signal.alarm(seconds)
-    sys.argv = words
+    sys.argv = words[1:]
 
 
 def main() -> int:

@@ -21,9 +21,9 @@ import subprocess
 import sys
 import time
 from collections.abc import Sequence
-from pathlib import Path
 from typing import IO, Any, Self
 
+from geanmarbles.arguments import command_name
 from geanmarbles.client.replies import Ended, NoReply, Reply, read_reply
 from geanmarbles.repository import shipped
 
@@ -160,4 +160,4 @@ def check_program(program: list[str], instead: str = "") -> None:
     """Ends the script if there is no such program, and says what can be done instead."""
     path = program[0]
     if not os.access(path, os.X_OK) or os.path.isdir(path):
-        sys.exit(f"{Path(sys.argv[0]).name}: there is no program at {path}; ./build builds it{instead}")
+        sys.exit(f"{command_name()}: there is no program at {path}; ./build builds it{instead}")

@@ -24,7 +24,7 @@ KEYS: dict[str, tuple[str, ...]] = {
     "turns": ("page", "count"),
 }
 OF_IMPORT, OF_ENTRY = ("version", *SECTIONS), ("id", *POST)
-# The options that the program and its plugins read, and those that examples/publish reads beside these.
+# The options that the program and its plugins read, and those that geanmarbles publish reads beside these.
 OPTIONS = ("blogname", "page_on_front", "posts_per_page", "show_on_front")
 OF_ARCHIVE = ("blogdescription", "date_format", "page_for_posts")
 # How many names that are read are listed, if none is near.

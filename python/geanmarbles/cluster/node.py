@@ -1,9 +1,9 @@
 """Serves one site on several machines: a node, which runs the program over a history of edits that etcd holds.
 
-    cluster/node --etcd URL[,URL..] [--listen HOST:PORT] [--program PATH] [--snippets] [--name PREFIX]
-                 [--token-file FILE] [--tokens FILE] [--etcd-ca FILE] [--etcd-cert FILE] [--etcd-key FILE]
-                 [--etcd-user NAME] [--etcd-password-file FILE] [--lines N] [--snapshot-every N] [--remember SECONDS]
-                 [--max-age SECONDS] [--calls N] [--cache N] [--log-requests] [--metrics HOST:PORT] [--export]
+    geanmarbles node --etcd URL[,URL..] [--listen HOST:PORT] [--program PATH] [--snippets] [--name PREFIX]
+                  [--token-file FILE] [--tokens FILE] [--etcd-ca FILE] [--etcd-cert FILE] [--etcd-key FILE]
+                  [--etcd-user NAME] [--etcd-password-file FILE] [--lines N] [--snapshot-every N] [--remember SECONDS]
+                  [--max-age SECONDS] [--calls N] [--cache N] [--log-requests] [--metrics HOST:PORT] [--export]
 
 Any number of nodes serve the site. Each runs a program of its own over the same history, so all give the same pages.
 Once it listens, the node writes `serving http://HOST:PORT/` to standard output; it serves once it has carried out
@@ -140,7 +140,7 @@ OPTIONS: dict[str, dict[str, Any]] = {
 
 
 def read_arguments() -> argparse.Namespace:
-    parser = Parser(description=__doc__, formatter_class=argparse.RawDescriptionHelpFormatter)
+    parser = Parser(__doc__)
     add_program_option(parser)
     for name, how in OPTIONS.items():
         parser.add_argument(name, **how)

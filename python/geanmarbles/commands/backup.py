@@ -1,6 +1,10 @@
 """Copies a site in a file, also while a program serves it.
 
-    examples/backup [--program PATH] [--snippets] FILE OUT
+    geanmarbles backup [--program PATH] [--snippets] FILE OUT
+
+For example:
+
+    geanmarbles backup site.db backups/monday.db
 
 FILE and FILE-wal are copied, byte by byte, into OUT and OUT-wal, which may not be there yet. Both together are the
 backup, and only their owner can read them. Nothing is locked, and what serves the site isn't disturbed. If its program
@@ -12,7 +16,6 @@ there are, and the digest of OUT's history.
 The exit status is 0, 1 if there is no backup, and then neither OUT nor OUT-wal, and 2 if the arguments are bad.
 """
 
-import argparse
 import os
 import shutil
 import subprocess
@@ -68,7 +71,7 @@ def backed_up(program: list[str], file: Path, out: Path) -> str:
 
 @quiet_output()
 def main() -> int:
-    parser = Parser(description=__doc__, formatter_class=argparse.RawDescriptionHelpFormatter)
+    parser = Parser(__doc__)
     add_program_option(parser)
     parser.add_argument("file", metavar="FILE", type=Path, help="the site in a file")
     parser.add_argument("out", metavar="OUT", type=Path, help="the file to be made")

@@ -1,14 +1,18 @@
 """Serves a site to a browser on this machine.
 
-    examples/browse [--program PATH] [--snippets] [--explain] [--port N] [--database FILE] [--edits] [--token-file FILE]
-                    [--lines N] [FILE]
+    geanmarbles browse [--program PATH] [--snippets] [--explain] [--port N] [--database FILE] [--edits]
+                       [--token-file FILE] [--lines N] [FILE]
+
+For example:
+
+    geanmarbles browse --explain --database site.db
 
 FILE is a command file, examples/bakery.jsonl of this repository if it and --database are left out. A program reads it
 first; none of its lines may be refused. Then the site is at the address that standard output names, on 127.0.0.1 alone,
 until Ctrl-C or SIGTERM. Port 0 means any free one.
 
-This script looks at requests and at pages, for what follows here; examples/serve moves bytes alone, and the program
-itself speaks HTTP then.
+This script looks at requests and at pages, for what follows here; `geanmarbles serve` moves bytes alone, and the
+program itself speaks HTTP then.
 
 Each GET or HEAD becomes one line {"cmd":"get","path":PATH}, with the path and its query as the browser sent them, and
 the page's status becomes the response's. A program is sent one line at a time.
@@ -20,14 +24,14 @@ standard output; from then on every page is one after that line.
 With --token-file whoever has the token in that file may edit the site through its address: `POST /command` has edits,
 one a line, with `Authorization: Bearer TOKEN`, and the response their replies, in the form that a node of a cluster has
 (docs/CLUSTER.md). `GET /history` with the same token is every edit that the site is made of, drafts too, one a line.
-examples/post, history and undo use both. Without --token-file nothing is edited by HTTP.
+`geanmarbles post`, history and undo use both. Without --token-file nothing is edited by HTTP.
 
 A program ends after 1,000,000 lines. The next takes its place before that, or before the number of lines that --lines
 names, and also if one ends for another reason; a page that it owed is then printed by the next. At the end of this
 script the program of a site in a file ends by itself, so FILE alone then has every edit.
 
 With --explain each page has below it which callbacks ran for that request, what each received and what it did, as
-examples/explain shows them. The page is otherwise as it is without.
+`geanmarbles explain` shows them. The page is otherwise as it is without.
 
 What is no page is plain text:
 
@@ -269,7 +273,7 @@ def port_number(text: str) -> int:
 
 
 def read_arguments() -> argparse.Namespace:
-    parser = Parser(description="Serves a site to a browser on this machine.")
+    parser = Parser(__doc__)
     add_program_option(parser)
     parser.add_argument("--explain", action="store_true", help="show below each page which callbacks ran")
     parser.add_argument("--port", metavar="N", type=port_number, default=8080, help="8080 if it is left out")

@@ -1,6 +1,6 @@
 """Shows which callbacks ran for each page of a log that `site --trace` wrote, and what each received and did.
 
-    examples/explain [--hook NAME] [--post ID] [--whole] [--notes] [--input FILE ..] [--html FILE] [LOG]
+    geanmarbles explain [--hook NAME] [--post ID] [--whole] [--notes] [--input FILE ..] [--html FILE] [LOG]
 
 LOG is a file with what a run of the program wrote on standard error, as by
 
@@ -74,7 +74,7 @@ def inputs_of(paths: list[str]) -> Inputs:
 
 
 def read_arguments() -> argparse.Namespace:
-    parser = Parser(description="Shows which callbacks ran, from a log of `site --trace`.")
+    parser = Parser(__doc__)
     parser.add_argument("--hook", metavar="NAME", help="only passes over this hook")
     parser.add_argument("--post", metavar="ID", type=int, help="only passes that a page makes for this post")
     parser.add_argument("--whole", action="store_true", help="texts as the log has them")

@@ -1,14 +1,17 @@
 """Turns WordPress's own export file into commands for the program `site`.
 
-    examples/from_wordpress [--all] [--templates FILE] [--contact ADDRESS] [--menu NAME] [--posts-page NAME]
-                            [--posts-per-page N] [--author LOGIN=SLUG ..] [--plugin-tags NAMES] [--files FILE]
-                            [--fetch FROM DIR] EXPORT.xml > COMMANDS.jsonl
-    ./site < COMMANDS.jsonl
+    geanmarbles import wordpress [--all] [--templates FILE] [--contact ADDRESS] [--menu NAME] [--posts-page NAME]
+                                 [--posts-per-page N] [--author LOGIN=SLUG ..] [--plugin-tags NAMES] [--files FILE]
+                                 [--fetch FROM DIR] EXPORT.xml > COMMANDS.jsonl
+
+For example:
+
+    geanmarbles import wordpress export.xml | geanmarbles site --database site.db
 
 EXPORT.xml is what Tools > Export of WordPress writes (WXR 1.2). The commands are imports: posts and pages, published
 and drafts, with the site's title and tagline and the templates of FILE, an object of template names and trees. If FILE
-isn't given, it is archive-templates.json beside this script. The program limits a line's length and an import's posts,
-so a large site takes several imports.
+isn't given, it is archive-templates.json of examples. The program limits a line's length and an import's posts, so a
+large site takes several imports.
 
 Titles and contents are written as WordPress shows them: with paragraphs, curly quotes, captions, galleries, players,
 and links and files at the site's own paths. Featured images come before the text, tags of page builders are gone with
@@ -27,7 +30,7 @@ texts of the site.
 FILE of --files gets a line for each file below /wp-content/uploads/ that posts and pages need: in contents, galleries
 and as featured images. --fetch copies these from FROM, a copy of wp-content/uploads, as a folder or a zip or tar
 archive of it, to the same paths below DIR, such as DIR/wp-content/uploads/2016/05/a.jpg, and standard error says which
-of them FROM doesn't have. examples/publish writes such a site as files, and takes uploads from FROM or from DIR.
+of them FROM doesn't have. `geanmarbles publish` writes such a site as files, and takes uploads from FROM or from DIR.
 
 Standard error says what is left out and what isn't shown as in WordPress, by kinds, with the first posts of each; with
 --all each item of the export that is concerned has a line there, with its place. docs/FROM-WORDPRESS.md says what is
@@ -459,7 +462,7 @@ def author(text: str) -> tuple[str, str]:
 
 
 def read_arguments() -> argparse.Namespace:
-    parser = Parser(description="Turns WordPress's export file into commands for the program site.")
+    parser = Parser(__doc__)
     parser.add_argument("--all", action="store_true", help="name each item that is left out or shown otherwise")
     templates = "the templates, in JSON, archive-templates.json if it is left out"
     parser.add_argument("--templates", metavar="FILE", type=Path, default=TEMPLATES, help=templates)
@@ -523,7 +526,7 @@ def main() -> int:
     try:
         lines = converted(arguments, report)
     except Refused as fault:
-        print(f"from_wordpress: {fault}", file=sys.stderr)
+        print(f"import wordpress: {fault}", file=sys.stderr)
         return 2
     report.sum_up(len(lines))
     sys.stdout.buffer.writelines(line + b"\n" for line in lines)

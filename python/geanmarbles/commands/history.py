@@ -1,14 +1,18 @@
 """Shows each version that a post or page of a site has had.
 
-    examples/history [--program PATH] [--snippets] [--difference] SITE.db ID
-    examples/history [--token-file FILE] [--difference] ADDRESS ID
+    geanmarbles history [--program PATH] [--snippets] [--difference] SITE.db ID
+    geanmarbles history [--token-file FILE] [--difference] ADDRESS ID
+
+For example:
+
+    geanmarbles history --difference site.db 7
 
 A line is printed for each edit that made or changed it: the edit's number in the history, what kind of edit it was,
 and what it set. With --difference the lines of the content that it changed follow, as `diff -u` shows them.
 
 SITE.db is the site in a file, which nothing may serve meanwhile; it stays as it is. ADDRESS is the address at which
-`examples/browse --token-file FILE` serves a site, with the same file for --token-file. After `site --compact` there is
-only what was left then.
+`geanmarbles browse --token-file FILE` serves a site, with the same file for --token-file. After `site --compact` there
+is only what was left then.
 
 The exit status is 0, 1 if the site can't be read or has had no such post, and 2 if the arguments are bad.
 """
@@ -50,7 +54,7 @@ def versions(lines: list[bytes], wanted: int) -> list[tuple[int, dict[str, Any]]
 
 @quiet_output()
 def main() -> int:
-    parser = Parser(description="Shows each version that a post or page has had.")
+    parser = Parser(__doc__)
     add_program_option(parser)
     parser.add_argument("--token-file", metavar="FILE", type=Path, help="the token of what serves the site")
     parser.add_argument("--difference", action="store_true", help="show which lines of the content were changed")

@@ -1,9 +1,13 @@
 """Lists, reads and writes the posts and pages of a site in a file, each as a file with a head.
 
-    examples/post [--program PATH] [--snippets] [--token-file FILE] SITE list [WORD ..]
-    examples/post [--program PATH] [--snippets] [--token-file FILE] SITE get ID > FILE
-    examples/post [--program PATH] [--snippets] [--token-file FILE] SITE set ID FILE
-    examples/post [--program PATH] [--snippets] [--token-file FILE] SITE new FILE
+    geanmarbles post list [--program PATH] [--snippets] [--token-file FILE] SITE [WORD ..]
+    geanmarbles post get [--program PATH] [--snippets] [--token-file FILE] SITE ID > FILE
+    geanmarbles post set [--program PATH] [--snippets] [--token-file FILE] SITE ID FILE
+    geanmarbles post new [--program PATH] [--snippets] [--token-file FILE] SITE FILE
+
+For example:
+
+    geanmarbles post get site.db 7 > rye.txt; geanmarbles post set site.db 7 rye.txt
 
 `list` prints the ID, kind, status, date and title of each post and page, the newest first, or of those whose title or
 content has every WORD. `get` prints one: a head of lines `title: ..`, `date: ..` and `status: ..`, a blank line, and
@@ -14,12 +18,12 @@ head needs a date and may have a line `kind: page`, and prints its ID. A title t
 SITE is the site in a file, such as SITE.db, which nothing may serve meanwhile. A site that is served is read and edited
 through what serves it. SITE can also be:
 
-- the address at which `examples/browse --token-file FILE` serves a site, such as http://127.0.0.1:8080/, with the same
-  file for --token-file;
+- the address at which `geanmarbles browse --token-file FILE` serves a site, such as http://127.0.0.1:8080/, with the
+  same file for --token-file;
 - for `set` and `new`, the address of a node of a cluster, with the file of its token;
-- for `list` and `get`, a file of lines as `site --export` or `cluster/node --export` writes them;
+- for `list` and `get`, a file of lines as `site --export` or `geanmarbles node --export` writes them;
 - for `set` and `new`, `-`: the line of the edit is printed and nothing else is done. Such a line is for the standard
-  input of `examples/browse --edits`.
+  input of `geanmarbles browse --edits`.
 
 The exit status is 0, 1 if nothing was done, with the reason, and 2 if the arguments are bad.
 """
@@ -88,7 +92,7 @@ def edit(arguments: argparse.Namespace, command: dict[str, Any]) -> str:
         check_site(arguments.program, Path(arguments.site))
         [reply] = carried_out(arguments.program, Path(arguments.site), [line_of(command)])
     if not reply.startswith("ok"):
-        raise NotKept(f"the edit is {reply}; examples/refusals says why")
+        raise NotKept(f"the edit is {reply}; geanmarbles refusals says why")
     return reply.removeprefix("ok").strip()
 
 
@@ -132,19 +136,20 @@ def done(arguments: argparse.Namespace) -> str:
 
 
 def read_arguments() -> argparse.Namespace:
-    parser = Parser(description="Lists, reads and writes the posts and pages of a site in a file.")
-    add_program_option(parser)
-    parser.add_argument("--token-file", metavar="FILE", type=Path, help="the token of what serves the site")
-    parser.add_argument("site", metavar="SITE", help="the site in a file, a file of its lines, or what serves it")
+    parser = Parser(__doc__)
     commands = parser.add_subparsers(dest="what", required=True, metavar="list|get|set|new")
-    listing = commands.add_parser("list", help="list posts and pages, those that have all words")
-    listing.add_argument("words", metavar="WORD", nargs="*")
-    for name, what in (("get", "print one with its head"), ("set", "make one what a file says")):
-        one = commands.add_parser(name, help=what)
-        one.add_argument("number", metavar="ID", type=int)
-        if name == "set":
+    helps = {"list": "list posts and pages", "get": "print one with its head", "set": "make one what a file says"}
+    for name, what in {**helps, "new": "make a new one"}.items():
+        one = commands.add_parser(name, help=what, description=__doc__)
+        add_program_option(one)
+        one.add_argument("--token-file", metavar="FILE", type=Path, help="the token of what serves the site")
+        one.add_argument("site", metavar="SITE", help="the site in a file, a file of its lines, or what serves it")
+        if name in ("get", "set"):
+            one.add_argument("number", metavar="ID", type=int)
+        if name in ("set", "new"):
             one.add_argument("file", metavar="FILE", type=Path)
-    commands.add_parser("new", help="make a new one").add_argument("file", metavar="FILE", type=Path)
+        if name == "list":
+            one.add_argument("words", metavar="WORD", nargs="*", help="only those that have all these words")
     return parser.parse_args()
 
 

@@ -1,11 +1,15 @@
 """Writes a site that came from WordPress as files for any web server, at the addresses that it had there.
 
-    examples/publish [--program PATH] [--snippets] [--uploads FROM] [--address URL] [--date-format FORMAT]
-                     [--category-base NAME] [--tag-base NAME] [--check] EXPORT.xml SITE.db DIR
+    geanmarbles publish [--program PATH] [--snippets] [--uploads FROM] [--address URL] [--date-format FORMAT]
+                        [--category-base NAME] [--tag-base NAME] [--check] EXPORT.xml SITE.db DIR
 
-SITE.db is the site in a file that `examples/from_wordpress EXPORT.xml` and the program have made, with all edits since,
-by --snippets if it was begun with that option. EXPORT.xml is the same export: it has the old addresses, and what the
-program doesn't keep, such as terms, authors, comments and excerpts.
+For example:
+
+    geanmarbles publish --uploads uploads.zip --check export.xml site.db archive
+
+SITE.db is the site in a file that `geanmarbles import wordpress EXPORT.xml` and the program have made, with all edits
+since, by --snippets if it was begun with that option. EXPORT.xml is the same export: it has the old addresses, and what
+the program doesn't keep, such as terms, authors, comments and excerpts.
 
 DIR/public is what a web server serves. Each page in it is printed by the program, over the site's own templates and
 plugins: posts and pages at their permalinks, divided posts in their parts, the list of all posts, lists by category,
@@ -177,7 +181,7 @@ def address(text: str) -> str:
 
 
 def read_arguments() -> argparse.Namespace:
-    parser = Parser(description="Writes a site that came from WordPress as files for a web server.")
+    parser = Parser(__doc__)
     add_program_option(parser)
     parser.add_argument(
         "--uploads", metavar="FROM", type=Path, help="a copy of wp-content/uploads, or an archive of it"

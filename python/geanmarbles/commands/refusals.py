@@ -1,6 +1,6 @@
 """Says why lines of a command file are refused, by the rules of docs/BEHAVIOUR.md.
 
-    examples/refusals [--snippets] [--plugin NAME ..] [--after FILE ..] [--notes] FILE [REPLIES]
+    geanmarbles refusals [--snippets] [--plugin NAME ..] [--after FILE ..] [--notes] FILE [REPLIES]
 
 For each refused line of FILE, standard output gets its number, the refusal and the reason: which key, which section and
 entry of an import, which node of a template's tree. Entries of lists are counted from 0:
@@ -10,7 +10,7 @@ entry of an import, which node of a template's tree. Entries of lists are counte
 
 REPLIES is what the program wrote for FILE, or `-` for standard input, as in
 
-    ./site < FILE | examples/refusals FILE -
+    geanmarbles site < FILE | geanmarbles refusals FILE -
 
 No program runs, and none is needed. What this doesn't know without REPLIES:
 
@@ -20,19 +20,19 @@ No program runs, and none is needed. What this doesn't know without REPLIES:
 - 11 OutOfMemory and 12 Store: memory and the database are the program's.
 
 With REPLIES these are told too, though not why a page needs so many calls or goes so deep: `site --trace` and
-examples/explain show that. Then each reply is also compared with what the rules say, and a line where they differ is
-shown with both.
+`geanmarbles explain` show that. Then each reply is also compared with what the rules say, and a line where they differ
+is shown with both.
 
 The site is empty at first. --after names a command file that was carried out before, and is given once for each of
 several, in their order: what they refuse is left out, and each is a run of the program of its own, after which no page
 is open. For a site in a file, the file is what the program writes of it before the edits of FILE:
 
-    ./site --database SITE.db --export > SITE.jsonl
-    examples/refusals --after SITE.jsonl FILE
+    geanmarbles site --database SITE.db --export > SITE.jsonl
+    geanmarbles refusals --after SITE.jsonl FILE
 
 With --notes it also says which keys and options of a line nothing reads, and the nearest name that is read. The program
-ignores them, so a note is no refusal. Of options only those are known that the program, its own plugins and
-examples/publish read:
+ignores them, so a note is no refusal. Of options only those are known that the program, its own plugins and geanmarbles
+publish read:
 
     3: note: titel: nothing reads this key; the nearest that is read is title
 
@@ -204,7 +204,7 @@ def read_bytes(path: str) -> bytes:
 
 
 def read_arguments() -> argparse.Namespace:
-    parser = Parser(description=__doc__, formatter_class=argparse.RawDescriptionHelpFormatter)
+    parser = Parser(__doc__)
     how: dict[str, Any] = {
         "metavar": "NAME",
         "action": "append",

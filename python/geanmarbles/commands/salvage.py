@@ -1,6 +1,10 @@
 """Saves what is sound of a damaged site in a file into a new file.
 
-    examples/salvage [--program PATH] [--snippets] FILE OUT
+    geanmarbles salvage [--program PATH] [--snippets] FILE OUT
+
+For example:
+
+    geanmarbles salvage damaged.db sound.db
 
 Each row of FILE and FILE-wal is tested by its digest and the one that is stored beside the row before it. So a line
 that was changed costs that edit alone; a digest that was changed, or a row that is gone, also the edit after it; and a
@@ -11,7 +15,7 @@ and if FILE is shorter than its header says, zeros make them as long as that. No
 
 The edits after one that is left out were made over a site that had it, so pages may differ from what they were, and by
 more than that edit: without a `put` each later post has a smaller ID, so a later `edit` may change another post than it
-did. With N edits saved after the first that is left out, `examples/undo OUT NEW N` has the site without them.
+did. With N edits saved after the first that is left out, `geanmarbles undo OUT NEW N` has the site without them.
 
 Standard output has what `site --database OUT --check` says: how many edits were saved, and the digest of OUT's history.
 Standard error has what a start of the program says of FILE, unless it finds the same there, and which rows were left
@@ -264,7 +268,7 @@ def say(what: object) -> None:
 
 
 def read_arguments() -> argparse.Namespace:
-    parser = Parser(description=__doc__, formatter_class=argparse.RawDescriptionHelpFormatter)
+    parser = Parser(__doc__)
     add_program_option(parser)
     parser.add_argument("file", metavar="FILE", type=Path, help="the damaged site in a file")
     parser.add_argument("out", metavar="OUT", type=Path, help="the file to be made")

@@ -1,7 +1,11 @@
 """Serves a site to browsers.
 
-    examples/serve [--program PATH] [--snippets] [--database FILE [--new]] [--token-file FILE] [--address ADDRESS]
-                   [--port N | --unix PATH] [--connections N] [--seconds N] [--idle N] [FILE]
+    geanmarbles serve [--program PATH] [--snippets] [--database FILE [--new]] [--token-file FILE] [--address ADDRESS]
+                      [--port N | --unix PATH] [--connections N] [--seconds N] [--idle N] [FILE]
+
+For example:
+
+    geanmarbles serve --database site.db --new
 
 The program speaks HTTP itself (docs/BEHAVIOUR.md, Over HTTP). This script takes the connections of clients and moves
 their bytes to it and back, without a look at one; it starts the program, and the next one if it ends.
@@ -122,7 +126,7 @@ def serve(arguments: argparse.Namespace) -> None:
 
 
 def read_arguments() -> argparse.Namespace:
-    parser = Parser(description="Serves a site to browsers.")
+    parser = Parser(__doc__)
     add_program_option(parser)
     parser.add_argument("--database", metavar="FILE", type=absolute, help="serve the site in this file, which lasts")
     parser.add_argument("--new", action="store_true", help="make a site in that file if there is none")

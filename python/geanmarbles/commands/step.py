@@ -1,6 +1,10 @@
 """Steps through a page of a site, one callback at a time.
 
-    examples/step [--program PATH] [--snippets] [--calls N] FILE PATH
+    geanmarbles step [--program PATH] [--snippets] [--calls N] FILE PATH
+
+For example:
+
+    geanmarbles step examples/bakery.jsonl '/?p=1'
 
 FILE is a command file, as examples/bakery.jsonl of this repository, and none of its lines may be refused. The page of
 PATH, as `/?p=1`, is then opened by `begin`, and nothing of it has run. At the prompt:
@@ -101,7 +105,7 @@ def carry_out(stepper: Stepper, line: str) -> bool:
     elif word == "q" and not rest:
         return False
     else:
-        print("n [COUNT], c NAME, p, q, or a command as a line of JSON; examples/step --help says more")
+        print("n [COUNT], c NAME, p, q, or a command as a line of JSON; geanmarbles step --help says more")
     return True
 
 
@@ -132,7 +136,7 @@ def prompted() -> Iterator[str]:
 
 
 def read_arguments() -> argparse.Namespace:
-    parser = Parser(description="Steps through a page of a site, one callback at a time.")
+    parser = Parser(__doc__)
     add_program_option(parser)
     parser.add_argument("--calls", metavar="N", help="how many callbacks the page may call")
     parser.add_argument("file", metavar="FILE", type=Path, help="a command file")

@@ -1,11 +1,15 @@
 """Starts three etcd and three nodes of one site on this machine, to look at: a page in a browser at each of the nodes.
 
-    examples/cluster/three [--program PATH] [--snippets] [--port N] [--folder FOLDER] [FILE]
+    geanmarbles cluster three [--program PATH] [--snippets] [--port N] [--folder FOLDER] [FILE]
+
+For example:
+
+    geanmarbles cluster three --folder cluster
 
 The nodes listen on 127.0.0.1, at port N and the next two, 8081 if it is left out; etcd takes the ports from N + 100 and
 N + 200 on. A new site gets the edits of FILE, examples/bakery.jsonl of this repository if it is left out. Standard
 output then says where the pages are, how to make an edit, and how to kill a process of each kind; a process that ends
-is started again after five seconds, as the units beside this script have it. Ctrl-C and SIGTERM end them all.
+is started again after five seconds, as the units in examples/cluster have it. Ctrl-C and SIGTERM end them all.
 
 What etcd has is in FOLDER, with the token of those who may edit and what each process writes; another start with it
 goes on with the site. If it is left out, a folder is made, and is gone at the end.
@@ -30,7 +34,7 @@ from typing import Any, NoReturn, Self
 
 from geanmarbles.arguments import Parser
 from geanmarbles.client.program import add_program_option, check_program, end_by_signals, lines_of
-from geanmarbles.paths import ROOT
+from geanmarbles.paths import EXAMPLES, command
 
 ADDRESS = "127.0.0.1"
 COUNT = 3
@@ -40,7 +44,7 @@ TRIAL = '{"cmd":"put","title":"News","content":"<p>Here at once.</p>","date":"20
 
 
 def stop(why: object) -> NoReturn:
-    sys.exit(f"three: {why}")
+    sys.exit(f"cluster three: {why}")
 
 
 def say(what: str) -> None:
@@ -122,7 +126,7 @@ class Cluster:
 
     def node_words(self, number: int) -> list[str]:
         urls = ",".join(f"http://{ADDRESS}:{self.port + 100 + it}" for it in range(COUNT))
-        words = [str(ROOT / "cluster" / "node"), "--etcd", urls, "--listen", f"{ADDRESS}:{self.port + number}"]
+        words = [*command("geanmarbles"), "node", "--etcd", urls, "--listen", f"{ADDRESS}:{self.port + number}"]
         return [*words, "--program", *self.program, "--token-file", str(self.token)]
 
     def ask(
@@ -170,12 +174,11 @@ class Cluster:
 
 
 def read_arguments() -> argparse.Namespace:
-    how: dict[str, Any] = {"description": __doc__, "formatter_class": argparse.RawDescriptionHelpFormatter}
-    parser = Parser(**how)
+    parser = Parser(__doc__)
     add_program_option(parser)
     parser.add_argument("--port", metavar="N", type=int, default=8081, help="the first node's port, 1024 to 65000")
     parser.add_argument("--folder", metavar="FOLDER", type=Path, help="where the site is kept")
-    parser.add_argument("file", metavar="FILE", nargs="?", type=Path, default=ROOT / "examples" / "bakery.jsonl")
+    parser.add_argument("file", metavar="FILE", nargs="?", type=Path, default=EXAMPLES / "bakery.jsonl")
     arguments = parser.parse_args()
     if not 1024 <= arguments.port <= 65000:
         parser.error("--port is a number from 1024 to 65000")

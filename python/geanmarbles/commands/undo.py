@@ -1,12 +1,16 @@
 """Writes a site without its last edits into a new file.
 
-    examples/undo [--program PATH] [--snippets] SITE.db NEW.db [N]
-    examples/undo [--program PATH] [--snippets] [--token-file FILE] ADDRESS NEW.db [N]
+    geanmarbles undo [--program PATH] [--snippets] SITE.db NEW.db [N]
+    geanmarbles undo [--program PATH] [--snippets] [--token-file FILE] ADDRESS NEW.db [N]
+
+For example:
+
+    geanmarbles undo site.db new.db && mv new.db site.db
 
 The program carries out all edits of the site but the last N, the last one if N is left out, over NEW.db, which may not
 be there yet, and isn't there if this fails. Standard output has the edits that were left out, the newest first.
 
-SITE.db is the site in a file, which nothing may serve meanwhile. ADDRESS is the address at which `examples/browse
+SITE.db is the site in a file, which nothing may serve meanwhile. ADDRESS is the address at which `geanmarbles browse
 --token-file FILE` serves a site, with the same file for --token-file. Either site stays as it is. To go back, serve
 NEW.db instead, or move it: `mv NEW.db SITE.db`, and SITE.db-wal stays. After `site --compact` there are only the edits
 since then.
@@ -55,7 +59,7 @@ def positive(text: str) -> int:
 
 @quiet_output()
 def main() -> int:
-    parser = Parser(description="Writes a site without its last edits into a new file.")
+    parser = Parser(__doc__)
     add_program_option(parser)
     parser.add_argument("--token-file", metavar="FILE", type=Path, help="the token of what serves the site")
     parser.add_argument("site", metavar="SITE", help="the site in a file, or the address of what serves it")

@@ -8,10 +8,10 @@ crates/PROGRAM/out/PROGRAM, and ./site then runs that of `site`. What is proved 
 change only what it reaches is proved again. A line on standard error says when a library is done, after what the prover
 said of it if it is refused, and at the end of a build from nothing what it took of time, memory and disk.
 
-Crates wait for one another in chains, of which the longest decides how long the build takes; tools/seconds.txt says how
-long each takes. A crate of that chain is proved by as many processes as there are processors, one of a chain that is
-nearly as long by half as many if these are idle, the others by one process each, and at a lower priority if the chains
-that they are in are much shorter.
+Crates wait for one another in chains, of which the longest decides how long the build takes; bench/gate/seconds.txt
+says how long each takes. A crate of that chain is proved by as many processes as there are processors, one of a chain
+that is nearly as long by half as many if these are idle, the others by one process each, and at a lower priority if the
+chains that they are in are much shorter.
 
 With --quick the sources of `site` are compiled, which takes two to five minutes, and run for at most a minute, with
 checks for bad memory accesses and overflows, over standard input or over each FILE, whose output follows a line
@@ -43,7 +43,7 @@ from geanmarbles.repository.toolchain import ToolchainFault, load, processors
 from geanmarbles.repository.unproved import run_quick
 
 # How long each crate took when that was last measured.
-SECONDS = ROOT / "tools" / "seconds.txt"
+SECONDS = ROOT / "bench" / "gate" / "seconds.txt"
 # What is in a chain longer than this part of the longest has half of the processors.
 NEARLY = 0.85
 # What is in no chain longer than this part of the longest can wait, and has a priority that is lower by this.
@@ -220,7 +220,7 @@ def report(found: dict[str, Built], begin: float) -> int:
 
 
 def read_arguments() -> argparse.Namespace:
-    parser = Parser(description=__doc__, formatter_class=argparse.RawDescriptionHelpFormatter)
+    parser = Parser(__doc__)
     parser.add_argument("--quick", action="store_true", help="run FILES over the sources, without a proof")
     for option in ("--calls", "--cache"):
         parser.add_argument(option, metavar="N", help="as ./site takes it, with --quick")

@@ -32,7 +32,8 @@ def below(crates: Mapping[str, list[str]], name: str) -> set[str]:
 
 
 def own_crates(crates: Iterable[str]) -> list[str]:
-    """The repository's crates, but for an author's own plugins, of which ./new-plugin makes NAME and NAME_site."""
+    """The repository's crates, but for an author's own plugins, of which `geanmarbles new-plugin` makes NAME and
+    NAME_site."""
     there = set(crates)
     return [it for it in crates if f"{it}_site" not in there and it.removesuffix("_site") not in there - {it}]
 

@@ -10,7 +10,7 @@ from geanmarbles.repository.crates import below, own_crates, read_crates
 
 PAGE = DOCS / "ARCHITECTURE.md"
 # What is made is between these lines.
-BEGIN, END = "<!-- made by tools/index: {} -->", "<!-- end -->"
+BEGIN, END = "<!-- made by geanmarbles dev theorem: {} -->", "<!-- end -->"
 HEAD = "| Crate | What it is for | Depends on | What is proved of it |"
 WIDTH = 100
 LINK = re.compile(r"\]\(([^()\s]+)\)")

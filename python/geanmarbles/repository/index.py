@@ -1,21 +1,21 @@
 """Makes what is made of the sources: docs/THEOREM.md, and a part of docs/ARCHITECTURE.md; and prints an index.
 
-    tools/index [--print | --check]
+    geanmarbles dev theorem [--check]
+    geanmarbles dev index
 
 THEOREM has the clause of the headline, and each definition that it rests on, as in the crates' specs/.
 
 ARCHITECTURE has the floors of the crates, by crates.txt, and a table of what each crate's README.md says of it.
 
-Without an option the files are written, and those that had another text are named. With --check those that aren't up to
-date are named, with status 1; tests/links/run fails then.
+`dev theorem` writes the files, and names those that had another text. With --check it writes nothing, and ends with
+status 1 if it names one; tests/links/run fails then.
 
-With --print an index is written to standard output, as Markdown whose links are relative to docs/. It leads from each
-rule of docs/BEHAVIOUR.md to its definition, the contracts that carry it, and the wrong bodies that break it. A rule is
-a section that ends with a line in small print, whose links name the definitions. What carries a definition, and which
-wrong bodies break it, is in the tables of the crates' README.md and DESIGN.md.
+`dev index` prints an index, as Markdown whose links are relative to docs/. It leads from each rule of docs/BEHAVIOUR.md
+to its definition, the contracts that carry it, and the wrong bodies that break it. A rule is a section that ends with a
+line in small print, whose links name the definitions. What carries a definition, and which wrong bodies break it, is in
+the tables of the crates' README.md and DESIGN.md.
 """
 
-import argparse
 import os
 import re
 import sys
@@ -199,16 +199,17 @@ def stale() -> dict[Path, str]:
     return {it: text for it, text in pages().items() if not it.is_file() or it.read_text(encoding="utf-8") != text}
 
 
+def print_index() -> int:
+    Parser(__doc__).parse_args()
+    sys.stdout.write(index_text())
+    return 0
+
+
 @quiet_output()
 def main() -> int:
-    parser = Parser(description=__doc__, formatter_class=argparse.RawDescriptionHelpFormatter)
-    how = parser.add_mutually_exclusive_group()
-    how.add_argument("--print", action="store_true", help="write an index of rules to standard output")
-    how.add_argument("--check", action="store_true", help="name the pages that aren't up to date")
+    parser = Parser(__doc__)
+    parser.add_argument("--check", action="store_true", help="name the pages that aren't up to date")
     asked = parser.parse_args()
-    if asked.print:
-        sys.stdout.write(index_text())
-        return 0
     other = stale()
     for page, text in other.items():
         print(f"{page.relative_to(ROOT)} {'is not up to date' if asked.check else 'was written'}")

@@ -1,7 +1,7 @@
 """Makes a new plugin's crates from an example, or takes them away.
 
-    ./new-plugin [--from exclaim | --from notices | --from gallery] NAME
-    ./new-plugin --remove NAME
+    geanmarbles new-plugin [--from exclaim | --from notices | --from gallery] NAME
+    geanmarbles new-plugin --remove NAME
 
 NAME is 1 to 50 lower-case letters, digits and `_`, a letter first. It is no word of Rust or of the definitions'
 language, no crate of this repository or of the toolchain, and no word of the example's code. The script makes
@@ -14,7 +14,6 @@ With --remove, crates/NAME and crates/NAME_site are moved to out/removed/, and t
 docs/PLUGINS.md is the tutorial.
 """
 
-import argparse
 import re
 import shutil
 import subprocess
@@ -60,7 +59,7 @@ NEXT = """made crates/NAME and crates/NAME_site. Next:
     tests/wrong_bodies/run NAME                   tries the wrong bodies, which the prover must refuse
 
 Once the plugin is your own, the edits in crates/NAME/wrong-bodies no longer fit it: put edits of your own in their
-place. docs/PLUGINS.md is the tutorial; ./new-plugin --remove NAME takes the crates away again.
+place. docs/PLUGINS.md is the tutorial; geanmarbles new-plugin --remove NAME takes the crates away again.
 """
 
 
@@ -235,7 +234,7 @@ def remove(name: str) -> None:
 
 
 def main() -> None:
-    parser = Parser(description=__doc__, formatter_class=argparse.RawDescriptionHelpFormatter)
+    parser = Parser(__doc__)
     which = parser.add_mutually_exclusive_group()
     which.add_argument("--from", dest="example", choices=EXAMPLES, default="exclaim", help="the example to copy")
     which.add_argument("--remove", action="store_true", help="take the crates of the plugin NAME away")

@@ -1,6 +1,6 @@
 """Renews the program that the repository ships from the one that ./build or ./prove has built here.
 
-    tools/release-program [--check]
+    geanmarbles dev release-program [--check]
 
 Writes release/x86_64-linux/site.xz, release/manifest.json, which says what the program was built from and what proved
 it, and release/NOTICE, with the licences of the libraries of the toolchain that are linked in. This belongs into the
@@ -12,7 +12,6 @@ With --check nothing is written: the status is 0 if what is shipped has the sum 
 that release/ has had in the history are below 30 MB together.
 """
 
-import argparse
 import hashlib
 import json
 import lzma
@@ -170,7 +169,7 @@ def check() -> None:
 
 @quiet_output()
 def main() -> int:
-    parser = Parser(description=__doc__, formatter_class=argparse.RawDescriptionHelpFormatter)
+    parser = Parser(__doc__)
     parser.add_argument("--check", action="store_true", help="look at what is shipped, and write nothing")
     try:
         check() if parser.parse_args().check else renew()

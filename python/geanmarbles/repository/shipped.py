@@ -21,7 +21,7 @@ import tempfile
 from pathlib import Path
 from typing import Any, NamedTuple
 
-from geanmarbles.paths import BUILT_PROGRAM, CRATES, ROOT
+from geanmarbles.paths import BUILT_PROGRAM, CRATES, IS_CHECKOUT, ROOT
 from geanmarbles.repository.built import crates_of_program, is_built, is_current
 from geanmarbles.repository.crates import SOURCES, sum_of
 from geanmarbles.repository.sources import sum_of_sources
@@ -66,12 +66,12 @@ def read_manifest() -> Manifest:
 
 
 def differing(manifest: Manifest) -> list[str]:
-    """The crates of the program whose sources here aren't those that the shipped one is built from."""
-    here = crates_of_program()
+    """The crates of the program whose sources here aren't those of the shipped one. An installed package has none."""
+    here = crates_of_program() if IS_CHECKOUT else []
     found = [it for it in here if manifest.files.get(it) != sum_of(CRATES / it, SOURCES)]
     # Of the others it's looked at whether more than layout and comments differ, which takes longer.
     found = [it for it in found if manifest.sources.get(it) != sum_of_sources(str(CRATES / it))]
-    return sorted({*found, *(set(manifest.sources) - set(here))})
+    return sorted({*found, *(set(manifest.sources) - set(here))}) if IS_CHECKOUT else []
 
 
 def line_of(manifest: Manifest, differs: list[str]) -> str:
@@ -137,9 +137,10 @@ class Place(NamedTuple):
 
 
 def places(manifest: Manifest) -> list[Place]:
-    """In the checkout, and in the cache folder, which several checkouts share."""
+    """In the checkout, and in the cache folder, which several checkouts share, and installed packages use alone."""
     own, shared = UNPACKED / manifest.sum, cache_folder() / manifest.sum
-    return [Place(own / "site", own / "differs"), Place(shared / "site", shared / "of" / str(ROOT)[1:] / "differs")]
+    found = [Place(own / "site", own / "differs"), Place(shared / "site", shared / "of" / str(ROOT)[1:] / "differs")]
+    return found if IS_CHECKOUT else found[1:]
 
 
 def note(manifest: Manifest, place: Place) -> list[str]:

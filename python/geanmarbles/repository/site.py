@@ -9,7 +9,7 @@ Each line of standard input is a JSON command, and each gets a reply on standard
 
     --calls N        how many callbacks a page may call, 1 to 100000 [default: 10000]
     --cache N        how many texts are kept with their shortcodes found, 1 to 4096 [default: 64]
-    --trace          tells on standard error which callbacks run; examples/explain shows it as trees
+    --trace          tells on standard error which callbacks run; geanmarbles explain shows it as trees
     --database FILE  keeps the site in this SQLite database, which is made if it isn't there
     --export         prints lines that make the file's site, and serves nothing
     --compact        puts such lines in the place of the file's history, and serves nothing

@@ -121,8 +121,8 @@ LAST = "Types and the toolchain"
 INTRODUCTION = """# The theorem
 
 The clause by which the program is proved, and each definition that it rests on, as they are in the sources:
-`tools/index` makes this page of them, and `tests/links/run` fails if it isn't up to date. [PROOFS](PROOFS.md) has the
-premises, the other promises, and what is trusted.
+`geanmarbles dev theorem` makes this page of them, and `tests/links/run` fails if it isn't up to date.
+[PROOFS](PROOFS.md) has the premises, the other promises, and what is trusted.
 
 From [`serve_lines`]({source}), by which the program serves lines:
 

@@ -1,13 +1,12 @@
 """Checks that the titles of new commits are short.
 
-    tools/titles
+    geanmarbles dev titles
 
 Each commit of HEAD that origin doesn't have yet, or the last one if origin has them all or isn't known, has a title of
 at most 72 characters. Older ones may be longer, and those of merges are made by git. The titles that are too long are
 printed, and the exit status is then 1.
 """
 
-import argparse
 import subprocess
 
 from geanmarbles.arguments import Parser
@@ -28,7 +27,7 @@ def titles(*commits: str) -> list[list[str]]:
 
 
 def main() -> int:
-    parser = Parser(description=__doc__, formatter_class=argparse.RawDescriptionHelpFormatter)
+    parser = Parser(__doc__)
     parser.parse_args()
     is_known = git("for-each-ref", "--count=1", "refs/remotes/origin")
     new = titles("HEAD", "--not", "--remotes=origin") if is_known else []

@@ -1,7 +1,7 @@
-"""A site that is served, edited and read through what serves it: a node of a cluster, examples/browse, or for edits
-alone examples/serve.
+"""A site that is served, edited and read through what serves it: a node of a cluster, `geanmarbles browse`, or for
+edits alone `geanmarbles serve`.
 
-docs/CLUSTER.md has what a node takes and replies, and web.edit_requests what examples/browse takes besides.
+docs/CLUSTER.md has what a node takes and replies, and web.edit_requests what `geanmarbles browse` takes besides.
 """
 
 import contextlib
@@ -23,8 +23,8 @@ UNKNOWN = (502, 503, 504)
 # What each page of a node has, and no page of another server.
 OF_A_NODE = "X-Site-Revision"
 NO_HISTORY = (
-    "prints pages, and hands out no edits: `cluster/node --export` writes the lines of a cluster's site for a file as"
-    " SITE, and `examples/browse --token-file` hands out the edits of the site that it serves"
+    "prints pages, and hands out no edits: `geanmarbles node --export` writes the lines of a cluster's site for a file"
+    " as SITE, and `geanmarbles browse --token-file` hands out the edits of the site that it serves"
 )
 
 
@@ -40,7 +40,8 @@ def token_in(file: Path | None) -> str:
 
 
 def history_at(address: str, token: str) -> list[bytes]:
-    """The edits of a site that examples/browse serves, the oldest first: every line that was done, byte for byte."""
+    """The edits of a site that `geanmarbles browse` serves, the oldest first: every line that was done, byte for
+    byte."""
     head = {"Authorization": f"Bearer {token}"}
     asked = urllib.request.Request(f"{address.rstrip('/')}/history", headers=head)
     try:
@@ -67,8 +68,8 @@ def history_of(program: list[str], site: str, token_file: Path | None) -> list[b
 
 
 def keeps_keys(address: str) -> bool:
-    """Whether a cluster serves a site. It knows the key of an edit again, also after the end of a node; examples/browse
-    forgets it at its end, and the program over HTTP has none."""
+    """Whether a cluster serves a site. It knows the key of an edit again, also after the end of a node; geanmarbles
+    browse forgets it at its end, and the program over HTTP has none."""
     with contextlib.suppress(urllib.error.URLError, http.client.HTTPException, OSError):
         asked = urllib.request.Request(f"{address.rstrip('/')}/", method="HEAD")
         try:

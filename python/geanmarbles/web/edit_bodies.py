@@ -1,4 +1,5 @@
-"""What a request that brings edits may hold, and how its body is read: of a node of a cluster and of examples/browse.
+"""What a request that brings edits may hold, and how its body is read: of a node of a cluster and of geanmarbles
+browse.
 
 docs/CLUSTER.md (Requests) says the same to those who send one.
 """

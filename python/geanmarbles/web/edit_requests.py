@@ -1,4 +1,4 @@
-"""Edits that come to examples/browse by HTTP: who may make them, what a request may hold, and what became of it.
+"""Edits that come to `geanmarbles browse` by HTTP: who may make them, what a request may hold, and what became of it.
 
 A request and its response have the form that those of a node of a cluster have (docs/CLUSTER.md, Requests), so one
 client serves both:

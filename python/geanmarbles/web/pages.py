@@ -1,4 +1,4 @@
-"""Pages over HTTP: what examples/browse and cluster/node have in common, from a request to its response.
+"""Pages over HTTP: what `geanmarbles browse` and `geanmarbles node` have in common, from a request to its response.
 
 Each GET or HEAD becomes one line {"cmd":"get","path":PATH}, with the path and its query as the client sent them, and
 the page's status becomes the response's. What is no page is plain text:

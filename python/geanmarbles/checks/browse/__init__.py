@@ -1,1 +1,1 @@
-"""examples/browse, as a browser sees it."""
+"""`geanmarbles browse`, as a browser sees it."""

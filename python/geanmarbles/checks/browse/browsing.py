@@ -1,4 +1,4 @@
-"""examples/browse as a child process, and what its checks say if something came otherwise than it must.
+"""`geanmarbles browse` as a child process, and what its checks say if something came otherwise than it must.
 
 It is a module, and runs nothing by itself.
 """
@@ -19,7 +19,7 @@ from typing import Any, NamedTuple, Self
 
 from geanmarbles.client.program import pipe
 from geanmarbles.client.replies import Reply, Wrong, read_reply
-from geanmarbles.paths import EXAMPLES
+from geanmarbles.paths import GEANMARBLES
 
 SECONDS = 30
 # How long the programs of one that was killed may take to end.
@@ -69,7 +69,7 @@ def has_ended(pid: int) -> bool:
 
 
 class Browse:
-    """examples/browse, serving on a free port until the `with` block ends."""
+    """`geanmarbles browse`, serving on a free port until the `with` block ends."""
 
     def __init__(
         self,
@@ -79,7 +79,7 @@ class Browse:
         given: int | None = None,
     ) -> None:
         program_words = ["--program", program] if program else []
-        command = [EXAMPLES / "browse", *program_words, "--port", "0", *words]
+        command = [GEANMARBLES, "browse", *program_words, "--port", "0", *words]
         self.error_file = tempfile.TemporaryFile()
         how: dict[str, Any] = {
             "stdout": subprocess.PIPE,
@@ -174,7 +174,7 @@ class Browse:
 def ran(script: str, *words: object, env: dict[str, str] | None = None) -> tuple[int, str, str]:
     """A run of an example's script that must end by itself."""
     run = subprocess.run(
-        [str(EXAMPLES / script), *map(str, words)], capture_output=True, text=True, timeout=SECONDS, env=env
+        [GEANMARBLES, script, *map(str, words)], capture_output=True, text=True, timeout=SECONDS, env=env
     )
     return run.returncode, run.stdout, run.stderr
 

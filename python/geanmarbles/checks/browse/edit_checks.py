@@ -1,4 +1,5 @@
-"""Checks of edits that come to examples/browse by HTTP: who may make them, what is read of them, what becomes of them.
+"""Checks of edits that come to `geanmarbles browse` by HTTP: who may make them, what is read of them, what becomes of
+them.
 
 It is a module, and runs nothing by itself. Each check is a function, named by its first line.
 """

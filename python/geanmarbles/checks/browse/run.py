@@ -1,4 +1,4 @@
-"""Serves sites by examples/browse and asks for their pages.
+"""Serves sites by `geanmarbles browse` and asks for their pages.
 
     tests/browse/run [PROGRAM]
 
@@ -34,7 +34,7 @@ from geanmarbles.client.program import lines_of, pipe
 from geanmarbles.client.replies import Reply, Wrong, read_reply
 from geanmarbles.paths import EXAMPLES
 
-# How long examples/browse waits for a client.
+# How long geanmarbles browse waits for a client.
 STALLED_SECONDS = 10
 HTML = "text/html; charset=utf-8"
 NOTHING_FOUND = "/?p=6"

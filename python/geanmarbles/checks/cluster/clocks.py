@@ -31,7 +31,7 @@ def skewed():
 
 time.time, time.time_ns = skewed, lambda: int(1e9 * skewed())
 sys.dont_write_bytecode = True
-sys.argv = [{python!r}, "cluster/node", "node", *sys.argv[1:]]
+sys.argv = [{python!r}, "geanmarbles", "geanmarbles", *sys.argv[1:]]
 runpy.run_path({python!r}, run_name="__main__")
 """
 APART, JUMPS = ("3000", "-9000", "any"), (("-9000", "any", "3000"), ("any", "1", "-1"))
@@ -47,7 +47,7 @@ class Clocks:
     def set_clocks(self, days: Iterable[str]) -> None:
         """Starts each node anew under another clock, one after the other, so that two always serve."""
         path = executable(
-            self.cluster.folder, "skewed", SKEWED.format(python=str(Path(nodes.NODE).resolve().parents[1] / "python"))
+            self.cluster.folder, "skewed", SKEWED.format(python=str(Path(nodes.NODE).resolve().parent / "python"))
         )
         for node, more in zip(self.cluster.nodes, days):
             node.process.end()

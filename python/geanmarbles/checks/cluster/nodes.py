@@ -17,7 +17,7 @@ from geanmarbles.checks.cluster.etcd import COUNT, Members, Place, Witness
 from geanmarbles.checks.cluster.processes import Process, Processes, free_port, wait_for
 from geanmarbles.paths import ROOT
 
-NODE = ROOT / "cluster" / "node"
+NODE = ROOT / "geanmarbles"
 TOKEN = "a token of the test's own"
 # Starts the process that follows with a socket where systemd hands one over.
 HAND_OVER = """import os, sys
@@ -55,6 +55,7 @@ class Node:
         words = [
             *self.place.words,
             script or NODE,
+            "node",
             "--etcd",
             ",".join(self.cluster.members.urls),
             "--listen",

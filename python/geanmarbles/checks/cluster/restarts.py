@@ -375,7 +375,7 @@ def units(_: argparse.Namespace) -> None:
         raise Skipped("there is no systemd-analyze here")
     with tempfile.TemporaryDirectory() as folder:
         for unit in (*EXAMPLES.glob("cluster/*.service"), *EXAMPLES.glob("cluster/*.socket")):
-            text = unit.read_text(encoding="utf-8").replace("/opt/site/cluster/node", "/bin/true")
+            text = unit.read_text(encoding="utf-8").replace("/opt/site/geanmarbles", "/bin/true")
             Path(folder, unit.name).write_text(text.replace("/usr/bin/etcd", "/bin/true"), encoding="utf-8")
         names = sorted(it.name for it in Path(folder).iterdir())
         must("site-node.socket" in names, f"the units are {names}")

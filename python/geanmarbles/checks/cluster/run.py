@@ -2,8 +2,9 @@
 
     tests/cluster/run [--rounds N] [--seed N] [--part NAME] [--verbose] [--node NODE] [PROGRAM]
 
-PROGRAM is the one that is here, built or shipped, if it is left out, and NODE cluster/node. Three members of etcd and
-three nodes are started for each check, or for a few rounds. The parts, three at a time, or one of them with --part:
+PROGRAM is the one that is here, built or shipped, if it is left out, and NODE the script geanmarbles. Three members of
+etcd and three nodes are started for each check, or for a few rounds. The parts, three at a time, or one of them with
+--part:
 
 - steady: what a node takes and refuses, keys that are given again, what reads promise, and starts;
 - faults: N rounds, 12 if N is left out, in which SIGKILL ends, or SIGSTOP stops for some time, members, nodes and their

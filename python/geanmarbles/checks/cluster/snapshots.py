@@ -172,7 +172,7 @@ class Snapshots:
 
     def exports(self) -> None:
         """what a node prints with --export makes the same site, in a program alone and under another name"""
-        words = [nodes.NODE, "--etcd", ",".join(self.cluster.members.urls), "--program", self.cluster.program]
+        words = [nodes.NODE, "node", "--etcd", ",".join(self.cluster.members.urls), "--program", self.cluster.program]
         ran = subprocess.run([*map(str, words), "--export"], capture_output=True, timeout=SECONDS)
         must(ran.returncode == 0, f"it ended with status {ran.returncode} and {ran.stderr[-200:]!r}")
         wanted, lines = pages_of(self.nodes[0]), ran.stdout.splitlines()

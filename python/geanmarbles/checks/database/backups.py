@@ -1,5 +1,5 @@
-"""What examples/backup copies while a program serves the file: every edit that was replied to before, and a site as it
-was at a moment; and when it makes no backup."""
+"""What `geanmarbles backup` copies while a program serves the file: every edit that was replied to before, and a site
+as it was at a moment; and when it makes no backup."""
 
 import contextlib
 import hashlib
@@ -88,7 +88,7 @@ class Backups:
         replies(program, [LARGE] * MANY, *over(self.large))
 
     def begin(self, file: Path, *options: str) -> subprocess.Popen[str]:
-        words = [*command("examples/backup"), "--program", self.program, *options, str(file), str(self.out)]
+        words = [*command("geanmarbles"), "backup", "--program", self.program, *options, str(file), str(self.out)]
         return subprocess.Popen(words, stdout=subprocess.PIPE, stderr=subprocess.PIPE, text=True)
 
     def makes(self, running: subprocess.Popen[str]) -> list[bytes]:

@@ -1,5 +1,5 @@
-"""What examples/salvage saves of damaged files: the edits that are sound, in order; the others are named, and the files
-stay as they are."""
+"""What `geanmarbles salvage` saves of damaged files: the edits that are sound, in order; the others are named, and the
+files stay as they are."""
 
 import os
 import re
@@ -84,7 +84,7 @@ class Salvaged:
         with tempfile.TemporaryDirectory() as folder:
             copy = copied(file, folder) if file.is_file() else file
             start = run(program or self.program, None, *over(copy, "--check"))
-        words = [*command("examples/salvage"), "--program", program or self.program, str(file), str(out)]
+        words = [*command("geanmarbles"), "salvage", "--program", program or self.program, str(file), str(out)]
         ran = subprocess.run(words, capture_output=True, text=True, timeout=SECONDS)
         if both(file) != before:
             raise Wrong("FILE or FILE-wal is another")

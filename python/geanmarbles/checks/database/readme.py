@@ -41,7 +41,8 @@ def wait_for(file: Path, wanted: str) -> None:
 def tried(program: str) -> None:
     """Gives a shell the commands one by one, each once what the one before it shows is there."""
     with tempfile.TemporaryDirectory() as folder:
-        Path(folder, "examples").symlink_to(ROOT / "examples")
+        for name in ("examples", "geanmarbles"):
+            Path(folder, name).symlink_to(ROOT / name)
         executable(folder, "site", f'#!/bin/sh\nexec {program!r} "$@"\n')
         output, shown = Path(folder, "output"), ""
         with output.open("wb") as file:

@@ -27,13 +27,14 @@ reads a copy of FILE and FILE-wal. The parts, in this order, or some of them, ea
   at a moment. That isn't the newer one of the two only if both are of one moment, if FILE-wal has no commit, or if its
   last one leaves the database no shorter than FILE and it is of a moment before FILE's, or of another site; how often
   is printed;
-- salvage: examples/salvage over files with lines that were changed or are gone, a page that was overwritten, a log that
-  was turned or cut, files that were cut or set to zero, and sound ones: all sound edits are saved, what is left is
+- salvage: `geanmarbles salvage` over files with lines that were changed or are gone, a page that was overwritten, a log
+  that was turned or cut, files that were cut or set to zero, and sound ones: all sound edits are saved, what is left is
   named, what a start says is told, and the files stay as they are;
 - check: --check and --export tell how many edits a file has, and their digest, as Python's hashlib finds it, and copy
-  nothing into FILE; files that are refused are left as they are; and the mode of new files. examples/backup, 33 times
-  while a client edits: all edits that were replied to before it are there, and the front is the site's after the last
-  of them; so it is if FILE-wal is copied into FILE amid a backup. What it can't copy or a start refuses is no backup;
+  nothing into FILE; files that are refused are left as they are; and the mode of new files. `geanmarbles backup`, 33
+  times while a client edits: all edits that were replied to before it are there, and the front is the site's after the
+  last of them; so it is if FILE-wal is copied into FILE amid a backup. What it can't copy or a start refuses is no
+  backup;
 - replaced: FILE or FILE-wal is removed or replaced while the program has it: the program ends by name at the next line,
   which isn't carried out;
 - readme: the README's own example, with its `kill -9`;

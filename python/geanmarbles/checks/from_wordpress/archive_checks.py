@@ -32,7 +32,7 @@ from geanmarbles.checks.judging import Skipped, must
 from geanmarbles.checks.parts import PATH
 from geanmarbles.client.program import pipe
 from geanmarbles.client.replies import Wrong
-from geanmarbles.paths import EXAMPLES, TESTS
+from geanmarbles.paths import EXAMPLES, GEANMARBLES, TESTS
 from geanmarbles.wordpress.addresses import path_or_none, slug_of
 from geanmarbles.wordpress.harmless import harmless
 from geanmarbles.wordpress.items import unserialized
@@ -40,6 +40,7 @@ from geanmarbles.wordpress.texts import QUOTES, paragraphs, texturize, with_char
 from geanmarbles.wordpress.words import formatted
 
 HERE = TESTS / "from_wordpress"
+IMPORT = [GEANMARBLES, "import", "wordpress"]
 SECONDS = 120
 SITES = ("pottery", "fournil")
 WHOLE = HERE / "whole"
@@ -74,9 +75,9 @@ def shown_lines(title: str, parts: list[str]) -> list[str]:
 
 def imported(export: Path, *arguments: str) -> tuple[list[dict[str, Any]], str]:
     """The commands of an export, and the report."""
-    words = [str(EXAMPLES / "from_wordpress"), *arguments, str(export)]
+    words = [*IMPORT, *arguments, str(export)]
     ran = subprocess.run(words, capture_output=True, timeout=SECONDS, check=False)
-    must(ran.returncode == 0, f"from_wordpress ended with status {ran.returncode}: {ran.stderr.decode()[-400:]}")
+    must(ran.returncode == 0, f"it ended with status {ran.returncode}: {ran.stderr.decode()[-400:]}")
     return [json.loads(it) for it in ran.stdout.splitlines()], ran.stderr.decode()
 
 
@@ -179,7 +180,8 @@ class Archive:
     def publish(self, *arguments: str, status: int = 0) -> str:
         """Writes the archive, and returns what was said."""
         words: list[str | Path] = [
-            EXAMPLES / "publish",
+            GEANMARBLES,
+            "publish",
             "--program",
             self.program,
             *self.more,
@@ -374,7 +376,7 @@ def check_arguments() -> None:
         templates = Path(folder, "templates.json")
         templates.write_text('{"index":[{"site":"no_such_text"}]}', encoding="utf-8")
         for words in (["--plugin-tags", "a, b"], ["--plugin-tags", ""], ["--templates", str(templates)]):
-            ran = subprocess.run([EXAMPLES / "from_wordpress", *words, WHOLE / "pottery.xml"], capture_output=True)
+            ran = subprocess.run([*IMPORT, *words, WHOLE / "pottery.xml"], capture_output=True)
             must((ran.returncode, ran.stdout) == (2, b""), f"{words} isn't refused: {ran.stderr[-200:]!r}")
 
 
@@ -497,9 +499,9 @@ def check_fetch_faults() -> None:
         ]
         given += [["--fetch", room]]
         for words in given:
-            ran = subprocess.run([EXAMPLES / "from_wordpress", *words, export], capture_output=True, check=False)
+            ran = subprocess.run([*IMPORT, *words, export], capture_output=True, check=False)
             must(ran.returncode == 2 and not ran.stdout, f"{words}: status {ran.returncode}, {ran.stderr[-300:]!r}")
-            must(b"\nfrom_wordpress: " in b"\n" + ran.stderr, f"{words}: {ran.stderr[-300:]!r}")
+            must(b"\nimport wordpress: " in b"\n" + ran.stderr, f"{words}: {ran.stderr[-300:]!r}")
             left = [it for it in Path(room, "dir").rglob("*") if it.is_file()]
             must(not left, f"{words}: {left} are there")
 

@@ -19,7 +19,7 @@ from geanmarbles.checks.browse.browsing import Browse
 from geanmarbles.checks.from_wordpress.archive_checks import SECONDS
 from geanmarbles.checks.judging import must
 from geanmarbles.client.program import pipe
-from geanmarbles.paths import EXAMPLES
+from geanmarbles.paths import GEANMARBLES
 
 EDITS = (
     {"cmd": "put", "title": "Rye", "content": "a\nb", "date": "2024-04-02 06:00:00"},
@@ -60,17 +60,17 @@ class Kept:
         self.room.cleanup()
 
     def run(self, script: str, *words: str | Path, status: int = 0) -> str:
-        """Runs a script of examples/ and returns what it wrote, or the reason if it is to fail."""
-        words = (EXAMPLES / script, "--program", self.program, *words)
+        """Runs a command and returns what it wrote, or the reason if it is to fail."""
+        words = (GEANMARBLES, *script.split(), "--program", self.program, *words)
         ran = subprocess.run(words, capture_output=True, text=True, timeout=SECONDS, check=False)
         must(ran.returncode == status, f"{script} ended with status {ran.returncode}: {ran.stderr[-300:]}")
         return ran.stdout if status == 0 else ran.stderr
 
-    def post(self, *words: str | Path, status: int = 0) -> str:
-        return self.run("post", self.database, *words, status=status)
+    def post(self, verb: str, *words: str | Path, status: int = 0) -> str:
+        return self.post_at(str(self.database), verb, *words, status=status)
 
-    def post_at(self, site: str, *words: str | Path, status: int = 0) -> str:
-        return self.run("post", site, *words, status=status)
+    def post_at(self, site: str, verb: str, *words: str | Path, status: int = 0) -> str:
+        return self.run(f"post {verb}", site, *words, status=status)
 
     def file(self, text: str) -> Path:
         path = Path(self.room.name, "post.txt")
@@ -119,14 +119,17 @@ def check_typos(program: Path) -> None:
         empty, new = Path(folder, "empty.db"), kept.file("title: x\ndate: 2024-05-01 00:00:00\n\ny")
         empty.touch()
         for site, why in ((Path(folder, "typo.db"), "no"), (empty, "empty")):
-            given: dict[str, list[tuple[str | Path, ...]]] = {
-                "post": [("list",), ("get", "1"), ("set", "1", new), ("new", new)],
-                "history": [("1",)],
-                "undo": [(f"{folder}/new.db",)],
+            given: dict[str, tuple[str | Path, ...]] = {
+                "post list": (),
+                "post get": ("1",),
+                "post set": ("1", new),
+                "post new": (new,),
+                "history": ("1",),
+                "undo": (f"{folder}/new.db",),
             }
-            for script, words in [(script, words) for script, all_words in given.items() for words in all_words]:
+            for script, words in given.items():
                 said = kept.run(script, site, *words, status=1)
-                must(why in said and said.count("\n") == 1, f"{script} {words[0]} of {site.name}: {said!r}")
+                must(why in said and said.count("\n") == 1, f"{script} of {site.name}: {said!r}")
         must([it.name for it in Path(folder).iterdir()] == ["empty.db"], f"there is {[*Path(folder).iterdir()]}")
         must(empty.stat().st_size == 0, "the empty file has become a site")
 
@@ -219,18 +222,18 @@ def check_served(program: Path) -> None:
         token.write_text("secret\n", encoding="ascii")
         words: list[str | Path] = ["--token-file", token, address]
         new = kept.file("title: Rye\ndate: 2024-05-01 00:00:00\n\nx\n")
-        must(kept.run("post", *words, "new", new) == "1\n", "a new post has no ID")
-        must(kept.run("post", *words, "set", "1", kept.file("title: Corn\n\ny")) == "", "an edit says something")
-        must("refused 3" in kept.run("post", *words, "set", "2", new, status=1), "a refusal isn't told")
+        must(kept.run("post new", *words, new) == "1\n", "a new post has no ID")
+        must(kept.run("post set", *words, "1", kept.file("title: Corn\n\ny")) == "", "an edit says something")
+        must("refused 3" in kept.run("post set", *words, "2", new, status=1), "a refusal isn't told")
         must(len(node.lines) == 3, f"the node has made {len(node.lines)} edits, wanted 3")
         must("--token-file" in kept.post_at(address, "set", "1", new, status=1), "without a token it asks the node")
         must("--token-file" in kept.post_at(address, "list", status=1), "without a token it asks the node for posts")
-        must("--export" in kept.run("post", *words, "list", status=1), "a node has no posts")
+        must("--export" in kept.run("post list", *words, status=1), "a node has no posts")
         token.write_text("other", encoding="ascii")
-        must("401: the token" in kept.run("post", *words, "set", "1", new, status=1), "a wrong token isn't told")
+        must("401: the token" in kept.run("post set", *words, "1", new, status=1), "a wrong token isn't told")
         token.write_text("secret", encoding="ascii")
         node.is_down = True
-        said = kept.run("post", *words, "set", "1", new, status=1)
+        said = kept.run("post set", *words, "1", new, status=1)
         must("isn't known" in said and "503: etcd-unreachable" in said, f"a node that can't edit: {said!r}")
         node.shutdown()
         line = kept.post_at("-", "set", "1", kept.file('title: "A\\nb"\n\ny'))
@@ -277,22 +280,23 @@ def handed_on(one: socket.socket, other: socket.socket) -> None:
 
 
 def check_lost_responses(program: Path) -> None:
-    """An edit whose response is lost is sent once to examples/serve and to examples/browse, and isn't known."""
+    """An edit whose response is lost is sent once to `geanmarbles serve` and to `geanmarbles browse`, and isn't
+    known."""
     for name in ("serve", "browse"):
         with Kept(program) as kept:
             token, new = Path(kept.room.name, "token"), kept.file("title: Lost\ndate: 2024-05-01 00:00:00\n\nx\n")
             token.write_text("secret", encoding="ascii")
-            words: list[str | Path] = [EXAMPLES / name, "--program", program, "--port", "0"]
+            words: list[str | Path] = [GEANMARBLES, name, "--program", program, "--port", "0"]
             words += ["--database", kept.database, "--token-file", token]
             with subprocess.Popen(words, stdout=subprocess.PIPE, stderr=subprocess.DEVNULL) as running:
                 port = int(pipe(running.stdout).readline().decode().rstrip("/\n").rpartition(":")[2])
                 with Losing(("127.0.0.1", port)) as losing:
                     address = f"http://127.0.0.1:{losing.server_address[1]}/"
-                    asked: list[str | Path] = ["--token-file", token, address, "new", new]
-                    said = kept.run("post", *asked, status=1)
+                    asked: list[str | Path] = ["--token-file", token, address, new]
+                    said = kept.run("post new", *asked, status=1)
                     must("isn't known" in said and said.count("\n") == 1, f"{name}: {said!r}")
                     must(losing.edits == 1, f"{name}: the edit was sent {losing.edits} times")
-                    must(kept.run("post", *asked) == "4\n", f"{name}: the next post has another ID")
+                    must(kept.run("post new", *asked) == "4\n", f"{name}: the next post has another ID")
                     losing.shutdown()
                 running.terminate()
                 must(running.wait(SECONDS) == 0, f"{name}: the status")
@@ -300,15 +304,15 @@ def check_lost_responses(program: Path) -> None:
 
 
 def check_browsed(program: Path) -> None:
-    """A file that examples/browse serves is read and edited through it as the file is when nothing serves it."""
+    """A file that `geanmarbles browse` serves is read and edited through it as the file is when nothing serves it."""
     with Kept(program) as kept:
         token, new = Path(kept.room.name, "token"), Path(kept.room.name, "new.db")
         token.write_text("secret\n", encoding="ascii")
         posts, post, versions = kept.post("list"), kept.post("get", "1"), kept.run("history", kept.database, "1")
         with Browse(program, "--database", str(kept.database), "--token-file", token) as browse:
             site: list[str | Path] = ["--token-file", token, f"http://127.0.0.1:{browse.port}/"]
-            must(kept.run("post", *site, "list") == posts, "through browse other posts are listed")
-            must(kept.run("post", *site, "get", "1") == post, "through browse the post is another")
+            must(kept.run("post list", *site) == posts, "through browse other posts are listed")
+            must(kept.run("post get", *site, "1") == post, "through browse the post is another")
             must(kept.run("history", *site, "1") == versions, "through browse there are other versions")
             said = kept.post("list", status=1)
             must(
@@ -316,45 +320,45 @@ def check_browsed(program: Path) -> None:
                 f"of the file it says {said!r}",
             )
             edited = kept.file("title: Corn\n\ny\n")
-            must(kept.run("post", *site, "set", "1", edited) == "", "an edit says something")
+            must(kept.run("post set", *site, "1", edited) == "", "an edit says something")
             must(b"<h2>Corn</h2>y" in browse.ask("/?p=1").body, "the page isn't the one after the edit")
             new_post = kept.file("title: Oats\ndate: 2024-05-01 00:00:00\nstatus: draft\n\nz\n")
-            must(kept.run("post", *site, "new", new_post) == "3\n", "a new post has another ID")
-            must("3\tpost\tdraft\t2024-05-01 00:00:00\tOats\n" in kept.run("post", *site, "list"), "it isn't listed")
+            must(kept.run("post new", *site, new_post) == "3\n", "a new post has another ID")
+            must("3\tpost\tdraft\t2024-05-01 00:00:00\tOats\n" in kept.run("post list", *site), "it isn't listed")
             left = kept.run("undo", *site, new)
             must(json.loads(left)["title"] == "Oats", f"what is left out is {left!r}")
             check_browse_refuses(kept, site, browse)
-            whole = kept.run("post", *site, "list")
+            whole = kept.run("post list", *site)
         must(kept.post("list") == whole, "the file has other posts than what served it")
-        undone = kept.run("post", new, "list")
+        undone = kept.run("post list", new)
         must("Corn" in undone and "Oats" not in undone, f"without the last edit there is {undone!r}")
 
 
 def check_browse_refuses(kept: Kept, site: list[str | Path], browse: Browse) -> None:
-    """What isn't taken through examples/browse ends with a reason, and changes nothing."""
-    before, others = kept.run("post", *site, "list"), Path(kept.room.name, "other")
+    """What isn't taken through `geanmarbles browse` ends with a reason, and changes nothing."""
+    before, others = kept.run("post list", *site), Path(kept.room.name, "other")
     others.write_text("other", encoding="ascii")
     head = "title: Rye\ndate: 2024-05-01 00:00:00\n\n"
-    given: tuple[tuple[list[str | Path], str, str], ...] = (
-        ([*site, "set", "9"], head, "refused 3 NoSuchPost"),
-        ([*site, "set", "1"], "date: today\n\nz", "refused 5 BadDate"),
-        ([*site, "new"], head + "x" * 524_289, "refused 8 TooLarge"),
-        ([*site, "new"], head + "x" * (1 << 21), "400: line 1: it has"),
-        ([*site, "new"], head + "x" * (9 << 20), "413: the body has"),
-        (["--token-file", others, site[2], "new"], head, "401: the token"),
-        ([site[2], "new"], head, "--token-file"),
+    given: tuple[tuple[str, list[str | Path], str, str], ...] = (
+        ("set", [*site, "9"], head, "refused 3 NoSuchPost"),
+        ("set", [*site, "1"], "date: today\n\nz", "refused 5 BadDate"),
+        ("new", site, head + "x" * 524_289, "refused 8 TooLarge"),
+        ("new", site, head + "x" * (1 << 21), "400: line 1: it has"),
+        ("new", site, head + "x" * (9 << 20), "413: the body has"),
+        ("new", ["--token-file", others, site[2]], head, "401: the token"),
+        ("new", [site[2]], head, "--token-file"),
     )
-    for words, text, reason in given:
-        said = kept.run("post", *words, kept.file(text), status=1)
-        must(reason in said and said.count("\n") == 1, f"{words[-1]}, {text[:20]!r}: {said!r}")
-    for script, word in (("post", "list"), ("history", "1"), ("undo", f"{kept.room.name}/none.db")):
-        said = kept.run(script, "--token-file", others, site[2], word, status=1)
+    for verb, words, text, reason in given:
+        said = kept.run(f"post {verb}", *words, kept.file(text), status=1)
+        must(reason in said and said.count("\n") == 1, f"{verb}, {text[:20]!r}: {said!r}")
+    for script, *more in (["post list"], ["history", "1"], ["undo", f"{kept.room.name}/none.db"]):
+        said = kept.run(script, "--token-file", others, site[2], *more, status=1)
         must("refuses with 401" in said, f"{script} with another token: {said!r}")
     must("has had no post" in kept.run("history", *site, "7", status=1), "a post that never was has versions")
     must("edits, and not 99" in kept.run("undo", *site, f"{kept.room.name}/none.db", "99", status=1), "99 are undone")
-    must(kept.run("post", *site, "list") == before, "what was refused has changed something")
-    nowhere: list[str | Path] = ["--token-file", others, "http://127.0.0.1:1/", "list"]
-    must("refused" in kept.run("post", *nowhere, status=1), "an address where nothing is has posts")
+    must(kept.run("post list", *site) == before, "what was refused has changed something")
+    nowhere: list[str | Path] = ["--token-file", others, "http://127.0.0.1:1/"]
+    must("refused" in kept.run("post list", *nowhere, status=1), "an address where nothing is has posts")
 
 
 def check_history(program: Path) -> None:
@@ -382,7 +386,7 @@ def check_undo(program: Path) -> None:
         must(
             "has 5 edits" in kept.run("undo", kept.database, f"{new}.2", "6", status=1), "more is undone than was done"
         )
-        listed = kept.run("post", new, "list")
+        listed = kept.run("post list", new)
         must("\tRye\n" in listed and '\t"Two\\nlines"\n' in listed, f"the new file has {listed!r}")
 
 
@@ -394,6 +398,6 @@ def checks(program: Path) -> Iterator[tuple[Any, ...]]:
     yield "posts of a path where no site is", check_typos, program
     yield "posts of a site that a node serves", check_served, program
     yield "posts whose response is lost", check_lost_responses, program
-    yield "posts of a site that examples/browse serves", check_browsed, program
+    yield "posts of a site that geanmarbles browse serves", check_browsed, program
     yield "versions of a post", check_history, program
     yield "edits taken back", check_undo, program

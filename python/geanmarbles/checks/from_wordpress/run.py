@@ -1,4 +1,4 @@
-"""Turns exports into commands by examples/from_wordpress, runs the program over them, and writes archives.
+"""Turns exports into commands by `geanmarbles import wordpress`, runs the program over them, and writes archives.
 
     tests/from_wordpress/run [--part NAME ..] [--wordpress DIR] [PROGRAM]
 
@@ -11,19 +11,20 @@ lead to each published post and to nothing that isn't found. Further exports are
 take no time in the square of the depth. Last come arguments and templates that must be refused.
 
 The exports in whole/ are those of sites that WordPress's own code has made. Each must give the lines of text that
-WordPress showed, and examples/publish an archive with a page or a redirect at each of its public addresses, in which
-nothing of a draft, a private or a protected post is found, and every link leads somewhere; a second run must print
-nothing, and edits only what they reach: after random ones an archive is, to the byte, what a run from nothing makes.
+WordPress showed, and `geanmarbles publish` an archive with a page or a redirect at each of its public addresses, in
+which nothing of a draft, a private or a protected post is found, and every link leads somewhere; a second run must
+print nothing, and edits only what they reach: after random ones an archive is, to the byte, what a run from nothing
+makes.
 
 Typography and paragraphs must be those that WordPress's functions made, as `record` has recorded them. If PHP and a
 WordPress in DIR, /usr/share/wordpress if it is left out, are there, random texts are compared with these functions too.
 
-Last come examples/post, history and undo: posts of a site in a file as files, also through examples/browse, which
-serves it, and through what stands for a node of a cluster; their versions; and edits taken back.
+Last come `geanmarbles post`, history and undo: posts of a site in a file as files, also through `geanmarbles browse`,
+which serves it, and through what stands for a node of a cluster; their versions; and edits taken back.
 
 The parts are, in this order, or some of them, each after a --part: `exports`; `archives`, of the sites in whole/;
-`editors`, of examples/post, history and undo; and, each where it is installed, `wordpress` and `nginx`, which also has
-archives served by apache2, where that is.
+`editors`, of `geanmarbles post`, history and undo; and, each where it is installed, `wordpress` and `nginx`, which also
+has archives served by apache2, where that is.
 
 The last line is 'N passed, M failed', over the checks. The exit status is 0 if none failed.
 """
@@ -52,7 +53,7 @@ from geanmarbles.wordpress.addresses import Places
 from geanmarbles.wordpress.items import WholeSite, read_site
 
 HERE = TESTS / "from_wordpress"
-SCRIPT = ROOT / "examples" / "from_wordpress"
+SCRIPT = [str(ROOT / "geanmarbles"), "import", "wordpress"]
 TEMPLATES = HERE / "templates.json"
 SECONDS = 60
 LINE_BYTES = 1_048_576
@@ -70,7 +71,7 @@ def converted(export: tuple[str, bytes], *arguments: str | Path) -> tuple[int, b
     """Runs the script over an export, given by name and bytes: its status, its commands and its report."""
     with tempfile.TemporaryDirectory() as folder:
         Path(folder, export[0]).write_bytes(export[1])
-        words = [SCRIPT, *arguments, export[0]]
+        words = [*SCRIPT, *arguments, export[0]]
         ran = subprocess.run(words, cwd=folder, capture_output=True, timeout=SECONDS)
     return ran.returncode, ran.stdout, ran.stderr.decode()
 
@@ -93,7 +94,7 @@ def check_case(path: Path) -> None:
         must(whole[:2] == (status, commands), "--all changes the commands or the status")
     wanted = path.with_suffix(".jsonl")
     differs("the commands", expanded(wanted).decode() if wanted.is_file() else "", commands.decode())
-    refused = report.startswith("from_wordpress: ")
+    refused = report.startswith("import wordpress: ")
     due = 2 if refused else 0 if commands else 1
     must(status == due, f"it ended with status {status}, wanted {due}")
 

@@ -24,9 +24,9 @@ Each edit is named in one of these pages. Each type, function of a type, source,
 other name with an underscore that these pages have is in the crate itself, in one that it depends on, or in one that
 the same paragraph or row names.
 
-docs/THEOREM.md and what is made in docs/ARCHITECTURE.md are what tools/index makes now, and each definition in THEOREM
-has a comment. The functions that README.md names with clauses have them, and it has no more than 120 lines. Each edit
-that docs/BEHAVIOUR.md names changes a function that the program reaches, or a law.
+docs/THEOREM.md and what is made in docs/ARCHITECTURE.md are what `geanmarbles dev theorem` makes now, and each
+definition in THEOREM has a comment. The functions that README.md names with clauses have them, and it has no more than
+120 lines. Each edit that docs/BEHAVIOUR.md names changes a function that the program reaches, or a law.
 
 No line of text is longer than 120 columns, and none ends early in the middle of a paragraph; the glossary has each word
 once.
@@ -41,7 +41,6 @@ A line is printed for each thing that is missing. The last line is 'N passed, M 
 status is 0 if nothing is missing.
 """
 
-import argparse
 import os
 import re
 import subprocess
@@ -305,7 +304,7 @@ def check_made(checks: Checks) -> None:
     """The pages that are made of the sources are up to date, and a comment says what each definition there is."""
     other = index.stale()
     for page in index.pages():
-        checks.check(page not in other, page, "isn't what tools/index makes of the sources: run it")
+        checks.check(page not in other, page, "isn't what geanmarbles dev theorem makes of the sources: run it")
     for name in theorem.without_comment():
         checks.check(False, theorem.PAGE, f"no comment says what {name} is")
 
@@ -365,7 +364,7 @@ def check_all() -> tuple[int, int]:
 
 
 def main() -> None:
-    Parser(description=__doc__, formatter_class=argparse.RawDescriptionHelpFormatter).parse_args()
+    Parser(__doc__).parse_args()
     passed, failed = check_all()
     print(f"{passed} passed, {failed} failed")
     sys.exit(bool(failed))

@@ -159,7 +159,7 @@ def gives_up(program: str) -> None:
             said = serve.process.said()
             must(said.endswith("serve: the program has ended with status 3, 5 times in a row\n"), f"it said {said!r}")
         program = str(executable(folder, "false", "#!/bin/sh\nexit 4\n"))
-        words = [*command("examples/serve"), "--port", "0", "--database", str(Path(folder, "new.db"))]
+        words = [*command("geanmarbles"), "serve", "--port", "0", "--database", str(Path(folder, "new.db"))]
         ran = subprocess.run([*words, "--program", program], capture_output=True, text=True, timeout=SECONDS)
         same((ran.returncode, ran.stdout), (1, ""), "its end")
         same(ran.stderr, "serve: the program has ended with status 4\n", "what it said")
@@ -170,7 +170,7 @@ def noticed(_program: str) -> None:
     for name, said in NOISE.items():
         with tempfile.TemporaryDirectory() as folder:
             noise = str(executable(folder, "noise", CHATTER.format(said)))
-            words = [*command("examples/serve"), "--port", "0", "--database", str(Path(folder, "new.db"))]
+            words = [*command("geanmarbles"), "serve", "--port", "0", "--database", str(Path(folder, "new.db"))]
             ran = subprocess.run([*words, "--program", noise], capture_output=True, text=True, timeout=SECONDS)
             must(ran.returncode == 1 and ran.stderr.startswith("serve: the program has ended with "), f"{name}: {ran}")
 
@@ -228,7 +228,7 @@ def of_a_port(program: str) -> None:
     """a port that is taken is told, and nothing is served or fed"""
     with Serve(program) as serve, tempfile.TemporaryDirectory() as folder:
         file = Path(folder, "other.db")
-        words = [*command("examples/serve"), "--program", program, "--port", str(serve.address[1])]
+        words = [*command("geanmarbles"), "serve", "--program", program, "--port", str(serve.address[1])]
         ran = subprocess.run([*words, "--database", str(file)], capture_output=True, text=True, timeout=SECONDS)
         said = f"serve: port {serve.address[1]} is taken\n"
         same((ran.returncode, ran.stdout, ran.stderr, file.exists()), (1, "", said, False), "another one at the port")
@@ -300,7 +300,7 @@ def of_a_command_file(program: str) -> None:
     with tempfile.TemporaryDirectory() as folder:
         commands, file = Path(folder, "site.jsonl"), Path(folder, "site.db")
         commands.write_bytes(PUT % b"Rye" + b"\n")
-        words = [*command("examples/serve"), "--program", program, "--port", "0", str(commands)]
+        words = [*command("geanmarbles"), "serve", "--program", program, "--port", "0", str(commands)]
         for more in ((), ("--database", str(file), "--new")):
             same(served_by([*words, *more]), RYE, f"the page with {more}")
         same(history(file)[1:], [PUT % b"Rye"], "the history")

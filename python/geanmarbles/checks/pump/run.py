@@ -1,4 +1,4 @@
-"""Serves many clients: the program over frames, and examples/serve, which moves them.
+"""Serves many clients: the program over frames, and `geanmarbles serve`, which moves them.
 
     tests/pump/run [--part NAME ..] [PROGRAM]
 
@@ -6,8 +6,8 @@ PROGRAM is the one that is here, built or shipped, if it is left out. The parts 
 
     frames     each exchange of tests/http between others on one stream, cut into frames and writes in many ways; what
                each of several clients gets; numbers, limits, kills, and commits that fail
-    clients    the same exchanges through examples/serve; clients that are slow, stall, are reset, send nothing more, or
-               are many: hundreds and, where there may be so many files, 10,000 that are idle
+    clients    the same exchanges through `geanmarbles serve`; clients that are slow, stall, are reset, send nothing
+               more, or are many: hundreds and, where there may be so many files, 10,000 that are idle
     endings    programs that are killed, stop, or can't be started; the end by a signal; where it listens
     front      requests that two servers may read in two ways
     nginx, haproxy, curl, h11

@@ -1,4 +1,4 @@
-"""examples/serve as a process, and what its clients do."""
+"""`geanmarbles serve` as a process, and what its clients do."""
 
 from __future__ import annotations
 
@@ -24,7 +24,7 @@ BRIEF = 2
 
 
 class Serve:
-    """examples/serve over a site in a file, for a `with` block."""
+    """`geanmarbles serve` over a site in a file, for a `with` block."""
 
     def __init__(self, program: str, *words: str, database: Path | None = None, begun: bool = True) -> None:
         """`begun` has a client make the first post."""
@@ -36,7 +36,7 @@ class Serve:
         token.write_text(TOKEN, encoding="utf-8")
         kept = ["--database", str(self.database), "--new", "--token-file", str(token)]
         where = [] if {"--port", "--unix"} & set(words) else ["--port", "0"]
-        self.words = [*command("examples/serve"), "--program", program, *kept, *where, *words]
+        self.words = [*command("geanmarbles"), "serve", "--program", program, *kept, *where, *words]
 
     def __enter__(self) -> Self:
         try:

@@ -42,7 +42,7 @@ def test_the_options_of_a_node_are_read_exactly() -> None:
 
 def read_of_a_node(*words: str) -> argparse.Namespace | str:
     """The arguments of a node, or the last line that refuses them."""
-    before, sys.argv = sys.argv, ["cluster/node", "--etcd", "http://a:1", *words]
+    before, sys.argv = sys.argv, ["geanmarbles node", "--etcd", "http://a:1", *words]
     said = io.StringIO()
     try:
         with contextlib.redirect_stderr(said):
@@ -79,6 +79,4 @@ def test_a_fault_of_arguments_names_the_command_as_it_was_typed() -> None:
             status = raised(SystemExit, lambda: Parser().parse_args(["--nope"])).code
     finally:
         sys.argv[0] = before
-    assert status == 2 and said.getvalue().startswith("usage: ./some/where/it ")
-    assert said.getvalue().endswith("it: error: unrecognized arguments: --nope\n")
-    assert "\n./some" not in said.getvalue()
+    assert status == 2 and said.getvalue() == "it: unrecognized arguments: --nope; --help says more\n"
