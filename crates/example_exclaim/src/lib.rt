@@ -1,5 +1,5 @@
 //! The plugin `exclaim`: it puts an exclamation mark after each title. docs/PLUGINS.md begins with
-//! it, and `./new-plugin` makes a new plugin's crate from it.
+//! it, and `geanmarbles new-plugin` makes a new plugin's crate from it.
 #![tactic(auto)]
 
 ghost use Rattle.std.specs.Prelude.{◌≡◌, ◌∷◌, [], IfOk, map};
