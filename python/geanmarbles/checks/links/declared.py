@@ -60,8 +60,9 @@ class Declared:
         for line in text.splitlines():
             declares, implements, function = TYPE.match(line), IMPL.match(line), FUNCTION.match(line)
             if declares:
-                kind, owner = declares.groups()
-                self.types.add(owner)
+                kind, name = declares.groups()
+                self.types.add(name)
+                owner = None if kind == "type" or line.endswith(";") else name
             elif implements:
                 kind, owner = "impl", self.read_impl(implements[1])
             elif line.startswith("}"):
