@@ -88,7 +88,7 @@ fn status_of<S: Stated, R: Source + Drop, W: Drop, F: Start>(
     run: Result<Run<'_, S, WhileThere<R>, W, F>, NotServed>,
 ) -> ExitCode
     ensures { exit_status result ≡ 0
-        → MatchResult run (λ it. is_err it.0.result ≡ false) (λ _. ⊥) }
+        → MatchResult run.entry (λ it. is_err it.0.result ≡ false) (λ _. ⊥) }
 {
     match run {
         Ok((served, files)) => match (path, files) {
@@ -153,7 +153,7 @@ fn exported<S: Stated>(
     path: &str,
 ) -> ExitCode {
     match new_site(rt.alloc(), plugins, limits) {
-        Ok((mut site, identity)) => export(rt, &mut site, identity.as_str(), path),
+        Ok((site, identity)) => export(rt, site, identity.as_str(), path),
         Err(fault) => failed(rt, fault),
     }
 }
@@ -167,7 +167,7 @@ fn checked<S: Stated>(
     path: &str,
 ) -> ExitCode {
     match new_site(rt.alloc(), plugins, limits) {
-        Ok((mut site, identity)) => check(rt, &mut site, identity.as_str(), path),
+        Ok((site, identity)) => check(rt, site, identity.as_str(), path),
         Err(fault) => failed(rt, fault),
     }
 }
@@ -184,9 +184,7 @@ fn compacted<S: Stated>(
     let alloc = rt.alloc();
     let copy = Site::new(alloc, plugins, limits.calls, limits.cache);
     match (new_site(alloc, plugins, limits), copy) {
-        (Ok((mut site, identity)), Ok(mut copy)) => {
-            compact(rt, &mut site, &mut copy, identity.as_str(), path)
-        }
+        (Ok((site, identity)), Ok(copy)) => compact(rt, site, copy, identity.as_str(), path),
         (Err(fault), _) | (_, Err(fault)) => failed(rt, fault),
     }
 }

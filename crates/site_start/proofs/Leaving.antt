@@ -1,6 +1,5 @@
 -- What a start or a shortening that failed may leave of the files.
-use Rattle.std.proofs.Common.{◌≡◌, ◌⊎◌, ◌∙◌, inl, inr, ℕ, List, [], ◌∷◌, Option, Some, None, sym, subst}
-use Rattle.std.specs.Prelude.{IfSome}
+use Rattle.std.proofs.Common.{◌≡◌, ◌⊎◌, ◌∙◌, inl, inr, ℕ, List, [], ◌∷◌, sym, subst}
 use Rattle.sqlite.specs.Held.{Held, state}
 use Rattle.sqlite.specs.Recovery.{Image}
 use Rattle.sqlite.specs.State.{HasCleanDisk, Survives}
@@ -12,10 +11,6 @@ use Rattle.site_serving.specs.declared.commands.Commands as commands
 use Rattle.site_start.specs.Compacted.{IsShort, IsShortIn}
 use Rattle.site_start.specs.Started.{IsLeftBy, IsTakenOver}
 use Rattle.site_start.proofs.Replaying.{clean_before}
-
-pub some_weaker : {A : Type 0} (o : Option A) (P Q : A → Type 0) → ((a : A) → P a → Q a) → IfSome o P → IfSome o Q
-some_weaker None P Q f h = tt
-some_weaker (Some a) P Q f h = f a h
 
 module _ (image : Image) (identity : List ℕ) where
   pub left_by : (held lines : List (List ℕ)) → Finds image held → IsTakenOver identity held lines → IsLeftBy image identity lines

@@ -3,7 +3,7 @@ use Rattle.std.proofs.Common.{◌≡◌, ◌≢◌, ◌⊎◌, ◌∙◌, inl, i
 use Rattle.std.proofs.Common.{arith, get_or, map, take, drop, length, append_assoc, take-append-drop, length-append}
 use Rattle.std.proofs.lemmas.List.{drop_more, length-map, length-take-le, map-append, take_more}
 use Rattle.std.proofs.lemmas.List.Elements.{All-append, All-nil, All-tail}
-use Rattle.std.specs.Prelude.{◌==◌, IsUtf8}
+use Rattle.std.specs.Prelude.{◌==◌, ⊤, IsUtf8}
 use Rattle.sqlite.specs.State.{State, Survives}
 use Rattle.sqlite.specs.Tree.{Trees}
 use Rattle.command_log.specs.Faults.{AreText, IsCaused, Unreadable}
@@ -234,3 +234,12 @@ module _ {X : Type 0} (steps : X → List ℕ → X × ReplyData) (replies : X �
       let same = ap length r.cut in
       let both = length-append r.lines left in
       let before = r.some in omega (arith, same, both, before, many)
+
+  -- a fault of the log is one of the log, whatever it met
+  pub of_any_log : (OfLog : LogFault → Type 0) (old : X) (identity : List ℕ) (lines : List (List ℕ)) (fault : StartFault)
+      → IsStartFault steps replies keeps OfLog old identity lines fault → IsStartFault steps replies keeps (λ _. ⊤) old identity lines fault
+  of_any_log OfLog old identity lines (Log fault) is = tt
+  of_any_log OfLog old identity lines OtherProgram is = is
+  of_any_log OfLog old identity lines (Refused line number name) is = is
+  of_any_log OfLog old identity lines (NotAnEdit line) is = is
+  of_any_log OfLog old identity lines NotRebuilt is = absurd is

@@ -5,7 +5,7 @@ use Rattle.sqlite.specs.State.{HasCleanDisk}
 use Rattle.sqlite.specs.Store.{Ghosts}
 use Rattle.sqlite.specs.Order.{Row}
 use Rattle.sqlite.specs.Recovery.{Image}
-use Rattle.command_log.specs.Faults.{AreText, IsCaused, Unstorable}
+use Rattle.command_log.specs.Faults.{AreText, Unstorable}
 use Rattle.command_log.specs.Found.{Finds}
 use Rattle.command_log.specs.Lines.{IsOpen, lines_of}
 use Rattle.command_log.specs.declared.fault.LogFault.{LogFault}
@@ -44,11 +44,6 @@ HasEdits edits identity lines = (later : List (List ℕ)) × (lines ≡ identity
 pub record IsOpenedFrom {S : Type 0} (g : Ghosts S) (image : Image) (log : Held S) : Type 0 where
   pub opened : HasCleanDisk (state g log) → IsOpen g log
   pub finds : IsOpen g log → Finds image (lines_of g log)
-
--- and it was taken over: its lines are those that the files held, the first of which is the identity, or it alone
-pub record IsTakenFrom {S : Type 0} (g : Ghosts S) (image : Image) (identity : List ℕ) (log : Held S) : Type 0 where
-  pub opened : HasCleanDisk (state g log) → IsOpen g log
-  pub found : HasCleanDisk (state g log) → (held : List (List ℕ)) × Finds image held × IsTakenOver identity held (lines_of g log)
 
 -- ---- why a start failed
 
@@ -126,9 +121,8 @@ module _ {X : Type 0} (steps : X → List ℕ → X × ReplyData) (replies : X �
   IsReplayFault OfLog old lines (Log fault) = OfLog fault
   IsReplayFault OfLog old lines fault = StopsAmong old 1 lines fault
 
-  -- why a start failed in files with this image: a log was opened with their lines, and the start then left it as this one
-  pub record IsOpenFault {S : Type 0} (g : Ghosts S) (image : Image) (old : X) (identity : List ℕ) (log : Held S) (fault : StartFault) : Type 0 where
-    pub opened : Held S
-    pub up : IsOpen g opened
-    pub held : Finds image (lines_of g opened)
-    pub cause : IsStartFault (IsCaused (state g opened) (state g log) (Untaken identity (lines_of g opened))) old identity (lines_of g opened) fault
+  -- why a start from files with this image failed, where a line that they hold is the cause
+  pub record IsRefusedStart (image : Image) (old : X) (identity : List ℕ) (fault : StartFault) : Type 0 where
+    pub held : List (List ℕ)
+    pub finds : Finds image held
+    pub cause : IsStartFault (λ _. ⊤) old identity held fault

@@ -1,105 +1,88 @@
 //! Putting a short history in the place of a long one.
-ghost use Rattle.std.specs.Prelude.{◌≡◌, ◌↔◌, ◌⊎◌, ◌∷◌, List, ℕ, IsTrue, map};
-ghost use Rattle.std.specs.Prelude.{OnOk, OnErr, IfOk, IfErr, IfSome};
+ghost use Rattle.std.specs.Prelude.{◌≡◌, ◌↔◌, ◌∷◌, List, ℕ, IsTrue, map};
+ghost use Rattle.std.specs.Prelude.{OnOk, OnErr, IfOk};
 ghost use Rattle.std.specs.String.{string_bytes};
-ghost use Rattle.sqlite.specs.Files.{over_files};
 ghost use Rattle.sqlite.specs.Held.{state};
 ghost use Rattle.sqlite.specs.State.{HasCleanDisk, Survives};
-ghost use Rattle.sqlite.specs.WalFiles.{image_at};
-ghost use Rattle.command_log.specs.Lines.{IsOpen, KeepsLines, MayHold, lines_of};
+ghost use Rattle.command_log.specs.Lines.{IsOpen, KeepsLines, lines_of};
 ghost use Rattle.site_serving.specs.Served.{state_after};
 ghost use Rattle.site_start.specs.Compacted.{IsShort, IsShortIn};
-ghost use Rattle.site_start.specs.Started.{IsLeftBy, IsTakenFrom};
-ghost use Rattle.sqlite.specs.Recovery.{Image};
 
 use crate::fault::StartFault;
-use crate::opening::{FileLog, open_site};
+use crate::opening::start;
 use crate::replay::{introduce, redo_all};
+use crate::task::LogTask;
 use command_log::{CommandLog, LogFault};
 use site_replies::Refusal;
 use site_serving::Commands;
-use sqlite::Start;
 use sqlite_trees::store::Alter;
 use std::alloc::Global;
 
-/// Opens the log in a file, carries out its lines in the site, and puts short lines in their place,
-/// as [`compact`] does. The copy has to be an empty site. A fault comes with the log, if it could be
-/// opened.
-pub fn compact_file<C: Commands, S: Start>(
-    rt: &HostRuntime,
-    path: &str,
-    files: S,
-    site: &mut C,
-    copy: &mut C,
-    identity: &str,
-) -> Result<FileLog<S>, (StartFault, Option<FileLog<S>>)>
-    // The site is what the lines that the files held make of it.
-    ensures made { IfOk result (λ log. HasCleanDisk (state over_files log)
-        → (held : List (List ℕ)) × IsLeftBy (image_at S.Start) identity.now held
-        × (C.state site.new ≡ state_after (C.steps (C.fixed site.old)) (C.state site.old) held)) }
-
-    // The copy is what the lines of the log now make of it, and these are short lines of the site.
-    ensures replayed { IfOk result (λ log. HasCleanDisk (state over_files log)
-        → C.state copy.new
-        ≡ state_after (C.steps (C.fixed copy.old))
-        (C.state copy.old)
-        (lines_of over_files log)) }
-    ensures short { IfOk result (λ log. HasCleanDisk (state over_files log)
-        → IsShort C.Commands identity.now site.new copy.new (lines_of over_files log)) }
-    ensures opened { IfOk result (λ log. HasCleanDisk (state over_files log)
-        → IsOpen over_files log) }
-
-    // After a fault the log has the lines that the files held.
-    ensures err { IfErr result (λ e. IfSome e.1 (λ log. IsOpen over_files log
-        → IsLeftBy (image_at S.Start) identity.now (lines_of over_files log))) }
-
-    // A crash then leaves these lines, or short lines of the site.
-    ensures survives { IfErr result (λ e. IfSome e.1 (λ log. (lines : List (List ℕ))
-        → MayHold over_files log lines → IsLeftBy (image_at S.Start) identity.now lines
-        ⊎ IsShortIn C.Commands identity.now site.new lines)) }
-{
-    match open_site(rt, path, files, site, identity) {
-        Ok(log) => match compact_opened(rt.alloc(), site, copy, log, identity) {
-            Ok(log) => Ok(log),
-            Err((fault, log)) => Err((fault, Some(log))),
-        },
-        Err(failed) => Err(failed),
-    }
+/// Making a site anew by a log, as [`start`] does, and putting short lines in the place of the log's, as
+/// [`compact`] does.
+#[derive(Drop)]
+pub struct CompactLog<'a, C> {
+    pub alloc: Global,
+    /// The site, before the lines of the log are carried out.
+    pub site: C,
+    /// An empty site, on which the short lines are tried.
+    pub copy: C,
+    pub identity: &'a str,
 }
 
-/// Puts short lines in the place of those of a log that was taken over, as [`compact`] does. On any
-/// end the log comes back. It is over any store, since a call of such a function over the store of
-/// files takes the prover long: so [`compact_file`] has one.
-fn compact_opened<C: Commands, S: Alter>(
-    alloc: Global,
-    site: &mut C,
-    copy: &mut C,
-    mut log: CommandLog<S>,
-    identity: &str,
-) -> Result<CommandLog<S>, (StartFault, CommandLog<S>)>
-    ensures before { IfOk result (λ it. HasCleanDisk (state S.Store it)
-        → HasCleanDisk (state S.Store log)) }
-    ensures replayed { IfOk result (λ it. HasCleanDisk (state S.Store it)
-        → C.state copy.new
-        ≡ state_after (C.steps (C.fixed copy.old))
-        (C.state copy.old)
-        (lines_of S.Store it)) }
-    ensures short { IfOk result (λ it. HasCleanDisk (state S.Store it)
-        → IsShort C.Commands identity.now site.new copy.new (lines_of S.Store it)) }
-    ensures opened { IfOk result (λ it. HasCleanDisk (state S.Store it) → IsOpen S.Store it) }
-    ensures err { (image : Image) → IsTakenFrom S.Store image identity.now log
-        → IfErr result (λ e. IsOpen S.Store e.1
-        → IsLeftBy image identity.now (lines_of S.Store e.1)) }
-    ensures survives { (image : Image) → IsTakenFrom S.Store image identity.now log
-        → IfErr result (λ e. (lines : List (List ℕ)) → MayHold S.Store e.1 lines
-        → IsLeftBy image identity.now lines
-        ⊎ IsShortIn C.Commands identity.now site.new lines) }
-    ensures same { C.state site.new ≡ C.state site.old }
-{
-    log.law_left_by_a_crash();
-    match compact(alloc, site, copy, &mut log, identity) {
-        Ok(()) => Ok(log),
-        Err(fault) => Err((fault, log)),
+/// What is left after a try to put short lines in the place of a log's.
+#[derive(Drop)]
+pub struct Compaction<C> {
+    pub result: Result<(), StartFault>,
+    pub site: C,
+    pub copy: C,
+}
+
+impl<'a, C: Commands + Drop> LogTask for CompactLog<'a, C> {
+    ghost use Rattle.std.specs.Prelude.{◌⊎◌, ⊤};
+    ghost use Rattle.std.specs.Result.{MatchResult};
+    ghost use Rattle.site_start.specs.Compacted.{IsCompacted, IsShortIn};
+    ghost use Rattle.site_start.specs.Started.{IsLeftBy};
+
+    type Left = Compaction<C>;
+
+    ghost is_ready = { λ _. ⊤ };
+
+    // Short lines of the site that the lines of the log have made. After a fault they are those lines, or
+    // short ones all the same: the disk may fail once these are written.
+    ghost leaves = { λ task left image lines. MatchResult left.result
+        (λ _. IsCompacted C.Commands image task.identity.now task.site task.copy left.site left.copy lines)
+        (λ _. IsLeftBy image task.identity.now lines
+        ⊎ IsShortIn C.Commands task.identity.now left.site lines) };
+
+    fn run<S: Alter>(self, mut log: CommandLog<S>) -> (Compaction<C>, CommandLog<S>) {
+        let CompactLog {
+            alloc,
+            mut site,
+            mut copy,
+            identity,
+        } = self;
+        log.law_left_by_a_crash();
+        match start(alloc, &mut site, &mut log, identity) {
+            Ok(()) => {
+                log.law_left_by_a_crash();
+                match compact(alloc, &mut site, &mut copy, &mut log, identity) {
+                    Ok(()) => {
+                        log.law_left_by_a_crash();
+                        let result = Ok(());
+                        (Compaction { result, site, copy }, log)
+                    }
+                    Err(fault) => {
+                        let result = Err(fault);
+                        (Compaction { result, site, copy }, log)
+                    }
+                }
+            }
+            Err(fault) => {
+                let result = Err(fault);
+                (Compaction { result, site, copy }, log)
+            }
+        }
     }
 }
 

@@ -9,8 +9,8 @@ mod opening;
 mod replay;
 mod task;
 
-pub use compacting::{compact, compact_file};
+pub use compacting::{CompactLog, Compaction, compact};
 pub use fault::StartFault;
 pub use identity::identity_of;
-pub use opening::{FileLog, open_site, start};
+pub use opening::start;
 pub use task::{LogTask, with_files, with_log};

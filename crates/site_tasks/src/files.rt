@@ -2,15 +2,14 @@
 ghost use Rattle.std.specs.Prelude.{◌≡◌, ◌||◌, is_err, if◌then◌else◌};
 ghost use Rattle.std.specs.Process.{exit_status};
 
-use crate::status::{failed, failed_at, not_started};
+use crate::status::{failed, failed_at};
 use byte_io::Source;
 use command_log::{CommandLog, LogFault, LogFiles};
 use page_trace::Watch;
 use site_journal::{LogJournal, Steady};
 use site_replies::ServeFault;
 use site_serving::{Commands, serve};
-use site_start::{FileLog, LogTask, StartFault, open_site, start};
-use sqlite::Wary;
+use site_start::{LogTask, StartFault, start};
 use sqlite_disk::Disk;
 use sqlite_trees::store::Alter;
 use std::alloc::Global;
@@ -96,23 +95,6 @@ impl<'a, C: Commands + Drop, R: Source + Drop, W: Steady + Drop, V: Watch> LogTa
                 (Ok(served), log)
             }
             Err(fault) => (Err(fault), log),
-        }
-    }
-}
-
-/// Opens the log in a file, or makes it, and makes the site anew by its lines, the first of which has
-/// to be the identity. If that fails, says why, and returns the program's exit status.
-pub(crate) fn opened<C: Commands>(
-    rt: &HostRuntime,
-    path: &str,
-    site: &mut C,
-    identity: &str,
-) -> Result<FileLog<Wary>, ExitCode> {
-    match open_site(rt, path, Wary, site, identity) {
-        Ok(log) => Ok(log),
-        Err((fault, log)) => {
-            CommandLog::end(log);
-            Err(not_started(rt, path, fault))
         }
     }
 }

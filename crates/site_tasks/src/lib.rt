@@ -13,6 +13,6 @@ mod summary;
 
 pub use file_ids::WhileThere;
 pub use files::{ServeLines, Served, ended};
-pub use history::{check, compact, export};
+pub use history::{Rebuild, Rebuilt, check, compact, export};
 pub use status::{failed, failed_at, not_started};
 pub use summary::{Summary, summary_of};

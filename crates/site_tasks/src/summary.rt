@@ -1,7 +1,7 @@
 //! How many edits a log has, and their digest.
 ghost use Rattle.std.specs.Prelude.{◌≡◌, ◌-◌, length, IfOk, OnOk};
 ghost use Rattle.sqlite.specs.Held.{state};
-ghost use Rattle.sqlite.specs.State.{HasCleanDisk};
+ghost use Rattle.sqlite.specs.State.{HasCleanDisk, Survives};
 ghost use Rattle.command_log.specs.Lines.{IsOpen, lines_of};
 ghost use Rattle.command_log.specs.Digests.{digest_of};
 
@@ -33,6 +33,9 @@ pub fn summary_of<S: Alter>(log: &mut CommandLog<S>) -> Result<Summary, LogFault
         → IfOk result (λ s. s.edits ≡ length (lines_of S.Store log.old) - 1) }
     ensures digest { HasCleanDisk (state S.Store log.new)
         → IfOk result (λ s. s.digest ≡ digest_of (lines_of S.Store log.old)) }
+
+    // A crash leaves what it could leave before.
+    ensures survives { Survives (state S.Store log.old) (state S.Store log.new) (λ _. ⊥) }
 {
     let lines = count_lines(log)?;
     Ok(Summary {
@@ -48,6 +51,7 @@ fn count_lines<S: Alter>(log: &mut CommandLog<S>) -> Result<usize, LogFault>
     ensures opened { HasCleanDisk (state S.Store log.new) → OnOk result (IsOpen S.Store log.new) }
     ensures same { HasCleanDisk (state S.Store log.new)
         → OnOk result ((state S.Store log.new).committed ≡ (state S.Store log.old).committed) }
+    ensures survives { Survives (state S.Store log.old) (state S.Store log.new) (λ _. ⊥) }
 {
     let mut place = LogPlace::start();
     let mut count: usize = 0;

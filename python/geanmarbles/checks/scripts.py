@@ -158,7 +158,7 @@ def bad_names_are_refused() -> None:
 
 def tutorial_shows_the_examples() -> None:
     """what docs/PLUGINS.md shows of code and definitions is in the examples, word for word"""
-    remark = " docs/PLUGINS.md begins with\n//! it, and `./new-plugin` makes a new plugin's crate from it."
+    remark = " docs/PLUGINS.md begins with\n//! it, and `geanmarbles new-plugin` makes a new plugin's crate from it."
     folders = [ROOT / "crates" / name / part for name in TUTORIAL for part in ("src", "specs", "proofs")]
     files = [TEMPLATE / "main.rt.txt", *(it for folder in folders for it in folder.rglob("*") if it.is_file())]
     shown = "\n".join(it.read_text(encoding="utf-8").replace(remark, "") for it in files)

@@ -90,7 +90,7 @@ EXAMPLES = {
         Example(
             "exclaim",
             "callback_store hook_changes plain_data",
-            [" docs/PLUGINS.md begins with\n//! it, and `./new-plugin` makes a new plugin's crate from it."],
+            [" docs/PLUGINS.md begins with\n//! it, and `geanmarbles new-plugin` makes a new plugin's crate from it."],
         ),
         *(
             Example(

@@ -4,7 +4,7 @@ use Rattle.std.specs.Result.{MatchResult}
 use Rattle.callback_store.specs.Shape.{shapes_of}
 use Rattle.command_log.specs.Found.{FindsOnlySuch, store_of}
 use Rattle.site_program.specs.History.{is_kept}
-use Rattle.site_program.specs.Serving.{IsReplies, IsServed}
+use Rattle.site_program.specs.Serving.{IsReplies}
 use Rattle.site_program.specs.Site.{setup_of, state_of}
 use Rattle.site_program.specs.State.{State}
 use Rattle.site_program.specs.Step.{IsReply, steps_of}
