@@ -15,6 +15,8 @@ GROUPS = {
         "serve": ("commands.serve", "serves a site to browsers"),
         "browse": ("commands.browse", "shows a site on this machine, and which callbacks ran; takes edits over HTTP"),
         "post": ("commands.post", "list, get, set, new: posts as files with a head"),
+        "option": ("commands.settings:option", "list, get, set: the options of a site"),
+        "plugin": ("commands.settings:plugin", "list, activate, deactivate: the active plugins of a site"),
         "history": ("commands.history", "shows each version that a post has had"),
         "undo": ("commands.undo", "writes a site without its last edits into a new file"),
         "site": ("repository.site", "runs the program itself: lines of JSON in, replies and pages out"),

@@ -34,15 +34,13 @@ import sys
 from pathlib import Path
 from typing import Any
 
-from geanmarbles.archive.store import NotRead, Post, Store, line_of, read_store
+from geanmarbles.archive.store import NotRead, Post, Store
 from geanmarbles.arguments import Parser
-from geanmarbles.client.program import add_program_option, check_program, end_by_signals
+from geanmarbles.client.program import end_by_signals
+from geanmarbles.commands.sites import add_site_arguments, edit, store_of
 from geanmarbles.output import quiet_output
-from geanmarbles.supervisor.kept import NotKept, carried_out, check_site
-from geanmarbles.supervisor.served import edited, history_at, is_address, token_in
+from geanmarbles.supervisor.kept import NotKept
 
-# How a file of lines begins; a site in a file has no such byte there.
-LINE = b"{"
 HEAD = ("title", "date", "status", "kind")
 
 
@@ -81,40 +79,6 @@ def read_file(path: Path) -> dict[str, Any]:
     return given
 
 
-def edit(arguments: argparse.Namespace, command: dict[str, Any]) -> str:
-    """The reply to one edit."""
-    if is_address(arguments.site):
-        reply = edited(arguments.site, token_in(arguments.token_file), line_of(command))
-    else:
-        if is_lines(arguments.site):
-            raise NotKept(f"{arguments.site} has lines of a site, which nothing edits")
-        check_program(arguments.program)
-        check_site(arguments.program, Path(arguments.site))
-        [reply] = carried_out(arguments.program, Path(arguments.site), [line_of(command)])
-    if not reply.startswith("ok"):
-        raise NotKept(f"the edit is {reply}; geanmarbles refusals says why")
-    return reply.removeprefix("ok").strip()
-
-
-def is_lines(site: str) -> bool:
-    """Whether a file has the lines of a site, as an export writes them."""
-    if not Path(site).is_file():
-        return False
-    with open(site, "rb") as file:
-        return file.read(1) == LINE
-
-
-def store_of(arguments: argparse.Namespace) -> Store:
-    """The posts of a site in a file, of its lines, or of what serves it."""
-    if is_address(arguments.site):
-        return Store(history_at(arguments.site, token_in(arguments.token_file)))
-    if is_lines(arguments.site):
-        with open(arguments.site, "rb") as file:
-            return Store(it.rstrip(b"\n") for it in file)
-    check_program(arguments.program)
-    return read_store(arguments.program, arguments.site)
-
-
 def done(arguments: argparse.Namespace) -> str:
     """Does what was asked, and returns what is to be printed."""
     if arguments.what in ("list", "get"):
@@ -128,11 +92,8 @@ def done(arguments: argparse.Namespace) -> str:
     if arguments.what == "set" and "kind" in given:
         raise NotKept(f"{arguments.file}: the kind of a post can't be changed, so its head has none")
     is_new = arguments.what == "new"
-    command = {"cmd": "put", **given} if is_new else {"cmd": "edit", "id": arguments.number, **given}
-    if arguments.site == "-":
-        return line_of(command).decode() + "\n"
-    reply = edit(arguments, command)
-    return f"{reply}\n" if is_new else ""
+    said = edit(arguments, {"cmd": "put", **given} if is_new else {"cmd": "edit", "id": arguments.number, **given})
+    return f"{said}\n" if said else ""
 
 
 def read_arguments() -> argparse.Namespace:
@@ -141,9 +102,7 @@ def read_arguments() -> argparse.Namespace:
     helps = {"list": "list posts and pages", "get": "print one with its head", "set": "make one what a file says"}
     for name, what in {**helps, "new": "make a new one"}.items():
         one = commands.add_parser(name, help=what, description=__doc__)
-        add_program_option(one)
-        one.add_argument("--token-file", metavar="FILE", type=Path, help="the token of what serves the site")
-        one.add_argument("site", metavar="SITE", help="the site in a file, a file of its lines, or what serves it")
+        add_site_arguments(one)
         if name in ("get", "set"):
             one.add_argument("number", metavar="ID", type=int)
         if name in ("set", "new"):

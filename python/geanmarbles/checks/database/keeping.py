@@ -112,6 +112,18 @@ def keeps(program: str, file: Path) -> None:
     check_equal(history(file), [*wanted, more[0]])
 
 
+def draws_its_seed(program: str, file: Path) -> None:
+    """Each start draws the seed from which a database's tables of hashes and its log's salts are made: so nobody can
+    choose keys that collide, and new files have other salts."""
+    salts = set()
+    for number in range(3):
+        new = file.with_name(f"seed-{number}.db")
+        replies(program, [put(title="T")], *over(new))
+        salts.add(new.with_name(f"{new.name}-wal").read_bytes()[20:24])
+    if len(salts) == 1:
+        raise Wrong(f"the logs of three new files have the same salt, {salts}")
+
+
 def acknowledges(program: str, file: Path) -> None:
     """A reply to an edit is written once the edit is in the files, and the files are locked meanwhile."""
     lines = check_identity(program, file).splitlines()
@@ -317,6 +329,7 @@ def cases(program: str) -> Cases:
     """Each check by its name, with what judges it."""
     checks = (
         keeps,
+        draws_its_seed,
         acknowledges,
         takes_chunks,
         waits_in_bounds,

@@ -113,6 +113,27 @@ def check_heads(program: Path) -> None:
         )
 
 
+def check_settings(program: Path) -> None:
+    """An option that was set is printed and listed, and a plugin is active from then on; a refused edit is told."""
+    with Kept(program) as kept:
+        site = kept.database
+        listed = kept.run("option list", site)
+        must(kept.run("option set", site, "blogname", "R y\u00e9") == "", "setting an option prints something")
+        must(kept.run("option get", site, "blogname") == "R y\u00e9\n", "the option isn't what it was set to")
+        lines = {*kept.run("option list", site).splitlines()} - {*listed.splitlines()}
+        must(lines == {'blogname\t"R y\u00e9"'}, f"after it is set there is {lines}")
+        must("isn't set" in kept.run("option get", site, "none", status=1), "an option that wasn't set is printed")
+        must("refused 1 " in kept.run("option set", site, "", "x", status=1), "an option without a name is set")
+        before = kept.run("plugin list", site).splitlines()
+        for verb, more in (("activate", ["bold"]), ("deactivate", [])):
+            must(kept.run(f"plugin {verb}", site, "bold") == "", f"{verb} prints something")
+            now = kept.run("plugin list", site).splitlines()
+            must(now == [*before, *more], f"after {verb} there is {now}")
+        must("refused 6 " in kept.run("plugin activate", site, "nowhere", status=1), "a plugin of no program is active")
+        line = kept.run("option set", "-", "a", "b")
+        must(json.loads(line) == {"cmd": "option", "name": "a", "value": "b"}, f"the line is {line!r}")
+
+
 def check_typos(program: Path) -> None:
     """A path where no site is gets none: the reason is told."""
     with Kept(program) as kept, tempfile.TemporaryDirectory() as folder:
@@ -120,6 +141,8 @@ def check_typos(program: Path) -> None:
         empty.touch()
         for site, why in ((Path(folder, "typo.db"), "no"), (empty, "empty")):
             given: dict[str, tuple[str | Path, ...]] = {
+                "option get": ("blogname",),
+                "plugin activate": ("bold",),
                 "post list": (),
                 "post get": ("1",),
                 "post set": ("1", new),
@@ -395,7 +418,8 @@ def checks(program: Path) -> Iterator[tuple[Any, ...]]:
     yield "posts as files", check_posts, program
     yield "files with a head alone", check_heads, program
     yield "posts that can't be set", check_faults, program
-    yield "posts of a path where no site is", check_typos, program
+    yield "options and plugins", check_settings, program
+    yield "a path where no site is", check_typos, program
     yield "posts of a site that a node serves", check_served, program
     yield "posts whose response is lost", check_lost_responses, program
     yield "posts of a site that geanmarbles browse serves", check_browsed, program
