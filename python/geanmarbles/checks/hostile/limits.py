@@ -3,6 +3,7 @@
 import json
 import re
 import subprocess
+import tempfile
 from bisect import bisect_left
 from collections import Counter
 from collections.abc import Callable, Iterable, Iterator, Sequence
@@ -33,8 +34,9 @@ PAGE = 4
 # system itself ends the program; so the first limit tried is larger by this many kilobytes.
 STARTS = 8
 SLACK = 64
-# Limits on the stack, in kilobytes: the usual one, and smaller ones.
-STACKS = (8_192, 1_024, 256)
+# Limits on the stack, in kilobytes: the usual one, and smaller ones, in memory and with a file.
+STACKS = (8_192, 1_024, 320)
+STACKS_WITH_A_FILE = (8_192, 512)
 # More turns than any page has.
 ALL_TURNS = 1_000_000
 # No limit is needed beyond this one, in kilobytes.
@@ -128,18 +130,18 @@ def deep() -> Iterator[str]:
     yield json.dumps({"cmd": "get", "path": "/?paged=800"})
 
 
-def run(program: str, lines: Iterable[bytes], limit: str = "") -> tuple[tuple[int, bytes], bytes]:
+def run(program: str, lines: Iterable[bytes], limit: str = "", *more: str) -> tuple[tuple[int, bytes], bytes]:
     """A run over some lines, by a shell that sets a limit first; nothing of the environment counts."""
-    words = ["sh", "-c", f'{limit} exec "$@"', "sh", program, "--calls", str(CALLS)]
+    words = ["sh", "-c", f'{limit} exec "$@"', "sh", program, "--calls", str(CALLS), *more]
     given = b"".join(line + b"\n" for line in lines)
     nothing: dict[str, str] = {}
     ran = subprocess.run(words, input=given, capture_output=True, env=nothing, timeout=SECONDS)
     return (ran.returncode, ran.stderr), ran.stdout
 
 
-def whole(program: str, lines: Sequence[bytes], limit: str = "") -> list[bytes]:
+def whole(program: str, lines: Sequence[bytes], limit: str = "", *more: str) -> list[bytes]:
     """The replies to all lines."""
-    end, output = run(program, lines, limit)
+    end, output = run(program, lines, limit, *more)
     replies, rest = read_replies(output)
     if end != DONE or rest or len(replies) != len(lines):
         raise Wrong(f"it ended with status {end[0]} and {shown(end[1])} after {len(replies)} of {len(lines)} replies")
@@ -259,10 +261,14 @@ class Stack:
         needed = smallest(works, 0, STACKS[0], PAGE)
         print(f"stack: {needed} KB for a list of {len(self.lines)} lines as deep as they may be")
 
-    def judge(self, kilobytes: int) -> None:
-        replies = whole(self.program, self.lines, f"ulimit -s {kilobytes};")
+    def judge(self, kilobytes: int, *more: str) -> None:
+        replies = whole(self.program, self.lines, f"ulimit -s {kilobytes};", *more)
         if replies != self.replies:
             raise Wrong("the replies are others than without a limit")
+
+    def judge_with_a_file(self, kilobytes: int) -> None:
+        with tempfile.TemporaryDirectory() as folder:
+            self.judge(kilobytes, "--database", f"{folder}/site.db")
 
 
 def peak_after(program: str, puts: Iterable[Exchange], gets: Iterable[Exchange]) -> int:
@@ -302,6 +308,8 @@ def cases(program: str) -> Cases:
     yield "the smallest stack", stack.measure
     for kilobytes in STACKS:
         yield f"a stack of {kilobytes} KB", partial(stack.judge, kilobytes)
+    for kilobytes in STACKS_WITH_A_FILE:
+        yield f"a stack of {kilobytes} KB, with a file", partial(stack.judge_with_a_file, kilobytes)
     memory = Memory(program)
     yield "the smallest memory", memory.measure
     for step in range(STEPS):
