@@ -37,7 +37,7 @@ from typing import Any
 from geanmarbles.archive.store import NotRead, Post, Store
 from geanmarbles.arguments import Parser
 from geanmarbles.client.program import end_by_signals
-from geanmarbles.commands.sites import add_site_arguments, edit, store_of
+from geanmarbles.archive.sites import add_site_arguments, edit, store_of
 from geanmarbles.output import quiet_output
 from geanmarbles.supervisor.kept import NotKept
 

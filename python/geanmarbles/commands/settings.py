@@ -30,7 +30,7 @@ from functools import partial
 from geanmarbles.archive.store import NotRead, Store
 from geanmarbles.arguments import Parser
 from geanmarbles.client.program import end_by_signals
-from geanmarbles.commands.sites import add_site_arguments, edit, store_of
+from geanmarbles.archive.sites import add_site_arguments, edit, store_of
 from geanmarbles.output import quiet_output
 from geanmarbles.supervisor.kept import NotKept
 

@@ -52,6 +52,9 @@ class Balancer:
     def __init__(self, nodes: Sequence[Node]) -> None:
         self.nodes, self.is_over = nodes, threading.Event()
         self.ready = {node.name: True for node in nodes}
+        # How often each was found to take no connection.
+        self.refusals: Counter[str] = Counter()
+        self.lock = threading.Lock()
         self.thread = threading.Thread(target=self.look, daemon=True)
 
     def __enter__(self) -> Self:
@@ -65,11 +68,17 @@ class Balancer:
     def look(self) -> None:
         while not self.is_over.wait(HEALTH_SECONDS):
             for node in self.nodes:
-                self.ready[node.name] = node.is_ready()
+                before = self.refusals[node.name]
+                is_ready = node.is_ready()
+                with self.lock:
+                    # An answer of before a refusal is of a process that has ended.
+                    self.ready[node.name] = is_ready and self.refusals[node.name] == before
 
     def refused(self, node: Node) -> None:
         """Notes that a node takes no connection; its health says when it does again."""
-        self.ready[node.name] = False
+        with self.lock:
+            self.refusals[node.name] += 1
+            self.ready[node.name] = False
 
     def choose(self, random: Random) -> Node:
         """A node that is ready."""

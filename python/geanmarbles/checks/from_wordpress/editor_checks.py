@@ -125,10 +125,10 @@ def check_settings(program: Path) -> None:
         must("isn't set" in kept.run("option get", site, "none", status=1), "an option that wasn't set is printed")
         must("refused 1 " in kept.run("option set", site, "", "x", status=1), "an option without a name is set")
         before = kept.run("plugin list", site).splitlines()
-        for verb, more in (("activate", ["bold"]), ("deactivate", [])):
+        for verb, wanted in (("activate", [*before, "bold"]), ("deactivate", before)):
             must(kept.run(f"plugin {verb}", site, "bold") == "", f"{verb} prints something")
             now = kept.run("plugin list", site).splitlines()
-            must(now == [*before, *more], f"after {verb} there is {now}")
+            must(now == wanted, f"after {verb} there is {now}")
         must("refused 6 " in kept.run("plugin activate", site, "nowhere", status=1), "a plugin of no program is active")
         line = kept.run("option set", "-", "a", "b")
         must(json.loads(line) == {"cmd": "option", "name": "a", "value": "b"}, f"the line is {line!r}")
